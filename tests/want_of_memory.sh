@@ -1,7 +1,8 @@
 #!/bin/sh
 # Runs the calls on whole files with each allocation refused in turn, in tests that `rt try` compiles with its checks of each
 # access: a session that is fed a file in pieces, `canonical`, `rewrite` and `same_meaning`. Each has to answer what it does
-# with memory enough, or refusal 90 at a statement, which a session answers again.
+# with memory enough, or refusal 90 at a statement, which a session answers again; and refusal 90 for each allocation before the
+# last that it needs.
 #
 # `rt try` refuses one number alone, and compiles the tests each time. So a run has as many tests of each call as `each` says,
 # which allocate nothing, one text, two texts and so on before they begin, and with one number refuses as many allocations.
@@ -146,6 +147,14 @@ answers() {
         END { tell() }' "$here/log"
 }
 
+# unseen: the answers of calls that pass, though they answer want of memory for a later allocation.
+unseen() {
+    awk '
+        $NF == "NoMemory" && $3 + 0 > last[$1] { last[$1] = $3 + 0 }
+        $NF == "passes" { passed[$0] = $1; number[$0] = $3 + 0 }
+        END { for (answer in passed) if (number[answer] < last[passed[answer]]) print answer }' "$here/answers"
+}
+
 while true; do
     last=$((before + each))
     rt try --test --fail-alloc "$last" > "$here/log" 2>&1
@@ -155,6 +164,7 @@ while true; do
         exit 1
     fi
     grep ': a wrong answer$' "$here/answers" && exit 1
+    unseen | grep . && exit 1
     refused=$(grep -c ': NoMemory$' "$here/answers")
     early=$(grep -c ': AllocError$' "$here/answers")
     passed=$(grep -c ': passes$' "$here/answers")

@@ -1,8 +1,8 @@
 #!/usr/bin/env python3
 """Runs each command with its allocations refused: each one alone, each with all behind it, and some by chance.
 
-A refused run ends with status 3, `out of memory` and no byte of output. Two ways alone may go on by another way that finds
-memory, and then answer as if none had been refused (`excuse`); those runs are counted. Arguments name the parts that are
+A refused run ends with status 3, `out of memory` and no byte of output. One place alone may go on with less memory, and then
+answer as if none had been refused (`excuse`); those runs are counted. Arguments name the parts that are
 run, all without any. The environment variable P21 names the program. Wants `nm` and `objdump`.
 """
 
@@ -95,25 +95,17 @@ SEVERAL = file_of(
 )
 
 
-INSTANCES = "of instances taken straight from their bytes"
 SUGGESTIONS = "of words like a mistaken one"
-# The loops of a piece: that of a file, and that of a survey, which may be compiled into its command.
-LOOPS = ("p21_stream::read::feed", "p21_stream::listing::take_piece", "p21::commands::run_check")
 
 
 def excuse(functions):
     """Why an allocation that these functions asked for, the innermost first, may be refused unseen; none where it may not.
 
-    An instance is taken straight from its bytes (p21_transcribe*) or else token by token, and parts of the first way are
-    compiled into the loop of a piece, where a list that grows there is the innermost. For words like a mistaken one `clap` collects letters, and where that finds no room
-    it asks for less; only wrong command lines come there.
+    For words like a mistaken one `clap` collects letters, and where that finds no room it asks for less; only wrong command
+    lines come there.
     """
     asking = next((name for name in functions if not name.startswith("std_alloc::vec::Vec::grow_amortized")), "")
-    if asking.startswith("strsim::chars_of"):
-        return SUGGESTIONS
-    if asking in LOOPS or any(name.startswith("p21_transcribe") for name in functions):
-        return INSTANCES
-    return None
+    return SUGGESTIONS if asking.startswith("strsim::chars_of") else None
 
 
 class Refusing:

@@ -302,6 +302,16 @@ EDITS = [
         program=1,
     ),
     Edit(
+        "hostile/allocations.py",
+        ["every refusal"],
+        "an instance for which memory is refused is read again token by token",
+        "crates/p21_stream/src/passing.rt",
+        "draft.wants_memory() && begins_instance(piece)",
+        "begins_instance(piece) && piece.is_empty()",
+        "unseen in p21_transcribe_instance",
+        program=2,
+    ),
+    Edit(
         "hostile/memory.py",
         [],
         "an instance is left out where memory runs out",

@@ -35,8 +35,24 @@ use Rattle.p21_stream.specs.declared.passing.Set.{Set}
 use Rattle.p21_stream.specs.declared.passing.Set.TheVariants.{Numbered, Own}
 use Rattle.p21_stream.specs.Pieces.{EndsNoToken, IsUnderWay, NeedsNoMemory, StepGives}
 use Rattle.p21_tokens.specs.Histories.{AreSeparators}
+use Rattle.p21_transcribe.specs.Gaps.{PassesSeparators}
 use Rattle.p21_transcribe_instance.specs.Instance.{TakesInstance}
 use Rattle.p21_transcribe_instance.specs.TakenValues.{LaidBefore}
+
+-- a `#` is no separator: bytes that have one behind their separators have a byte that is none
+pub number_sign-separates : (bytes rest behind : List ℕ) → PassesSeparators bytes rest → rest ≡ 35 ∷ behind → AreSeparators bytes → ⊥
+number_sign-separates bytes rest behind passes begins are =
+    let all = subst AreSeparators passes.bytes_are are in
+    let last = Each-back (λ byte. IsSeparator (blank byte)) passes.gap rest all in
+    none (subst AreSeparators begins last).0
+  where
+    none : IsSeparator (blank 35) → ⊥
+    none (inl below) = omega (arith, below)
+    none (inr same) = omega (arith, same)
+
+-- where bytes are no separators alone, memory may be asked for
+pub begun-quiet : (s : Schema) (limits : Limits) (held : statements.Held) (kept : Kept) (piece : List ℕ) (result : Result (Option ℕ) Refusal) → (AreSeparators piece → ⊥) → NeedsNoMemory s limits held kept piece result
+begun-quiet s limits held kept piece result begun reading live at pending are = absurd (begun are)
 
 -- ---- the bytes of an instance
 

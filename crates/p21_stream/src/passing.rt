@@ -1,5 +1,5 @@
 //! Instances that stand whole at the beginning of a piece, taken straight from their bytes (ISO 10303-21, data sections).
-ghost use Rattle.std.specs.Prelude.{◌≡◌, ◌≤◌, ℕ, List, [], length, take, IfErr, IfSome};
+ghost use Rattle.std.specs.Prelude.{◌≡◌, ◌≤◌, ℕ, List, [], length, take, IfErr, IfSome, IsTrue};
 ghost use Rattle.p21_mapping_values.specs.TypedView.{ids_view};
 ghost use Rattle.p21_spec_schema.specs.Schema.{Schema as Meant};
 ghost use Rattle.p21_mapping.specs.Checked.{needs_view};
@@ -8,6 +8,7 @@ ghost use Rattle.p21_stream_statements.specs.StatementReader.{limits_of};
 ghost use Rattle.p21_stream_kept.specs.Steps.{StepKeepsBound};
 ghost use Rattle.p21_stream.specs.Passing.{HasEntities, IsFoundIn, PassGives};
 ghost use Rattle.p21_stream.specs.Pieces.{EndsNoToken, IsUnderWay, NeedsNoMemory, TakesWithinPiece};
+ghost use Rattle.p21_tokens.specs.Histories.{AreSeparators};
 ghost use Rattle.p21_transcribe_instance.specs.Steps.{IsPlanOf};
 ghost use Rattle.p21_transcribe_instance.specs.ExternalSet.{AreExternalSets};
 
@@ -16,8 +17,8 @@ use p21_express_graph::EntityId;
 use p21_express_tables::Schema;
 use p21_mapping_values::Need;
 use p21_stream_kept::FoundInstance;
-use p21_stream_statements::Refusal;
-use p21_transcribe::Draft;
+use p21_stream_statements::{Fault, Refusal};
+use p21_transcribe::{Draft, behind_separators};
 use p21_transcribe_instance::{Plan, Sets, append_external, append_instance};
 use p21_values::{Limits, Name};
 
@@ -47,7 +48,7 @@ impl Progress {
     ///
     /// # Errors
     ///
-    /// The refusal of its statement.
+    /// The refusal of its statement, or want of memory for it.
     pub(crate) fn pass(
         &mut self,
         schema: &Schema,
@@ -81,6 +82,9 @@ impl Progress {
             &mut self.draft,
             &mut self.needs,
         ) else {
+            if lacks_memory(piece, &self.draft) {
+                return Err(refused(Fault::NoMemory, None, self.statement));
+            }
             return Ok(None);
         };
         let Some(entities) = entities_of(found.set, &self.plan, &self.sets) else {
@@ -107,7 +111,7 @@ impl Progress {
 }
 
 /// Finds the instance at the beginning of a piece, where it stands there whole and is usual. Its canonical line is the text
-/// then, and its references are the needs. Want of memory counts as none.
+/// then, and its references are the needs. None where it isn't, and where memory is refused, which is noted in the draft.
 #[inline(always)]
 pub(crate) fn find(
     schema: &Schema,
@@ -124,9 +128,9 @@ pub(crate) fn find(
     ensures plan { IsPlanOf schema.now plan.new }
     ensures sets { AreExternalSets schema.now sets.new }
 {
-    let Ok(()) = draft.make_room(ROOM_OF_A_LINE) else {
+    if !has_room(piece, draft) {
         return None;
-    };
+    }
     forget(draft, needs);
     match append_instance(schema, plan, piece, draft, needs) {
         Some(instance) => Some(Passing {
@@ -135,6 +139,43 @@ pub(crate) fn find(
             count: piece.len() - instance.rest.len(),
         }),
         None => find_external(schema, sets, piece, draft, needs),
+    }
+}
+
+/// Whether there is room for a canonical line. Where an instance begins, it is made.
+#[inline(always)]
+fn has_room(piece: &[u8], draft: &mut Draft) -> bool {
+    draft.room() >= ROOM_OF_A_LINE || makes_room(piece, draft)
+}
+
+/// Makes the room where an instance begins: so between statements no memory is asked for.
+#[inline(never)]
+fn makes_room(piece: &[u8], draft: &mut Draft) -> bool {
+    if !begins_instance(piece) {
+        return false;
+    }
+    let Ok(()) = draft.make_room(ROOM_OF_A_LINE) else {
+        draft.note_want_of_memory();
+        return false;
+    };
+    true
+}
+
+/// Whether memory was refused for the instance at the beginning of a piece.
+#[inline(never)]
+pub(crate) fn lacks_memory(piece: &[u8], draft: &Draft) -> bool
+    ensures { IsTrue result → AreSeparators piece.now → ⊥ }
+{
+    draft.wants_memory() && begins_instance(piece)
+}
+
+/// Whether the mark of a name stands first behind the separators, as in an instance.
+fn begins_instance(piece: &[u8]) -> bool
+    ensures { IsTrue result → AreSeparators piece.now → ⊥ }
+{
+    match behind_separators(piece).split_first() {
+        Some((first, _)) => *first == b'#',
+        None => false,
     }
 }
 

@@ -11,13 +11,13 @@ ghost use Rattle.p21_stream.specs.Surveying.{IsUnderWay, PassGives, ReadGives, S
 ghost use Rattle.p21_transcribe_instance.specs.ExternalSet.{AreExternalSets};
 ghost use Rattle.p21_transcribe_instance.specs.Steps.{IsPlanOf};
 
-use crate::passing::{entities_of, find};
+use crate::passing::{entities_of, find, lacks_memory};
 use crate::progress::refused;
 use crate::sieve::Sieve;
 use p21_express_tables::Schema;
 use p21_mapping_values::Need;
 use p21_stream_kept::{FoundInstance, Workspace};
-use p21_stream_statements::{Refusal, StatementReader};
+use p21_stream_statements::{Fault, Refusal, StatementReader};
 use p21_transcribe::Draft;
 use p21_transcribe_instance::{Plan, Sets};
 use p21_values::Limits;
@@ -172,6 +172,9 @@ impl Surveying {
             &mut self.draft,
             &mut self.needs,
         ) else {
+            if lacks_memory(piece, &self.draft) {
+                return Err(refused(Fault::NoMemory, None, self.statement));
+            }
             return Ok(None);
         };
         let Some(entities) = entities_of(found.set, &self.plan, &self.sets) else {

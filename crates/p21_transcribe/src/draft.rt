@@ -14,11 +14,12 @@ use std::simd::prelude::*;
 pub(crate) const WIDE: usize = 32;
 
 /// Text that is written into room of a fixed size, which is used again for the next one. Behind the text any bytes may
-/// stand.
+/// stand. It also has a note of want of memory: who gives an instance up since memory was refused sets it.
 #[derive(Drop)]
 pub struct Draft {
     pub(crate) room: Vec<u8>,
     pub(crate) used: usize,
+    wants_memory: bool,
 }
 
 impl Model for Draft {
@@ -32,14 +33,33 @@ impl Model for Draft {
 }
 
 impl Draft {
-    /// No text, and no room. It takes no memory.
+    /// No text, no room, and no note. It takes no memory.
     pub fn new(alloc: Global) -> Draft
         ensures { result ≡ [] }
     {
         Draft {
             room: Vec::new(alloc),
             used: 0,
+            wants_memory: false,
         }
+    }
+
+    /// Notes that memory was refused for what goes with the text.
+    pub fn note_want_of_memory(&mut self)
+        ensures { self.new ≡ self.old }
+    {
+        self.wants_memory = true;
+    }
+
+    /// Whether that was noted. A note stays.
+    pub fn wants_memory(&self) -> bool {
+        self.wants_memory
+    }
+
+    /// How many bytes the text may have.
+    #[inline(always)]
+    pub fn room(&self) -> usize {
+        self.room.len()
     }
 
     /// Makes room for so many bytes in all, where there is less.

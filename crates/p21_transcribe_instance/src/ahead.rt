@@ -1,5 +1,5 @@
 //! The entities of an instance of external mapping, read ahead of its values.
-ghost use Rattle.std.specs.Prelude.{◌<◌, ◌≤◌, length, IfSome};
+ghost use Rattle.std.specs.Prelude.{◌<◌, ◌≤◌, length, IfOk, IfSome};
 ghost use Rattle.p21_express_graph.specs.Lookups.{AreEntities};
 ghost use Rattle.p21_express_graph.specs.Orders.{numbers};
 ghost use Rattle.p21_express_graph.specs.Resolved.{IsEntity};
@@ -10,17 +10,19 @@ use p21_transcribe::{behind_separators, leading_keyword};
 use p21_values::NoMemory;
 use std::alloc::Global;
 
-/// The entities that the keywords of simple records at the front name, up to a `)` behind them. None where memory runs out.
-pub(crate) fn entities_ahead(alloc: Global, schema: &Schema, bytes: &[u8]) -> Option<Vec<EntityId>>
-    ensures { IfSome result (λ listed. AreEntities schema.now (numbers listed.items)) }
+/// The entities that the keywords of simple records at the front name, up to a `)` behind them.
+pub(crate) fn entities_ahead(
+    alloc: Global,
+    schema: &Schema,
+    bytes: &[u8],
+) -> Result<Option<Vec<EntityId>>, NoMemory>
+    ensures { IfOk result (λ found. IfSome found (λ listed. AreEntities schema.now (numbers listed.items))) }
 {
     let mut listed = Vec::new(alloc);
-    let Ok(rest) = list_ahead(schema, bytes, &mut listed) else {
-        return None;
-    };
+    let rest = list_ahead(schema, bytes, &mut listed)?;
     match behind_separators(rest).first() {
-        Some(b')') => Some(listed),
-        _ => None,
+        Some(b')') => Ok(Some(listed)),
+        _ => Ok(None),
     }
 }
 

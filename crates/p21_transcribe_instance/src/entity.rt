@@ -11,6 +11,7 @@ use crate::separated_delimiter::append_delimiter;
 use p21_express_graph::EntityId;
 use p21_express_tables::Schema;
 use p21_transcribe::{Draft, append_keyword, behind_separators};
+use p21_values::NoMemory;
 use std::simd::prelude::*;
 
 /// Appends the keyword at the front and the `(` behind it, where the keyword is the name of an entity that instances of internal
@@ -96,7 +97,11 @@ fn append_found<'a>(
     ensures plan { IsPlanOf schema.now plan.new }
 {
     let (entity, behind) = append_named(schema, plan, bytes, draft)?;
-    if !is_prepared(plan, schema, entity) {
+    let Ok(prepared) = is_prepared(plan, schema, entity) else {
+        draft.note_want_of_memory();
+        return None;
+    };
+    if !prepared {
         return None;
     }
     let inside = append_delimiter(b'(', behind, draft)?;
@@ -120,17 +125,13 @@ fn append_named<'a>(
     Some((entity, &front[word.len()..]))
 }
 
-/// Prepares an entity, where it isn't, and says whether instances may have its closure as their set. Want of memory counts as
-/// no.
-fn is_prepared(plan: &mut Plan, schema: &Schema, entity: EntityId) -> bool
+/// Prepares an entity, where it isn't, and says whether instances may have its closure as their set.
+fn is_prepared(plan: &mut Plan, schema: &Schema, entity: EntityId) -> Result<bool, NoMemory>
     requires { IsEntity schema.now entity.0 }
     ensures { IsPlanOf schema.now plan.old → IsPlanOf schema.now plan.new }
 {
     if plan.row(entity).is_some() {
-        return true;
+        return Ok(true);
     }
-    match plan.prepare(schema, entity) {
-        Ok(may) => may,
-        Err(_) => false,
-    }
+    plan.prepare(schema, entity)
 }

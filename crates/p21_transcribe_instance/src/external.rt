@@ -16,7 +16,7 @@ use crate::sets::Sets;
 use p21_express_tables::Schema;
 use p21_mapping_values::Need;
 use p21_transcribe::Draft;
-use p21_values::Name;
+use p21_values::{Name, NoMemory};
 use std::alloc::Global;
 use std::sync::ArcSlice;
 
@@ -30,7 +30,7 @@ pub struct External<'a> {
 
 /// Appends the canonical line of the instance of external mapping at the front, without a line feed, and adds its references,
 /// in the order in which they are named. A set that isn't kept yet is looked at, and kept. None where the instance isn't taken
-/// this way; then the text and the references go on from those before.
+/// this way, and where memory is refused, which is noted in the draft; then the text and the references go on from those before.
 pub fn append_external<'a>(
     schema: &Schema,
     sets: &mut Sets,
@@ -103,7 +103,7 @@ fn append_by_guess<'a>(
     }
 }
 
-/// The same by the set that the keywords name.
+/// The same by the set that the keywords name, unless memory was refused before.
 fn append_by_keywords<'a>(
     schema: &Schema,
     sets: &mut Sets,
@@ -118,7 +118,16 @@ fn append_by_keywords<'a>(
     ensures sets { AreExternalSets schema.now sets.new }
     ensures one { length sets.new ≤ length sets.old + 1 }
 {
-    let at = set_ahead(*needs.allocator(), schema, sets, bytes)?;
+    if draft.wants_memory() {
+        return None;
+    }
+    let Ok(found) = set_ahead(*needs.allocator(), schema, sets, bytes) else {
+        draft.note_want_of_memory();
+        return None;
+    };
+    let Some(at) = found else {
+        return None;
+    };
     sets.expect(bytes, at);
     let rest = append_by_set(schema, sets, at, bytes, draft, needs)?;
     Some((at, rest))
@@ -145,24 +154,32 @@ fn append_by_set<'a>(
 /// The number of the set of the instance whose simple records stand at the front. Where it isn't kept yet, it is looked at and
 /// kept. None where it isn't one of external mapping, or was guessed.
 #[inline(never)]
-fn set_ahead(alloc: Global, schema: &Schema, sets: &mut Sets, bytes: &[u8]) -> Option<usize>
+fn set_ahead(
+    alloc: Global,
+    schema: &Schema,
+    sets: &mut Sets,
+    bytes: &[u8],
+) -> Result<Option<usize>, NoMemory>
     requires { AreExternalSets schema.now sets.old }
     ensures sets { AreExternalSets schema.now sets.new }
     ensures one { length sets.new ≤ length sets.old + 1 }
 {
-    let listed = entities_ahead(alloc, schema, bytes)?;
-    let Ok(set) = ArcSlice::from_vec(listed) else {
-        return None;
+    let found = entities_ahead(alloc, schema, bytes)?;
+    let Some(listed) = found else {
+        return Ok(None);
     };
+    let set = ArcSlice::from_vec(listed)?;
     if let Some(at) = sets.find(&set) {
         return if at == sets.guess(bytes) {
-            None
+            Ok(None)
         } else {
-            Some(at)
+            Ok(Some(at))
         };
     }
-    if !is_external_set(alloc, schema, set.as_slice()) {
-        return None;
+    let usual = is_external_set(alloc, schema, set.as_slice())?;
+    if !usual {
+        return Ok(None);
     }
-    sets.keep(set)
+    let at = sets.keep(set)?;
+    Ok(Some(at))
 }

@@ -14,14 +14,19 @@ use p21_values::NoMemory;
 use std::alloc::Global;
 
 /// Whether the simple records of an instance may be those of these entities in this order, and its canonical record has the
-/// same: they are a set, rise by keyword, and aren't the closure of one entity. Want of memory counts as no.
-pub(crate) fn is_external_set(alloc: Global, schema: &Schema, listed: &[EntityId]) -> bool
+/// same: they are a set, rise by keyword, and aren't the closure of one entity.
+pub(crate) fn is_external_set(
+    alloc: Global,
+    schema: &Schema,
+    listed: &[EntityId],
+) -> Result<bool, NoMemory>
     requires { AreEntities schema.now (numbers listed.now) }
-    ensures { IsTrue result → IsExternalSet schema.now (numbers listed.now) }
+    ensures { IfOk result (λ usual. IsTrue usual → IsExternalSet schema.now (numbers listed.now)) }
 {
     match check_external_set(alloc, schema, listed) {
-        Ok(usual) => usual,
-        Err(_) => false,
+        Ok(usual) => Ok(usual),
+        Err(CheckFault::NoMemory) => Err(NoMemory),
+        Err(_) => Ok(false),
     }
 }
 

@@ -5,6 +5,7 @@ ghost use Rattle.p21_spec_schema.specs.Schema.{EntityNamed};
 use crate::same::are_same;
 use p21_express_graph::EntityId;
 use p21_express_tables::Schema;
+use p21_values::NoMemory;
 use std::alloc::Global;
 
 /// How many guesses are kept.
@@ -31,7 +32,7 @@ impl Guesses {
         self.entities.get(place_of(name)).copied()
     }
 
-    /// The entity of this name, in upper case, mostly by a guess.
+    /// The entity of this name, in upper case, mostly by a guess. It takes no memory.
     #[inline(always)]
     pub(crate) fn entity(&mut self, schema: &Schema, name: &[u8]) -> Option<EntityId>
         ensures { IfSome result (λ entity. EntityNamed schema.now entity.0 name.now) }
@@ -56,16 +57,19 @@ impl Guesses {
         Some(entity)
     }
 
-    /// Keeps a guess, where there is memory.
+    /// Keeps a guess, where guesses are kept.
     fn keep(&mut self, place: usize, entity: EntityId) {
-        if self.entities.is_empty() {
-            let Ok(()) = self.entities.resize(COUNT, entity) else {
-                return;
-            };
-        }
         if place < self.entities.len() {
             self.entities[place] = entity;
         }
+    }
+
+    /// Has guesses be kept from now on: at first this entity for each keyword.
+    pub(crate) fn start(&mut self, entity: EntityId) -> Result<(), NoMemory> {
+        if self.entities.is_empty() {
+            self.entities.resize(COUNT, entity)?;
+        }
+        Ok(())
     }
 }
 

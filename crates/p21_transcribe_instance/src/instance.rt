@@ -25,8 +25,8 @@ pub struct Instance<'a> {
 }
 
 /// Appends the canonical line of the instance at the front, without a line feed, and adds its references, in the order in
-/// which they are named. An entity that isn't prepared is. None where the instance isn't taken this way; then the text and the
-/// references go on from those before.
+/// which they are named. An entity that isn't prepared is. None where the instance isn't taken this way, and where memory is
+/// refused, which is noted in the draft; then the text and the references go on from those before.
 #[inline(always)]
 pub fn append_instance<'a>(
     schema: &Schema,

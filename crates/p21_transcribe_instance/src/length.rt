@@ -14,8 +14,5 @@ pub(crate) fn add_length(
     if !compared {
         return true;
     }
-    if behind < before {
-        return false;
-    }
-    lengths.push(behind - before).is_ok()
+    lengths.push(behind.saturating_sub(before)).is_ok()
 }

@@ -56,7 +56,7 @@ impl Plan {
         }
     }
 
-    /// The entity of this name, in upper case.
+    /// The entity of this name, in upper case. It takes no memory.
     #[inline(always)]
     pub fn entity(&mut self, schema: &Schema, name: &[u8]) -> Option<EntityId>
         ensures some { IfSome result (λ entity. EntityNamed schema.now entity.0 name.now) }
@@ -99,6 +99,7 @@ impl Plan {
         }
         let row = find_row(self.alloc, schema, entity)?;
         put_row(&mut self.rows, entity.0 as usize, row)?;
+        self.guesses.start(entity)?;
         Ok(true)
     }
 }

@@ -29,6 +29,7 @@ pub(crate) fn append_reference(
         wanted,
     };
     let Ok(()) = needs.push(need) else {
+        draft.note_want_of_memory();
         return None;
     };
     Some(count)

@@ -7,6 +7,7 @@ ghost use Rattle.p21_spec_schema.specs.Schema.{Schema as Meant};
 ghost use Rattle.p21_transcribe_instance.specs.ExternalSet.{AreExternalSets, IsExternalSet};
 
 use p21_express_graph::EntityId;
+use p21_values::NoMemory;
 use std::alloc::Global;
 use std::collections::BTreeMap;
 use std::marker::Model;
@@ -83,22 +84,16 @@ impl Sets {
         self.numbers.get(set).copied()
     }
 
-    /// Keeps a set, and answers its number. None where memory runs out.
-    pub(crate) fn keep(&mut self, set: ArcSlice<EntityId>) -> Option<usize>
+    /// Keeps a set, and answers its number.
+    pub(crate) fn keep(&mut self, set: ArcSlice<EntityId>) -> Result<usize, NoMemory>
         ensures kept { (s : Meant) → AreExternalSets s self.old → IsExternalSet s (numbers (arc_slice_items set)) → AreExternalSets s self.new }
         ensures one { length self.new ≤ length self.old + 1 }
     {
         let at = self.all.len();
-        let Ok(shared) = set.clone() else {
-            return None;
-        };
-        let Ok(()) = self.all.push(shared) else {
-            return None;
-        };
-        match self.numbers.insert(set, at) {
-            Ok(_) => Some(at),
-            Err(_) => None,
-        }
+        let shared = set.clone()?;
+        self.all.push(shared)?;
+        let _before = self.numbers.insert(set, at)?;
+        Ok(at)
     }
 }
 

@@ -439,6 +439,7 @@ fn append_element<'a>(
     let before = draft.len();
     let rest = append_stored(at, bytes, draft, needs)?;
     if !add_length(compared, before, draft.len(), lengths) {
+        draft.note_want_of_memory();
         return None;
     }
     Some(rest)

@@ -12,11 +12,17 @@ returns-clause-some c = record { behind = c.in_ok-entity.behind.now; between = _
 pub returns-in_err-entity-clause-plan : goal.returns-in_err-entity-clause-plan
 returns-in_err-entity-clause-plan c = c.append_named.ensures.plan c.requires
 
-pub returns-then-not-is_prepared-clause-plan : goal.returns-then-not-is_prepared-clause-plan
-returns-then-not-is_prepared-clause-plan c = c.is_prepared.ensures (c.in_ok-entity.ensures.plan c.requires)
+pub returns-then-not-prepared-clause-plan : goal.returns-then-not-prepared-clause-plan
+returns-then-not-prepared-clause-plan c = c.is_prepared.ensures (c.in_ok-entity.ensures.plan c.requires)
 
 pub returns-in_err-inside-clause-plan : goal.returns-in_err-inside-clause-plan
 returns-in_err-inside-clause-plan c = c.is_prepared.ensures (c.in_ok-entity.ensures.plan c.requires)
 
 pub returns-clause-plan : goal.returns-clause-plan
 returns-clause-plan c = c.is_prepared.ensures (c.in_ok-entity.ensures.plan c.requires)
+
+pub returns-in_default-clause-plan : goal.returns-in_default-clause-plan
+returns-in_default-clause-plan c = c.is_prepared.ensures (c.in_ok-entity.ensures.plan c.requires)
+
+pub returns-in_default-clause-none : goal.returns-in_default-clause-none
+returns-in_default-clause-none c = rw c.note_want_of_memory.ensures (entity-goes_on c.args.schema.now c.in_ok-entity.entity.0 _ _ _ _ c.in_ok-entity.ensures.some)

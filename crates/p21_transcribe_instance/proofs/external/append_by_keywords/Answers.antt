@@ -1,5 +1,4 @@
 use Rattle.std.proofs.Common.{refl, subst, sym}
-use Rattle.p21_transcribe_instance.proofs.Stepping.{none_from}
 use Rattle.p21_transcribe_instance.specs.ExternalSet.{AreExternalSets}
 use Rattle.p21_transcribe_instance.proofs.Values.{needs-same}
 use Rattle.p21_transcribe_instance.proofs.external.append_by_keywords.Goals as goal
@@ -8,8 +7,20 @@ use Rattle.p21_values.proofs.Continuing.{continues-same}
 pub append_by_set-requires : goal.append_by_set-requires
 append_by_set-requires c = subst (AreExternalSets c.args.schema.now) (sym c.expect.ensures) c.set_ahead.ensures.sets
 
-pub returns-in_err-at-clause-draft : goal.returns-in_err-at-clause-draft
-returns-in_err-at-clause-draft c = none_from _ (continues-same _ _ refl)
+pub returns-in_default-clause-draft : goal.returns-in_default-clause-draft
+returns-in_default-clause-draft c = rw c.note_want_of_memory.ensures (continues-same _ _ refl)
 
-pub returns-in_err-at-clause-needs : goal.returns-in_err-at-clause-needs
-returns-in_err-at-clause-needs c = none_from _ (needs-same _ _ refl)
+pub returns-in_default-clause-needs : goal.returns-in_default-clause-needs
+returns-in_default-clause-needs c = needs-same _ _ refl
+
+pub returns-in_default-found-clause-draft : goal.returns-in_default-found-clause-draft
+returns-in_default-found-clause-draft c = continues-same _ _ refl
+
+pub returns-in_default-found-clause-needs : goal.returns-in_default-found-clause-needs
+returns-in_default-found-clause-needs c = needs-same _ _ refl
+
+pub returns-then-wants_memory-clause-draft : goal.returns-then-wants_memory-clause-draft
+returns-then-wants_memory-clause-draft c = continues-same _ _ refl
+
+pub returns-then-wants_memory-clause-needs : goal.returns-then-wants_memory-clause-needs
+returns-then-wants_memory-clause-needs c = needs-same _ _ refl

@@ -204,7 +204,7 @@ pub append_element-append_stored-requires : goal.append_element-append_stored-re
 append_element-append_stored-requires t c = (omega arith, c.requires)
 
 pub append_element-returns-then-not-add_length-clause-draft : goal.append_element-returns-then-not-add_length-clause-draft
-append_element-returns-then-not-add_length-clause-draft t c = (element-refused c.args.at.now.schema.now c.args.at.now.base.now c.args.at.now.optional c.args.at.now.most c.args.bytes.now _ _ _ _ _ c.requires c.in_ok-rest.ensures.some).0
+append_element-returns-then-not-add_length-clause-draft t c = rw c.note_want_of_memory.ensures (element-refused c.args.at.now.schema.now c.args.at.now.base.now c.args.at.now.optional c.args.at.now.most c.args.bytes.now _ _ _ _ _ c.requires c.in_ok-rest.ensures.some).0
 
 pub append_element-returns-then-not-add_length-clause-needs : goal.append_element-returns-then-not-add_length-clause-needs
 append_element-returns-then-not-add_length-clause-needs t c = (element-refused c.args.at.now.schema.now c.args.at.now.base.now c.args.at.now.optional c.args.at.now.most c.args.bytes.now _ _ _ _ _ c.requires c.in_ok-rest.ensures.some).1

@@ -1,5 +1,5 @@
-use Rattle.std.proofs.Common.{Err}
-use Rattle.p21_stream.proofs.Passed.{found-as, found-same, passed-follows, passed-none, passed-offends, passed-on, passed-quiet, whole-range}
+use Rattle.std.proofs.Common.{Err, refl}
+use Rattle.p21_stream.proofs.Passed.{begun-quiet, found-as, found-same, passed-follows, passed-none, passed-offends, passed-on, passed-quiet, whole-range}
 use Rattle.p21_stream.proofs.progress.Progress.pass.Goals as goal
 
 pub take_found-requires : goal.take_found-requires
@@ -24,14 +24,18 @@ returns-in-Err-clause-gives c =
     let own = c.in-Some-entities_of.ensures c.args.schema.now c.find.ensures.plan in
     let line = whole-range c.find.new.draft c.between-line.result.now c.len.result c.len.ensures c.between-line.ensures in
     let found = found-same c.args.schema.now c.in-Some.found.name _ _ c.find.new.draft c.between-line.result.now c.find.new.needs.items c.deref.result.now (found-as c.args.schema.now c.find.new.sets c.in-Some.found.set c.in-Some.found.name entities _ _ _ _ are own is) line c.deref.ensures.value in
-    passed-offends c.args.schema.now c.args.limits c.args.self.now.statements c.pass_over.new.self c.args.self.now.kept c.args.piece.now c.in-Some.found.count c.in-Some.found.name _ _ _ found c.in-Some.ensures.within (c.pass_over.ensures.gives c.if-not-pass_over.false) c.pass_over.ensures.limits c.well_formed-2.ensures c.take_found.new.self c.refused.result c.in-Err.fault c.refused.ensures c.in-Err.ensures.gives
+    passed-offends c.args.schema.now c.args.limits c.args.self.now.statements c.pass_over.new.self c.args.self.now.kept c.args.piece.now c.in-Some.found.count c.in-Some.found.name _ _ _ found c.in-Some.ensures.within (c.pass_over.ensures.gives c.if-not-pass_over.false) c.pass_over.ensures.limits c.well_formed-2.ensures c.take_found.new.self c.refused-in-Err.result c.in-Err.fault c.refused-in-Err.ensures c.in-Err.ensures.gives
 
 pub returns-in-Err-clause-no_memory : goal.returns-in-Err-clause-no_memory
 returns-in-Err-clause-no_memory c =
     let (entities, are, is) = c.in-Some.ensures.found in
-    passed-quiet c.args.schema.now c.args.limits c.args.self.now.statements c.pass_over.new.self c.args.self.now.kept c.args.piece.now c.in-Some.found.count c.in-Some.found.name _ _ _ is c.in-Some.ensures.within (Err c.refused.result)
+    passed-quiet c.args.schema.now c.args.limits c.args.self.now.statements c.pass_over.new.self c.args.self.now.kept c.args.piece.now c.in-Some.found.count c.in-Some.found.name _ _ _ is c.in-Some.ensures.within (Err c.refused-in-Err.result)
 
 pub returns-in-Ok-clause-no_token : goal.returns-in-Ok-clause-no_token
 returns-in-Ok-clause-no_token c =
     let (entities, are, is) = c.in-Some.ensures.found in
     passed-none c.args.schema.now c.args.limits c.args.self.now.statements c.pass_over.new.self c.args.self.now.kept c.args.piece.now c.in-Some.found.count c.in-Some.found.name _ _ _ is c.in-Some.ensures.within c.in-Some.found.count
+
+pub returns-then-lacks_memory-clause-no_memory : goal.returns-then-lacks_memory-clause-no_memory
+returns-then-lacks_memory-clause-no_memory c =
+    begun-quiet c.args.schema.now c.args.limits c.args.self.now.statements c.args.self.now.kept c.args.piece.now (Err c.refused.result) (c.if-lacks_memory.ensures refl)

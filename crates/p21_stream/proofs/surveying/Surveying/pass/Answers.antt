@@ -24,4 +24,4 @@ returns-in-Err-clause-gives c =
     let own = c.in-Some-entities_of.ensures c.args.schema.now c.find.ensures.plan in
     let line = whole-range c.find.new.draft c.between-line.result.now c.len.result c.len.ensures c.between-line.ensures in
     let found = found-same c.args.schema.now c.in-Some.found.name _ _ c.find.new.draft c.between-line.result.now c.find.new.needs.items c.deref.result.now (found-as c.args.schema.now c.find.new.sets c.in-Some.found.set c.in-Some.found.name entities _ _ _ _ are own is) line c.deref.ensures.value in
-    passed-ends c.args.schema.now c.args.limits c.args.self.now.statements c.pass_over.new.self c.args.self.now.sieve c.args.piece.now c.in-Some.found.count c.in-Some.found.name _ _ _ found c.in-Some.ensures.within (c.pass_over.ensures.gives c.if-not-pass_over.false) c.pass_over.ensures.limits c.well_formed-2.ensures c.take_found.new.self c.refused.result c.in-Err.fault c.refused.ensures c.in-Err.ensures.gives
+    passed-ends c.args.schema.now c.args.limits c.args.self.now.statements c.pass_over.new.self c.args.self.now.sieve c.args.piece.now c.in-Some.found.count c.in-Some.found.name _ _ _ found c.in-Some.ensures.within (c.pass_over.ensures.gives c.if-not-pass_over.false) c.pass_over.ensures.limits c.well_formed-2.ensures c.take_found.new.self c.refused-in-Err.result c.in-Err.fault c.refused-in-Err.ensures c.in-Err.ensures.gives
