@@ -68,6 +68,8 @@ enum Rows {
     Places(Texts),
     PlaceTypes(PlaceTexts),
     OwnTypes(PlaceTexts),
+    // Whether any entity derives an attribute, by its entity and its number.
+    Derived(&'static [(&'static str, u32, bool)]),
     // Whether there is a type of a name, what it is, and what it comes down to.
     Types(Facts),
     Kinds(Texts),
@@ -93,6 +95,7 @@ fn first_wrong_row(alloc: Global, schema: &Schema, rows: Rows) -> Wrong {
         Rows::Places(rows) => places::wrong_places(schema, rows),
         Rows::PlaceTypes(rows) => places::wrong_type(alloc, schema, rows),
         Rows::OwnTypes(rows) => places::wrong_own_type(alloc, schema, rows),
+        Rows::Derived(rows) => places::wrong_derived(schema, rows),
         Rows::Types(rows) => types::wrong_name(schema, rows),
         Rows::Kinds(rows) => types::wrong_kind(alloc, schema, rows),
         Rows::Bases(rows) => types::wrong_base(alloc, schema, rows),

@@ -233,7 +233,10 @@ fn has_own_type(alloc: Global, schema: &Schema, name: &str, place: Place, wanted
     requires { IsPlace schema.now (place_of place) }
 {
     match entity_named(schema, name) {
-        Some(entity) => is_printed(alloc, &schema.own_type(entity, place), wanted),
+        Some(entity) => {
+            is_printed(alloc, &schema.own_type(entity, place), wanted)
+                && schema.own_derives(entity, place) == (wanted == "Derived")
+        }
         None => false,
     }
 }
@@ -263,6 +266,30 @@ const IN_OWN_SETS: Rows = Rows::OwnTypes(&[
 #[test]
 fn knows_types_in_own_sets(rt: HostRuntime) {
     check(&rt, rt.alloc(), REDECLARED, IN_OWN_SETS);
+}
+
+pub(super) fn wrong_derived(schema: &Schema, rows: &[(&'static str, u32, bool)]) -> Wrong {
+    for (owner, index, derived) in rows {
+        let Some(place) = place_named(schema, owner, *index) else {
+            return Some((owner, "no such place"));
+        };
+        if schema.is_derived(place) != *derived {
+            return Some((owner, "derived or not"));
+        }
+    }
+    None
+}
+
+const DERIVED: Rows = Rows::Derived(&[
+    ("SHAPE", 0, false),
+    ("POINT", 0, true),
+    ("POINT", 1, false),
+    ("CLOUD", 2, false),
+]);
+
+#[test]
+fn knows_which_attributes_are_derived(rt: HostRuntime) {
+    check(&rt, rt.alloc(), DEMO, DERIVED);
 }
 
 const TWO: &str = "SCHEMA two;
