@@ -1,12 +1,12 @@
 -- The tests on bytes tell what the definitions of the classes say.
-use Rattle.std.proofs.Common.{◌≡◌, ℕ, ◌<◌, ◌≤◌, Bool, true, false, leb, arith}
+use Rattle.std.proofs.Common.{◌≡◌, ℕ, ◌≤◌, Bool, false, leb, arith}
 use Rattle.std.proofs.lemmas.Bool.{false_from_ne_true}
 use Rattle.std.proofs.lemmas.Bool.Decides.{nat_tests, Decides-and, Decides-or, Decides-eqb}
 use Rattle.std.specs.Bool.{Decides}
-use Rattle.p21_spec_basics.specs.Digits.{IsDigit, hex_digit, is_digit}
+use Rattle.p21_spec_basics.specs.Digits.{IsDigit, is_digit}
 use Rattle.p21_spec_exchange.specs.Keyword.{IsUpper, IsKeywordByte}
 use Rattle.p21_spec_exchange.specs.Separator.{IsSeparator, blank}
-use Rattle.p21_scan.specs.Bytes.{is_upper, is_keyword_byte, is_hex, hex_value, is_blank}
+use Rattle.p21_scan.specs.Bytes.{is_upper, is_keyword_byte, is_blank}
 
 Decides-leb : (a b : ℕ) → Decides (leb a b) (a ≤ b)
 Decides-leb a b = (λ e. grind (arith, nat_tests), λ h. grind (arith, nat_tests))
@@ -26,6 +26,3 @@ blank-decides b = Decides-or _ _ (Decides-leb b 32) (Decides-eqb b 127)
 -- a test that decides is false where its fact fails
 pub false_from_not : {P : Type 0} → (r : Bool) → Decides r P → (P → ⊥) → r ≡ false
 false_from_not r d n = false_from_ne_true r (λ e. n (d.0 e))
-
-pub hex_digit-is_hex : (d : ℕ) → d < 16 → (is_hex (hex_digit d) ≡ true) × (hex_value (hex_digit d) ≡ d)
-hex_digit-is_hex d h = (grind (arith, nat_tests), grind (arith, nat_tests))

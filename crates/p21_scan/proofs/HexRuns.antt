@@ -84,12 +84,20 @@ digit_at (c ∷ xs) zero p h = p.0
 digit_at (c ∷ xs) (suc i) p h = digit_at xs i p.1 (omega arith)
 
 -- one more digit
+pub hex_digits-more : (count value digit : ℕ) → digit < 16 → hex_digits count value ++ hex_digit digit ∷ [] ≡ hex_digits (count + 1) (value * 16 + digit)
+hex_digits-more count value digit h =
+    let all : (value * 16 + digit) / 16 ≡ value = omega arith in
+    let last : (value * 16 + digit) % 16 ≡ digit = omega arith in
+    rw (add-one, all, last) refl
+
+-- a byte that is a hex digit, behind digits
+pub hex_digits-byte : (count value byte : ℕ) → IsTrue (is_hex_digit byte) → hex_digits count value ++ byte ∷ [] ≡ hex_digits (count + 1) (value * 16 + hex_value byte)
+hex_digits-byte count value byte h =
+    let own = hex_back byte h in
+    ap (λ x. hex_digits count value ++ x ∷ []) (sym own.1) ∙ hex_digits-more count value (hex_value byte) own.0
+
 pub group_more : (xs : List ℕ) (i code : ℕ) → i < length xs → take i xs ≡ hex_digits i code → IsTrue (is_hex_digit (get_or xs i 0)) → take (i + 1) xs ≡ hex_digits (i + 1) (code * 16 + hex_value (get_or xs i 0))
-group_more xs i code lt so_far digit =
-    let d = hex_back (get_or xs i 0) digit in
-    let front : (code * 16 + hex_value (get_or xs i 0)) / 16 ≡ code = omega (arith, d.0) in
-    let last : (code * 16 + hex_value (get_or xs i 0)) % 16 ≡ hex_value (get_or xs i 0) = omega (arith, d.0) in
-    take_more xs i 0 lt ∙ (ap (λ (ys : List ℕ). ys ++ (get_or xs i 0 ∷ [])) so_far ∙ rw (add-one, front, last) (ap (λ (c : ℕ). hex_digits i code ++ (c ∷ [])) (sym d.1)))
+group_more xs i code lt so_far digit = take_more xs i 0 lt ∙ (ap (λ (ys : List ℕ). ys ++ (get_or xs i 0 ∷ [])) so_far ∙ hex_digits-byte i code (get_or xs i 0) digit)
 
 pub group_small : (i code value : ℕ) → code < 16 ^ i → value < 16 → code * 16 + value < 16 ^ (i + 1)
 group_small i code value small digit = rw (add-one, pow-suc) (omega arith)

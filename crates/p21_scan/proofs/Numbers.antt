@@ -1,10 +1,10 @@
 -- The parts of a number are known from its bytes, and spell it.
-use Rattle.std.proofs.Common.{◌≡◌, ◌≢◌, ℕ, ◌-◌, ◌<◌, cond, eqb, Bool, List, [], ◌∷◌, ◌++◌, length, length-append, append_assoc, take, refl, ap, sym, subst, ◌∙◌, arith}
+use Rattle.std.proofs.Common.{◌≡◌, ℕ, ◌-◌, ◌<◌, cond, eqb, Bool, List, [], ◌∷◌, ◌++◌, length, length-append, append_assoc, take, refl, ap, sym, subst, ◌∙◌, arith}
 use Rattle.std.proofs.Math.Seq.{take-append_seam}
 use Rattle.std.proofs.lemmas.Bool.{cond_both, eqb-true}
 use Rattle.std.proofs.lemmas.List.{append-nil}
 use Rattle.p21_spec_basics.specs.Digits.{AllDigits, number}
-use Rattle.p21_spec_exchange.proofs.Forms.{NoDigitFirst, NoSignFirst, behind_sign, first_sign, first_sign_bytes, no_sign_first, sign_once, split_once}
+use Rattle.p21_spec_exchange.proofs.Forms.{NoDigitFirst, behind_sign, first_sign, first_sign_bytes, no_sign_first, sign_once, split_once}
 use Rattle.p21_spec_exchange.specs.Number.{Exponent, IsExponent, RealForm, SpellsWhole, exponent, exponent_bytes, is_minus, minus, no_exponent, none, plus, sign_bytes, signed}
 use Rattle.p21_scan.specs.Digits.{BeginsWithoutByte}
 use Rattle.p21_scan.specs.Number.{IsExponentAt, IsIntegerAt, IsRealAt, NoExponentAt, NoIntegerAt}

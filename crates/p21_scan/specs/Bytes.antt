@@ -1,5 +1,5 @@
 -- Classes of bytes, as tests.
-use Rattle.std.specs.Prelude.{ℕ, ◌-◌, Bool, nat_le, ◌==◌, ◌&&◌, ◌||◌, if◌then◌else◌}
+use Rattle.std.specs.Prelude.{ℕ, Bool, nat_le, ◌==◌, ◌&&◌, ◌||◌}
 use Rattle.p21_spec_basics.specs.Digits.{is_digit}
 
 abbrev pub is_upper : ℕ → Bool
@@ -7,12 +7,6 @@ is_upper byte = nat_le 65 byte && nat_le byte 90 || byte == 95
 
 abbrev pub is_keyword_byte : ℕ → Bool
 is_keyword_byte byte = is_upper byte || is_digit byte
-
-abbrev pub is_hex : ℕ → Bool
-is_hex byte = is_digit byte || nat_le 65 byte && nat_le byte 70
-
-abbrev pub hex_value : ℕ → ℕ
-hex_value byte = if nat_le byte 57 then byte - 48 else byte - 55
 
 abbrev pub is_blank : ℕ → Bool
 is_blank byte = nat_le byte 32 || byte == 127

@@ -1,7 +1,8 @@
 -- Bytes of a class at the front.
 use Rattle.std.specs.Prelude.{◌≡◌, ℕ, ◌<◌, ◌≤◌, Bool, true, not, nat_le, ◌==◌, ◌&&◌, List, length, slice_index}
 use Rattle.p21_spec_basics.specs.Digits.{is_digit}
-use Rattle.p21_scan.specs.Bytes.{is_keyword_byte, is_hex, is_blank}
+use Rattle.p21_scan.specs.Bytes.{is_keyword_byte, is_blank}
+use Rattle.p21_scan.specs.Hex.{is_hex_digit}
 use Rattle.p21_scan.specs.declared.class.Class.{Class}
 use Rattle.p21_scan.specs.declared.class.Class.TheVariants.{Blank, Commented, Digit, KeywordByte, HexDigit, Plain, CharacterByte}
 
@@ -15,7 +16,7 @@ is_of_class Blank byte = is_blank byte
 is_of_class Commented byte = not (byte == 42)
 is_of_class Digit byte = is_digit byte
 is_of_class KeywordByte byte = is_keyword_byte byte
-is_of_class HexDigit byte = is_hex byte
+is_of_class HexDigit byte = is_hex_digit byte
 is_of_class CharacterByte byte = is_character_byte byte
 is_of_class Plain byte = nat_le 32 byte && nat_le byte 126 && not (byte == 39) && not (byte == 92)
 

@@ -1,5 +1,5 @@
 -- Digits without the zeros at their ends, and bytes without a certain one in front.
-use Rattle.std.specs.Prelude.{◌≡◌, ◌≢◌, ℕ, ◌-◌, ◌*◌, ◌^◌, ◌%◌, ◌<◌, ◌≤◌, Bool, List, [], ◌∷◌, ◌++◌, length, take}
+use Rattle.std.specs.Prelude.{◌≡◌, ◌≢◌, ℕ, ◌-◌, ◌*◌, ◌^◌, ◌%◌, ◌≤◌, List, [], ◌∷◌, length, take}
 use Rattle.p21_spec_basics.specs.Digits.{AllDigits, number}
 
 -- the bytes do not begin with a zero

@@ -1,6 +1,6 @@
 -- Numbers at the front of bytes, by their parts, and what stands behind them (ISO 10303-21, clause 6: tokens, integer and
 -- real).
-use Rattle.std.specs.Prelude.{◌≡◌, ◌≢◌, ℕ, ◌<◌, ℤ, Bool, Option, Some, None, List, [], ◌∷◌, ◌++◌, length}
+use Rattle.std.specs.Prelude.{◌≡◌, ℕ, ◌<◌, ℤ, Bool, Option, Some, None, List, ◌∷◌, ◌++◌, length}
 use Rattle.p21_spec_basics.specs.Digits.{AllDigits}
 use Rattle.p21_spec_exchange.proofs.Forms.{NoDigitFirst}
 use Rattle.p21_spec_exchange.specs.Number.{Exponent, IsExponent, IsShortExponent, Sign, exponent, exponent_bytes, exponent_value, is_minus, no_exponent, sign_bytes}

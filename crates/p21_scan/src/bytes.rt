@@ -1,9 +1,9 @@
 ghost use Rattle.std.specs.Prelude.{◌≡◌};
 ghost use Rattle.p21_spec_basics.specs.Digits.{is_digit};
-ghost use Rattle.p21_scan.specs.Bytes.{is_upper, is_keyword_byte, is_hex, is_blank};
+ghost use Rattle.p21_scan.specs.Bytes.{is_upper, is_keyword_byte, is_blank};
 
 #[inline(always)]
-pub(crate) fn is_digit(byte: u8) -> bool
+pub fn is_digit(byte: u8) -> bool
     ensures { result ≡ is_digit byte }
 {
     b'0' <= byte && byte <= b'9'
@@ -11,29 +11,22 @@ pub(crate) fn is_digit(byte: u8) -> bool
 
 /// An upper-case letter or `_`.
 #[inline(always)]
-pub(crate) fn is_upper(byte: u8) -> bool
+pub fn is_upper(byte: u8) -> bool
     ensures { result ≡ is_upper byte }
 {
     (b'A' <= byte && byte <= b'Z') || byte == b'_'
 }
 
 #[inline(always)]
-pub(crate) fn is_keyword_byte(byte: u8) -> bool
+pub fn is_keyword_byte(byte: u8) -> bool
     ensures { result ≡ is_keyword_byte byte }
 {
     is_upper(byte) || is_digit(byte)
 }
 
-#[inline(always)]
-pub(crate) fn is_hex(byte: u8) -> bool
-    ensures { result ≡ is_hex byte }
-{
-    is_digit(byte) || (b'A' <= byte && byte <= b'F')
-}
-
 /// A separator byte.
 #[inline(always)]
-pub(crate) fn is_blank(byte: u8) -> bool
+pub fn is_blank(byte: u8) -> bool
     ensures { result ≡ is_blank byte }
 {
     byte <= b' ' || byte == 127

@@ -2,7 +2,8 @@
 ghost use Rattle.std.specs.Prelude.{◌≡◌, ◌<◌, false, length, slice_index};
 ghost use Rattle.p21_scan.specs.Class.{AreOfClass, is_of_class};
 
-use crate::bytes::{is_blank, is_digit, is_hex, is_keyword_byte};
+use crate::bytes::{is_blank, is_digit, is_keyword_byte};
+use crate::hex_digits::is_hex_digit;
 use crate::wide::long_prefix;
 
 /// Bytes that stand in a token, or between tokens, all alike.
@@ -29,7 +30,7 @@ fn is_of_class(class: Class, byte: u8) -> bool
         Class::Commented => byte != b'*',
         Class::Digit => is_digit(byte),
         Class::KeywordByte => is_keyword_byte(byte),
-        Class::HexDigit => is_hex(byte),
+        Class::HexDigit => is_hex_digit(byte),
         Class::CharacterByte => b' ' <= byte && byte != b'\'' && byte != b'\\' && byte != 127,
         Class::Plain => b' ' <= byte && byte <= b'~' && byte != b'\'' && byte != b'\\',
     }

@@ -5,8 +5,9 @@ ghost use Rattle.p21_scan.specs.Hex.{AllHexDigits, IsGroupAt, NoGroupAt, NoHexDi
 
 use hex::FromHex;
 
+/// A hex digit in upper case.
 #[inline(always)]
-fn is_hex_digit(byte: u8) -> bool
+pub fn is_hex_digit(byte: u8) -> bool
     ensures { result ≡ is_hex_digit byte }
 {
     matches!(byte, b'0'..=b'9' | b'A'..=b'F')
@@ -14,7 +15,7 @@ fn is_hex_digit(byte: u8) -> bool
 
 /// The number that a hex digit stands for: it is read as the second digit of a byte.
 #[inline(always)]
-pub(crate) fn hex_value(digit: u8) -> u8
+pub fn hex_value(digit: u8) -> u8
     requires { IsTrue (is_hex_digit digit) }
     ensures value { result ≡ hex_value digit }
     ensures small { result < 16 }

@@ -15,11 +15,13 @@ mod wide;
 mod word;
 
 pub use binary::{Binary, scan_binary};
+pub use bytes::{is_blank, is_digit, is_keyword_byte, is_upper};
 pub use class::{Class, rare_prefix, short_prefix};
 pub use digits::{
     behind, number_of, short_number, split_digits, split_sign, without_leading_zeros,
     without_trailing_zeros,
 };
+pub use hex_digits::{hex_value, is_hex_digit};
 pub use name::{name_number, scan_name};
 pub use number::{
     Decimals, Integer, Number, exponent_value, scan_exponent, scan_integer, scan_number,

@@ -17,7 +17,7 @@ use Rattle.p21_tokens_automaton.proofs.Steps.{lex-nil}
 use Rattle.p21_tokens_automaton.proofs.Theorems.{laid_read, tail-is, tail-ends, form-ends, steps-on, laid-up-to, size-is, one-laying, same-tokens}
 use Rattle.std.proofs.lemmas.Bool.{cond_both}
 use Rattle.std.proofs.lemmas.Bool.Decides.{nat_tests}
-use Rattle.p21_tokens_automaton.specs.Bytes.{is_blank, is_upper}
+use Rattle.p21_scan.specs.Bytes.{is_blank, is_upper}
 use Rattle.p21_tokens_automaton.specs.Step.{advance, punctuation_action}
 use Rattle.p21_tokens_automaton.specs.declared.mode.Action.{Action}
 use Rattle.p21_tokens_automaton.specs.declared.mode.Action.TheVariants.{Pass, Keep, End, Refuse}

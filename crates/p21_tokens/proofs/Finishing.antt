@@ -11,7 +11,7 @@ use Rattle.p21_tokens_automaton.proofs.Prefixes.{ended_token-laid}
 use Rattle.p21_tokens_automaton.proofs.Gaps.{gap}
 use Rattle.p21_tokens_automaton.proofs.Sound.{LaidTo, TailIs, UpTo}
 use Rattle.p21_tokens_automaton.proofs.Theorems.{laid_read, laid-whole, laid-up-to, tail-is}
-use Rattle.p21_tokens_automaton.specs.Bytes.{is_blank}
+use Rattle.p21_scan.specs.Bytes.{is_blank}
 use Rattle.p21_tokens_automaton.specs.Meaning.{MeanAll}
 use Rattle.p21_tokens_automaton.specs.Reading.{State, start, SizedToken, ended_token_in, tokens_at_end, with_last_tokens, all_tokens}
 use Rattle.p21_tokens_automaton.specs.declared.mode.Mode.{Mode}

@@ -1,9 +1,9 @@
 -- Tokens that stand whole at the front of bytes.
-use Rattle.std.proofs.Common.{◌≡◌, ℤ, Bool, false, ◌==◌, if◌then◌else◌, inl, inr, ◌≢◌, ℕ, zero, suc, ◌+◌, ◌-◌, ◌*◌, ◌^◌, ◌≤◌, ◌<◌, true, lt-ltb, append_assoc, List, [], ◌∷◌, ◌++◌, length, length-append, length-drop, get_or, take, drop, refl, sym, ap, ◌∙◌, subst, arith, append-nil, Some, Ok, Err}
+use Rattle.std.proofs.Common.{◌≡◌, ℤ, false, inl, inr, ◌≢◌, ℕ, suc, ◌+◌, ◌^◌, ◌≤◌, ◌<◌, true, append_assoc, List, [], ◌∷◌, ◌++◌, length, length-append, length-drop, get_or, take, drop, refl, sym, ap, ◌∙◌, subst, arith, append-nil, Some, Ok, Err}
 use Rattle.std.specs.List.{slice_range}
 use Rattle.std.proofs.lemmas.Bool.{ne_eqb}
 use Rattle.std.proofs.lemmas.Bool.Decides.{nat_tests}
-use Rattle.std.proofs.lemmas.List.{length-take-le, take_more, get_or-drop}
+use Rattle.std.proofs.lemmas.List.{length-take-le, get_or-drop}
 use Rattle.std.proofs.lemmas.Option.{slice_get_within, slice_get-get_or}
 use Rattle.std.proofs.Math.Seq.{take-add, take-append_seam}
 use Rattle.p21_spec_exchange.specs.Laying.{count_behind}
@@ -11,7 +11,9 @@ use Rattle.p21_spec_exchange.specs.Token as meaning
 use Rattle.p21_spec_basics.specs.Digits.{IsDigit, number as value_of}
 use Rattle.p21_spec_exchange.proofs.Forms.{NoDigitFirst}
 use Rattle.p21_scan.proofs.NamesAt.{name-spells}
+use Rattle.p21_scan.specs.Digits.{BeginsWithoutByte}
 use Rattle.p21_scan.specs.Name.{IsNameAt}
+use Rattle.p21_scan.specs.Text.{EndsText}
 use Rattle.p21_scan.specs.Word.{IsTokenAt}
 use Rattle.p21_spec_exchange.specs.Keyword.{IsKeyword, IsUpper}
 use Rattle.p21_spec_exchange.specs.Number as number
@@ -22,15 +24,14 @@ use Rattle.p21_tokens_automaton.proofs.Runs.{run-puts}
 use Rattle.p21_tokens_automaton.proofs.Steps.{lex-nil, lex-pass, lex-skip, lex-give, lex-end}
 use Rattle.p21_tokens_automaton.proofs.TokenRuns.{waits-keyword, waits-name, waits-whole, waits-real}
 use Rattle.p21_tokens_automaton.proofs.Waits.{Waits}
-use Rattle.p21_tokens_automaton.specs.Bytes.{is_blank}
+use Rattle.p21_scan.specs.Bytes.{is_blank}
 use Rattle.p21_tokens_automaton.specs.Meaning.{found_of}
 use Rattle.p21_tokens_automaton.specs.Reading.{known, State, start, before, FoundToken, single_token, ended_token, lex}
 use Rattle.p21_tokens_automaton.specs.Step.{advance}
-use Rattle.p21_tokens_automaton.specs.Run.{EachHasAction}
 use Rattle.p21_tokens_automaton.specs.declared.mode.Mode.TheVariants.{Between, Text}
 use Rattle.p21_tokens_automaton.specs.declared.mode.TextMode.TheVariants.{Inside, Apostrophe}
 use Rattle.p21_tokens_automaton.specs.declared.mode.Single.{Single}
-use Rattle.p21_tokens_automaton.specs.declared.mode.Action.TheVariants.{Pass, Give, End}
+use Rattle.p21_tokens_automaton.specs.declared.mode.Action.TheVariants.{Pass, Give}
 use Rattle.p21_tokens.specs.Prefix.{ReachesWaitingToken, ReachesToken, single, leads, ArePlain, TakesLeadingToken}
 use Rattle.p21_tokens.specs.Held.{Held, pending_of, state_of}
 use Rattle.p21_tokens.specs.Steps.{AreBlank, SameCounts, SameLimits, TakesRun, GivesToken, HandsOverToken, Steps, Scans, handed}
@@ -246,36 +247,67 @@ leads_name bytes digits rest tail byte x e small =
 
 -- ---- strings of plain characters
 
-pub leads_text : (inside bytes value : List ℕ) (count end byte : ℕ) → bytes ≡ 39 ∷ inside → value ≡ take count inside → ArePlain inside count → end ≡ 39
-    → (count < length inside) × ((d : ℕ) → end ≡ get_or inside count d) → (count + 1 < length inside) × ((d : ℕ) → byte ≡ get_or inside (count + 1) d) → byte ≢ 39 → ReachesWaitingToken bytes (count + 2) (meaning.text value)
-leads_text inside bytes value count end byte e v h is ending found n =
-    let more : suc (count + 1) ≡ count + 2 = omega arith in
-    let fronts : ReachesWaitingToken (39 ∷ inside) (suc (count + 1)) (meaning.text (take count inside)) = record {
-      byte = byte;
-      behind = slice_get-get_or inside (count + 1) 0 found.0 ∙ ap (λ (b : ℕ). Some b) (sym (found.1 0));
-      state = behind_text;
-      reaches = λ rest. reads rest;
-      size_is = omega arith;
-      found = known (meaning.text (take count inside));
-      ended_is = refl;
-      means = refl;
-      ends = rw (ne_eqb byte 39 n) refl;
-    } in
-    subst (λ (x : List ℕ). ReachesWaitingToken x (count + 2) (meaning.text value)) (sym e)
-    (subst (λ (x : List ℕ). ReachesWaitingToken (39 ∷ inside) (count + 2) (meaning.text x)) (sym v) (subst (λ (k : ℕ). ReachesWaitingToken (39 ∷ inside) k (meaning.text (take count inside))) more fronts))
+-- characters, the apostrophe behind them, and another byte
+module _ (inside characters tail : List ℕ) (byte : ℕ) (whole : inside ≡ characters ++ 39 ∷ byte ∷ tail) (plain : ArePlain inside (length characters)) (other : byte ≢ 39) where
+  abbrev count : ℕ
+  count = length characters
+
+  abbrev front : List ℕ
+  front = characters ++ 39 ∷ []
+
+  seam : inside ≡ front ++ byte ∷ tail
+  seam = whole ∙ sym (append_assoc characters (39 ∷ []) (byte ∷ tail))
+
+  size : length front ≡ count + 1
+  size = length-append characters (39 ∷ [])
+
+  front-taken : take (count + 1) inside ≡ front
+  front-taken = subst (λ (k : ℕ). take k inside ≡ front) size (ap (λ (x : List ℕ). take (length front) x) seam ∙ take-append_seam front (byte ∷ tail))
+
+  characters-taken : take count inside ≡ characters
+  characters-taken = ap (λ (x : List ℕ). take count x) whole ∙ take-append_seam characters (39 ∷ byte ∷ tail)
+
+  byte-behind_front : get_or inside (count + 1) 0 ≡ byte
+  byte-behind_front = subst (λ (k : ℕ). get_or inside k 0 ≡ byte) size (ap (λ (x : List ℕ). get_or x (length front) 0) seam ∙ behind-seam front tail byte)
+
+  abbrev open_text : State
+  open_text = record { mode = Text Inside; pending_bytes = []; characters = []; size = 1 }
+
+  abbrev behind_text : State
+  behind_text = record { mode = Text Apostrophe; pending_bytes = []; characters = take count inside; size = 1 + count + 1 }
+
+  reads : (rest : List ℕ) → lex start (39 ∷ (take (count + 1) inside ++ rest)) ≡ lex behind_text rest
+  reads rest =
+      lex-skip start (Text Inside) 39 (take (count + 1) inside ++ rest) refl
+      ∙ (ap (λ (x : List ℕ). lex open_text x) (ap (λ (x : List ℕ). x ++ rest) (front-taken ∙ ap (λ (x : List ℕ). x ++ 39 ∷ []) (sym characters-taken)) ∙ append_assoc (take count inside) (39 ∷ []) rest)
+      ∙ (run-puts open_text inside (39 ∷ rest) count plain
+      ∙ lex-skip (record open_text { characters = take count inside; size = 1 + count }) (Text Apostrophe) 39 rest refl))
+
+  closed-leads : ReachesWaitingToken (39 ∷ inside) (suc (count + 1)) (meaning.text (take count inside))
+  closed-leads = record {
+    byte = byte;
+    behind = slice_get-get_or inside (count + 1) 0 (omega (arith, size, ap (λ (x : List ℕ). length x) seam, length-append front (byte ∷ tail))) ∙ ap (λ (b : ℕ). Some b) byte-behind_front;
+    state = behind_text;
+    reaches = reads;
+    size_is = omega arith;
+    found = known (meaning.text (take count inside));
+    ended_is = refl;
+    means = refl;
+    ends = rw (ne_eqb byte 39 other) refl;
+  }
+
+pub leads_text : (inside characters rest bytes value : List ℕ) → bytes ≡ 39 ∷ inside → inside ≡ characters ++ rest → value ≡ characters → ArePlain inside (length characters) → EndsText rest → 2 ≤ length rest
+    → ReachesWaitingToken bytes (length characters + 2) (meaning.text value)
+leads_text inside characters rest bytes value b i v plain x long = closed x.behind x.bytes_are x.no_other
   where
-    open_text : State
-    open_text = record { mode = Text Inside; pending_bytes = []; characters = []; size = 1 }
+    more : suc (length characters + 1) ≡ length characters + 2
+    more = omega arith
 
-    behind_text : State
-    behind_text = record { mode = Text Apostrophe; pending_bytes = []; characters = take count inside; size = 1 + count + 1 }
-
-    whole : take (count + 1) inside ≡ take count inside ++ 39 ∷ []
-    whole = take_more inside count 0 ending.0 ∙ ap (λ (c : ℕ). take count inside ++ c ∷ []) (sym (ending.1 0) ∙ is)
-
-    reads : (rest : List ℕ) → lex start (39 ∷ (take (count + 1) inside ++ rest)) ≡ lex behind_text rest
-    reads rest =
-        lex-skip start (Text Inside) 39 (take (count + 1) inside ++ rest) refl
-        ∙ (ap (λ (x : List ℕ). lex open_text x) (ap (λ (x : List ℕ). x ++ rest) whole ∙ append_assoc (take count inside) (39 ∷ []) rest)
-        ∙ (run-puts open_text inside (39 ∷ rest) count h
-        ∙ lex-skip (record open_text { characters = take count inside; size = 1 + count }) (Text Apostrophe) 39 rest refl))
+    closed : (behind : List ℕ) → rest ≡ 39 ∷ behind → BeginsWithoutByte 39 behind → ReachesWaitingToken bytes (length characters + 2) (meaning.text value)
+    closed [] e n = absurd (omega (arith, long, ap (λ (y : List ℕ). length y) e))
+    closed (byte ∷ tail) e n =
+        let whole : inside ≡ characters ++ 39 ∷ byte ∷ tail = i ∙ ap (λ (y : List ℕ). characters ++ y) e in
+        let text : take (length characters) inside ≡ value = characters-taken inside characters tail byte whole plain n ∙ sym v in
+        subst (λ (y : List ℕ). ReachesWaitingToken y (length characters + 2) (meaning.text value)) (sym b)
+        (subst (λ (y : List ℕ). ReachesWaitingToken (39 ∷ inside) (length characters + 2) (meaning.text y)) text
+        (subst (λ (k : ℕ). ReachesWaitingToken (39 ∷ inside) k (meaning.text (take (length characters) inside))) more (closed-leads inside characters tail byte whole plain n)))

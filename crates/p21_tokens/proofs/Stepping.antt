@@ -5,7 +5,7 @@ use Rattle.std.proofs.lemmas.Option.{same_Some}
 use Rattle.p21_spec_exchange.specs.Laying.{Lexeme, count_behind}
 use Rattle.p21_spec_exchange.specs.Token as meaning
 use Rattle.p21_tokens_automaton.proofs.Steps.{lex-pass, lex-skip, lex-keep, lex-put, lex-give, lex-close, lex-dash, lex-end, lex-byte}
-use Rattle.p21_tokens_automaton.specs.Bytes.{is_blank}
+use Rattle.p21_scan.specs.Bytes.{is_blank}
 use Rattle.p21_tokens_automaton.specs.Meaning.{Means, MeanAll}
 use Rattle.p21_tokens_automaton.specs.Reading.{start, Answer, without_tokens, stopped, before, FoundToken, known, spelled, keyword, user_keyword, whole, real, item, bits, SizedToken, closed_token, ended_token, ended_token_in, ended_number, ended_word, ended_name, ended_text, marker_of, single_token, with_token_in_front, continue_marker, first, act, at_end, with_last_tokens, all_tokens, lex}
 use Rattle.p21_tokens_automaton.specs.Step.{advance}

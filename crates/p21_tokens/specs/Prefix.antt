@@ -2,7 +2,7 @@
 use Rattle.std.specs.Prelude.{◌≡◌, ℕ, ◌+◌, ◌≤◌, false, List, ◌∷◌, ◌++◌, take, get_or, slice_get, Option, Some, None, Result, Ok, Err}
 use Rattle.p21_spec_exchange.specs.Laying.{count_behind}
 use Rattle.p21_spec_exchange.specs.Token as meaning
-use Rattle.p21_tokens_automaton.specs.Bytes.{is_blank}
+use Rattle.p21_scan.specs.Bytes.{is_blank}
 use Rattle.p21_tokens_automaton.specs.Meaning.{Means}
 use Rattle.p21_tokens_automaton.specs.Reading.{State, start, FoundToken, ended_token, single_token, lex}
 use Rattle.p21_tokens_automaton.specs.Run.{EachHasAction}

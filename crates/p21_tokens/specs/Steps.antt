@@ -8,7 +8,7 @@ use Rattle.p21_tokens_automaton.specs.declared.mode.Mode.{Mode}
 use Rattle.p21_tokens_automaton.specs.declared.mode.Mode.TheVariants.{Between, Slash, Comment, Star, Text}
 use Rattle.p21_tokens_automaton.specs.declared.mode.Action.{Action}
 use Rattle.p21_tokens_automaton.specs.declared.mode.Action.TheVariants.{Pass, Close, End, Refuse}
-use Rattle.p21_tokens_automaton.specs.Bytes.{is_blank}
+use Rattle.p21_scan.specs.Bytes.{is_blank}
 use Rattle.p21_tokens_automaton.specs.Meaning.{Means, MeanAll}
 use Rattle.p21_tokens_automaton.specs.Reading.{start, Answer, FoundToken, spelled, real, item, bits, SizedToken, ended_token, ended_token_in, closed_token, tokens_at_end, before, all_tokens, lex}
 use Rattle.p21_tokens_automaton.specs.Step.{advance}

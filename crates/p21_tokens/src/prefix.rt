@@ -1,6 +1,6 @@
 //! Tokens that stand whole at the front of bytes, read without a state.
 ghost use Rattle.std.specs.Prelude.{◌≡◌, ◌≤◌, false, IfOk, IfSome, OnErr, get_or};
-ghost use Rattle.p21_tokens_automaton.specs.Bytes.{is_blank};
+ghost use Rattle.p21_scan.specs.Bytes.{is_blank};
 ghost use Rattle.p21_tokens_automaton.specs.Step.{advance};
 ghost use Rattle.p21_tokens_automaton.specs.declared.mode.Mode.TheVariants.{Between};
 ghost use Rattle.p21_tokens_automaton.specs.declared.mode.Action.TheVariants.{Give};
@@ -9,7 +9,7 @@ ghost use Rattle.p21_tokens.specs.Token.{meant};
 
 use crate::read_token::single_token;
 use crate::token::Token;
-use p21_scan::{behind, name_number, scan_keyword, scan_name};
+use p21_scan::{behind, ends_text, name_number, scan_keyword, scan_name};
 use p21_tokens_automaton::{Single, plain_characters};
 use p21_values::{Name, NoMemory, Number, Text, Word, read_number};
 use std::alloc::Global;
@@ -111,14 +111,12 @@ fn leading_text(alloc: Global, bytes: &[u8]) -> LeadingToken
     ensures { ReadsWaitingToken bytes.now result }
 {
     let inside = behind(b'\'', bytes)?;
-    let count = plain_count(inside);
-    let end = *inside.get(count)?;
-    let byte = *inside.get(count + 1)?;
-    if end != b'\'' || byte == b'\'' {
+    let (characters, rest) = inside.split_at_checked(plain_count(inside))?;
+    if rest.len() < 2 || !ends_text(rest) {
         return None;
     }
-    match plain_text(alloc, &inside[..count]) {
-        Ok(text) => Some(Ok((count + 2, Token::Text(text)))),
+    match plain_text(alloc, characters) {
+        Ok(text) => Some(Ok((characters.len() + 2, Token::Text(text)))),
         Err(fault) => Some(Err(fault)),
     }
 }

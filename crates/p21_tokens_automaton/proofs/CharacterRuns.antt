@@ -9,7 +9,8 @@ use Rattle.std.specs.List.{AllByRecursion as Each}
 use Rattle.std.specs.Str.{chars, IsUtf8}
 use lib.Utf8.{encode, encodes, scalar, scalars}
 use Rattle.p21_tokens_automaton.specs.Reading.{State, lex}
-use Rattle.p21_tokens_automaton.specs.Run.{AreCharacterBytes, is_character_byte}
+use Rattle.p21_scan.specs.Class.{is_character_byte}
+use Rattle.p21_tokens_automaton.specs.Run.{AreCharacterBytes}
 use Rattle.p21_tokens_automaton.specs.Step.{text_action}
 use Rattle.p21_tokens_automaton.specs.declared.mode.Mode.{Mode}
 use Rattle.p21_tokens_automaton.specs.declared.mode.Mode.TheVariants.{Text}

@@ -4,7 +4,6 @@ pub mod Utf16
 pub mod TextFits
 pub mod Utf8
 pub mod Fits
-pub mod Classes
 pub mod TokenRuns
 pub mod TokenSound
 pub mod Once
@@ -17,9 +16,6 @@ pub mod TextSound
 pub mod TextRuns
 pub mod Runs
 pub mod CharacterRuns
-pub mod Lanes
-pub mod Decoded
-pub mod Rows
 pub mod Theorems
 pub mod Spellings
 pub mod Prefixes

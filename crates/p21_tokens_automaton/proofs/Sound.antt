@@ -9,7 +9,7 @@ use Rattle.p21_spec_exchange.specs.Laying.{Lexeme}
 use Rattle.p21_spec_exchange.specs.Pending.{Tail, nothing, unfinished, slash, open_comment, tail_bytes, BeginsWithNoSeparator}
 use Rattle.p21_spec_exchange.proofs.OneGap.{begins-on}
 use Rattle.p21_tokens_automaton.specs.Meaning.{Means, MeanAll}
-use Rattle.p21_tokens_automaton.specs.Bytes.{is_blank}
+use Rattle.p21_scan.specs.Bytes.{is_blank}
 use Rattle.p21_tokens_automaton.specs.Step.{advance, between_action}
 use Rattle.p21_tokens_automaton.specs.Reading.{State, start, pass, skip, keep, put, Answer, without_tokens, open_at, stopped, Ending, before, FoundToken, known, spelled, item as item_kind, bits as bits_kind, SizedToken, ended_token, closed_token, marker_of, with_token_in_front, continue_marker, single_token, first, act, lex}
 use Rattle.p21_tokens_automaton.specs.declared.mode.Mode.{Mode}

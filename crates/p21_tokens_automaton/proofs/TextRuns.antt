@@ -16,7 +16,8 @@ use Rattle.p21_tokens_automaton.specs.declared.mode.TextMode.{TextMode}
 use Rattle.p21_tokens_automaton.specs.declared.mode.TextMode.TheVariants as text_mode
 use Rattle.p21_tokens_automaton.specs.declared.mode.Action.{Action}
 use Rattle.p21_tokens_automaton.specs.declared.mode.Action.TheVariants.{Skip, Put}
-use Rattle.p21_tokens_automaton.proofs.HexDigits.{is_hex-hex_digit, hex_value-hex_digit, power-small}
+use Rattle.p21_scan.proofs.HexRuns.{hex_forth}
+use Rattle.p21_tokens_automaton.proofs.HexDigits.{power-small}
 use Rattle.p21_tokens_automaton.proofs.Utf8.{encode-two, encode-three, encode-four}
 use Rattle.p21_tokens_automaton.proofs.Utf16.{groups-one, groups-pair}
 use Rattle.p21_tokens_automaton.proofs.Steps.{lex-skip, lex-put}
@@ -115,52 +116,52 @@ abbrev Begins : (ℕ → ℕ → TextMode) → TextMode → Type 0
 Begins digits m = (digit : ℕ) → digit < 16 → text_action m (hex_digit digit) ≡ Skip (Text (digits 1 digit))
 
 first2 : Begins text_mode.Extended2Digits text_mode.Extended2First
-first2 digit h = rw (is_hex-hex_digit digit h, hex_value-hex_digit digit h) refl
+first2 digit h = rw ((hex_forth digit h).0, (hex_forth digit h).1) refl
 
 no_backslash : (digit : ℕ) → digit < 16 → (hex_digit digit == 92) ≡ false
 no_backslash digit h = grind (arith, nat_tests)
 
 next2 : Begins text_mode.Extended2Digits text_mode.Extended2Next
-next2 digit h = rw (no_backslash digit h, is_hex-hex_digit digit h, hex_value-hex_digit digit h) refl
+next2 digit h = rw (no_backslash digit h, (hex_forth digit h).0, (hex_forth digit h).1) refl
 
 first4 : Begins text_mode.Extended4Digits text_mode.Extended4First
-first4 digit h = rw (is_hex-hex_digit digit h, hex_value-hex_digit digit h) refl
+first4 digit h = rw ((hex_forth digit h).0, (hex_forth digit h).1) refl
 
 next4 : Begins text_mode.Extended4Digits text_mode.Extended4Next
-next4 digit h = rw (no_backslash digit h, is_hex-hex_digit digit h, hex_value-hex_digit digit h) refl
+next4 digit h = rw (no_backslash digit h, (hex_forth digit h).0, (hex_forth digit h).1) refl
 
 low_first : (high : ℕ) → Begins (text_mode.LowDigits high) (text_mode.LowFirst high)
-low_first high digit h = rw (is_hex-hex_digit digit h, hex_value-hex_digit digit h) refl
+low_first high digit h = rw ((hex_forth digit h).0, (hex_forth digit h).1) refl
 
 group_value-at : (count value digit : ℕ) → count ≤ 3 → value < 16 ^ count → digit < 16 → group_value value (hex_digit digit) ≡ value * 16 + digit
 group_value-at count value digit h k m =
     let small : value < 4096 = power-small 3 count value h k in
     let same : value % 4096 ≡ value = omega arith in
-    rw (hex_value-hex_digit digit m, same) refl
+    rw ((hex_forth digit m).1, same) refl
 
 long_value-at : (count value digit : ℕ) → count ≤ 7 → value < 16 ^ count → digit < 16 → long_value value (hex_digit digit) ≡ value * 16 + digit
 long_value-at count value digit h k m =
     let small : value < 268435456 = power-small 7 count value h k in
     let same : value % 268435456 ≡ value = omega arith in
-    rw (hex_value-hex_digit digit m, same) refl
+    rw ((hex_forth digit m).1, same) refl
 
 more2 : (count value digit : ℕ) → count < 3 → value < 16 ^ count → digit < 16 → text_action (text_mode.Extended2Digits count value) (hex_digit digit) ≡ Skip (Text (text_mode.Extended2Digits (count + 1) (value * 16 + digit)))
-more2 count value digit h k m = rw (is_hex-hex_digit digit m, lt-ltb count 3 h) (ap (λ v. Skip (Text (text_mode.Extended2Digits (count + 1) v))) (group_value-at count value digit (omega arith) k m))
+more2 count value digit h k m = rw ((hex_forth digit m).0, lt-ltb count 3 h) (ap (λ v. Skip (Text (text_mode.Extended2Digits (count + 1) v))) (group_value-at count value digit (omega arith) k m))
 
 more_low : (high count value digit : ℕ) → count < 3 → value < 16 ^ count → digit < 16 → text_action (text_mode.LowDigits high count value) (hex_digit digit) ≡ Skip (Text (text_mode.LowDigits high (count + 1) (value * 16 + digit)))
-more_low high count value digit h k m = rw (is_hex-hex_digit digit m, lt-ltb count 3 h) (ap (λ v. Skip (Text (text_mode.LowDigits high (count + 1) v))) (group_value-at count value digit (omega arith) k m))
+more_low high count value digit h k m = rw ((hex_forth digit m).0, lt-ltb count 3 h) (ap (λ v. Skip (Text (text_mode.LowDigits high (count + 1) v))) (group_value-at count value digit (omega arith) k m))
 
 more4 : (count value digit : ℕ) → count < 7 → value < 16 ^ count → digit < 16 → text_action (text_mode.Extended4Digits count value) (hex_digit digit) ≡ Skip (Text (text_mode.Extended4Digits (count + 1) (value * 16 + digit)))
-more4 count value digit h k m = rw (is_hex-hex_digit digit m, lt-ltb count 7 h) (ap (λ v. Skip (Text (text_mode.Extended4Digits (count + 1) v))) (long_value-at count value digit (omega arith) k m))
+more4 count value digit h k m = rw ((hex_forth digit m).0, lt-ltb count 7 h) (ap (λ v. Skip (Text (text_mode.Extended4Digits (count + 1) v))) (long_value-at count value digit (omega arith) k m))
 
 last2 : (value digit : ℕ) → value < 4096 → digit < 16 → text_action (text_mode.Extended2Digits 3 value) (hex_digit digit) ≡ group_action (value * 16 + digit)
-last2 value digit h k = rw (is_hex-hex_digit digit k) (ap group_action (group_value-at 3 value digit (lit≤ tt) h k))
+last2 value digit h k = rw ((hex_forth digit k).0) (ap group_action (group_value-at 3 value digit (lit≤ tt) h k))
 
 last_low : (high value digit : ℕ) → value < 4096 → digit < 16 → text_action (text_mode.LowDigits high 3 value) (hex_digit digit) ≡ low_group_action high (value * 16 + digit)
-last_low high value digit h k = rw (is_hex-hex_digit digit k) (ap (λ v. low_group_action high v) (group_value-at 3 value digit (lit≤ tt) h k))
+last_low high value digit h k = rw ((hex_forth digit k).0) (ap (λ v. low_group_action high v) (group_value-at 3 value digit (lit≤ tt) h k))
 
 last4 : (value digit : ℕ) → value < 268435456 → digit < 16 → text_action (text_mode.Extended4Digits 7 value) (hex_digit digit) ≡ put_scalar text_mode.Extended4Next (value * 16 + digit)
-last4 value digit h k = rw (is_hex-hex_digit digit k) (ap (λ v. put_scalar text_mode.Extended4Next v) (long_value-at 7 value digit (lit≤ tt) h k))
+last4 value digit h k = rw ((hex_forth digit k).0) (ap (λ v. put_scalar text_mode.Extended4Next v) (long_value-at 7 value digit (lit≤ tt) h k))
 
 -- Whole groups
 
@@ -364,10 +365,10 @@ arbitrary-run c h a =
     (last-put (text_mode.ArbitrarySecond high) inside a (hex_digit low) c (second_digit high low c is_low same)))))
   where
     first_digit : (high : ℕ) → high < 16 → text_action text_mode.Arbitrary (hex_digit high) ≡ Skip (Text (text_mode.ArbitrarySecond high))
-    first_digit high h = rw (is_hex-hex_digit high h, hex_value-hex_digit high h) refl
+    first_digit high h = rw ((hex_forth high h).0, (hex_forth high h).1) refl
 
     second_digit : (high low c : ℕ) → low < 16 → high % 16 * 16 + low ≡ c → text_action (text_mode.ArbitrarySecond high) (hex_digit low) ≡ Put (Text text_mode.Inside) c
-    second_digit high low c h e = rw (is_hex-hex_digit low h, hex_value-hex_digit low h, e) refl
+    second_digit high low c h e = rw ((hex_forth low h).0, (hex_forth low h).1, e) refl
 
 unit-run : (unit : StringUnit) → IsStringUnit unit → (a : List ℕ) → Runs text_mode.Inside a (unit_bytes unit) text_mode.Inside (a ++ unit_characters unit)
 unit-run (ignored byte) h a = subst (λ x. Runs text_mode.Inside a (byte ∷ []) text_mode.Inside x) (sym (append-nil a)) (last-skip text_mode.Inside text_mode.Inside a byte (ignored-byte byte h))

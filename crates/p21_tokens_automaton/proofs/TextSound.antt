@@ -1,5 +1,5 @@
 -- A string that is read byte by byte up to its end is one that its bytes spell.
-use Rattle.std.proofs.Common.{◌≡◌, ℕ, ◌+◌, ◌*◌, ◌%◌, ◌^◌, ◌<◌, ◌≤◌, true, false, List, [], ◌∷◌, ◌++◌, length, inl, inr, refl, sym, ap, ◌∙◌, subst, append_assoc, append-nil, arith, length-append, eqb, lit<, lit≤}
+use Rattle.std.proofs.Common.{IsTrue, ◌≡◌, ℕ, ◌+◌, ◌*◌, ◌%◌, ◌^◌, ◌<◌, ◌≤◌, true, false, List, [], ◌∷◌, ◌++◌, length, inl, inr, refl, sym, ap, ◌∙◌, subst, append_assoc, append-nil, arith, length-append, eqb, lit<, lit≤}
 use Rattle.std.specs.Prelude.{◌==◌, nat_lt, ◌||◌}
 use Rattle.std.specs.Char.{IsScalar}
 use Rattle.std.specs.List.{flat_map, AllByRecursion as Each}
@@ -11,7 +11,7 @@ use Rattle.p21_spec_exchange.specs.Text.{StringUnit, ignored, plain, doubled, hi
 use Rattle.p21_spec_exchange.specs.Token.{text, Spells, MayFollow}
 use Rattle.p21_tokens_automaton.specs.Meaning.{Means}
 use Rattle.p21_tokens_automaton.specs.Reading.{known}
-use Rattle.p21_tokens_automaton.specs.Bytes.{is_hex, hex_value}
+use Rattle.p21_scan.specs.Hex.{hex_value, is_hex_digit}
 use Rattle.p21_tokens_automaton.specs.Step.{text_action, inside_action, utf8_action, utf8_value, utf8_last_action, directive_action, backslash_action, page_action, hex_mark_action, arbitrary_action, arbitrary_second_action, put_scalar, group_action, low_group_action, group_value, long_value, first2_action, digits2_action, low_first_action, low_digits_action, first4_action, digits4_action}
 use Rattle.p21_tokens_automaton.specs.declared.mode.Mode.TheVariants.{Text}
 use Rattle.p21_tokens_automaton.specs.declared.mode.TextMode.{TextMode}
@@ -19,7 +19,8 @@ use Rattle.p21_tokens_automaton.specs.declared.mode.TextMode.TheVariants as text
 use Rattle.p21_tokens_automaton.specs.declared.mode.Wrong.TheVariants as wrong
 use Rattle.p21_tokens_automaton.specs.declared.mode.Action.{Action}
 use Rattle.p21_tokens_automaton.specs.declared.mode.Action.TheVariants.{End, Refuse}
-use Rattle.p21_tokens_automaton.proofs.HexDigits.{hex_value-small, hex_digit-hex_value, hex_digits-byte, more-small, power-small, one-digit, two-digits}
+use Rattle.p21_scan.proofs.HexRuns.{group_small, hex_back, hex_digits-byte}
+use Rattle.p21_tokens_automaton.proofs.HexDigits.{power-small, one-digit, two-digits}
 use Rattle.p21_tokens_automaton.proofs.Utf16.{groups-one, groups-from_pair}
 use Rattle.p21_tokens_automaton.proofs.Utf8.{two-lead, three-lead, four-lead}
 use Rattle.p21_tokens_automaton.proofs.TextFits.{InString, InGroups, BehindGroup, InEnd, IsPart, IsHighSurrogate, LeadsToLast, LeadsToSecond, LeadsToThird, TextFits}
@@ -161,21 +162,21 @@ module _ (b : ℕ) (pending_bytes characters front : List ℕ) where
       (subst (λ x. InGroups 50 utf16_groups x characters (front ++ b ∷ [])) (sym (groups-from_pair high value h.0 h.1 (leb-true 0xDC00 value p.0) (leb-true value 0xDFFF p.1))) g)) (λ _. tt)) (λ _. tt)
 
   -- one more digit of a group that isn't whole with it
-  part-more : (mark : ℕ) (group : ℕ → List ℕ) (limit count value : ℕ) → is_hex b ≡ true → count < limit → IsPart limit count value → (tail : List ℕ) → InGroups mark group (tail ++ hex_digits count value) characters front
+  part-more : (mark : ℕ) (group : ℕ → List ℕ) (limit count value : ℕ) → IsTrue (is_hex_digit b) → count < limit → IsPart limit count value → (tail : List ℕ) → InGroups mark group (tail ++ hex_digits count value) characters front
       → IsPart limit (count + 1) (value * 16 + hex_value b) × InGroups mark group (tail ++ hex_digits (count + 1) (value * 16 + hex_value b)) characters (front ++ b ∷ [])
   part-more mark group limit count value e k h tail g = (
-    (omega arith, more-small count value (hex_value b) h.1 (hex_value-small b e)),
+    (omega arith, group_small count value (hex_value b) h.1 (hex_back b e).0),
     subst (λ x. InGroups mark group x characters (front ++ b ∷ [])) (append_assoc tail (hex_digits count value) (b ∷ []) ∙ ap (λ x. tail ++ x) (hex_digits-byte count value b e)) (in_groups-more mark group (tail ++ hex_digits count value) characters front b g),
   )
 
   -- the last digit of a group
-  part-end : (mark : ℕ) (group : ℕ → List ℕ) (limit count value : ℕ) → is_hex b ≡ true → limit ≤ count → IsPart limit count value → (tail : List ℕ) → InGroups mark group (tail ++ hex_digits count value) characters front
+  part-end : (mark : ℕ) (group : ℕ → List ℕ) (limit count value : ℕ) → IsTrue (is_hex_digit b) → limit ≤ count → IsPart limit count value → (tail : List ℕ) → InGroups mark group (tail ++ hex_digits count value) characters front
       → (value * 16 + hex_value b < 16 ^ (limit + 1)) × InGroups mark group (tail ++ hex_digits (limit + 1) (value * 16 + hex_value b)) characters (front ++ b ∷ [])
   part-end mark group limit count value e k h tail g =
       let is : count ≡ limit = omega arith in
       let more = in_groups-more mark group (tail ++ hex_digits count value) characters front b g in
       subst (λ n. (value * 16 + hex_value b < 16 ^ (n + 1)) × InGroups mark group (tail ++ hex_digits (n + 1) (value * 16 + hex_value b)) characters (front ++ b ∷ [])) is (
-        more-small count value (hex_value b) h.1 (hex_value-small b e),
+        group_small count value (hex_value b) h.1 (hex_back b e).0,
         subst (λ x. InGroups mark group x characters (front ++ b ∷ [])) (append_assoc tail (hex_digits count value) (b ∷ []) ∙ ap (λ x. tail ++ x) (hex_digits-byte count value b e)) more,
       )
 
@@ -186,12 +187,12 @@ module _ (b : ℕ) (pending_bytes characters front : List ℕ) where
   long_value-is count value h = let small : value < 268435456 = power-small 7 count value h.0 h.1 in omega arith
 
   -- the first digit of a group
-  first-digit : (mark : ℕ) (group : ℕ → List ℕ) → is_hex b ≡ true → (tail : List ℕ) → InGroups mark group tail characters front → InGroups mark group (tail ++ hex_digits 1 (hex_value b)) characters (front ++ b ∷ [])
+  first-digit : (mark : ℕ) (group : ℕ → List ℕ) → IsTrue (is_hex_digit b) → (tail : List ℕ) → InGroups mark group tail characters front → InGroups mark group (tail ++ hex_digits 1 (hex_value b)) characters (front ++ b ∷ [])
   first-digit mark group e tail g = subst (λ x. InGroups mark group (tail ++ x) characters (front ++ b ∷ [])) (one-digit b e) (in_groups-more mark group tail characters front b g)
 
   first2-step : (m : TextMode) → InGroups 50 utf16_groups [] characters front → StepFits (Text m) pending_bytes characters front b (first2_action b)
   first2-step m g = cond_both _ _ _ (λ a. StepFits (Text m) pending_bytes characters front b a) (λ e.
-      let fits : TextFits (text_mode.Extended2Digits 1 (hex_value b)) characters (front ++ b ∷ []) = ((lit≤ tt, hex_value-small b e), first-digit 50 utf16_groups e [] g) in
+      let fits : TextFits (text_mode.Extended2Digits 1 (hex_value b)) characters (front ++ b ∷ []) = ((lit≤ tt, (hex_back b e).0), first-digit 50 utf16_groups e [] g) in
       fits) (λ _. tt)
 
   digits2-step : (m : TextMode) (count value : ℕ) → IsPart 3 count value → InGroups 50 utf16_groups (hex_digits count value) characters front → StepFits (Text m) pending_bytes characters front b (digits2_action count value b)
@@ -207,7 +208,7 @@ module _ (b : ℕ) (pending_bytes characters front : List ℕ) where
   low_first-step m high h g =
       let P : Action → Type 0 = λ a. StepFits (Text m) pending_bytes characters front b a in
       cond_both _ _ _ P (λ e.
-      let fits : TextFits (text_mode.LowDigits high 1 (hex_value b)) characters (front ++ b ∷ []) = (h, (lit≤ tt, hex_value-small b e), first-digit 50 utf16_groups e (hex_digits 4 high) g) in
+      let fits : TextFits (text_mode.LowDigits high 1 (hex_value b)) characters (front ++ b ∷ []) = (h, (lit≤ tt, (hex_back b e).0), first-digit 50 utf16_groups e (hex_digits 4 high) g) in
       fits) (λ _. cond_both (eqb b 92) (Refuse wrong.CodePoint) (Refuse wrong.Directive) P (λ _. tt) (λ _. tt))
 
   low_digits-step : (m : TextMode) (high count value : ℕ) → IsHighSurrogate high → IsPart 3 count value → InGroups 50 utf16_groups (hex_digits 4 high ++ hex_digits count value) characters front → StepFits (Text m) pending_bytes characters front b (low_digits_action high count value b)
@@ -223,7 +224,7 @@ module _ (b : ℕ) (pending_bytes characters front : List ℕ) where
 
   first4-step : (m : TextMode) → InGroups 52 (hex_digits 8) [] characters front → StepFits (Text m) pending_bytes characters front b (first4_action b)
   first4-step m g = cond_both _ _ _ (λ a. StepFits (Text m) pending_bytes characters front b a) (λ e.
-      let fits : TextFits (text_mode.Extended4Digits 1 (hex_value b)) characters (front ++ b ∷ []) = ((lit≤ tt, hex_value-small b e), first-digit 52 (hex_digits 8) e [] g) in
+      let fits : TextFits (text_mode.Extended4Digits 1 (hex_value b)) characters (front ++ b ∷ []) = ((lit≤ tt, (hex_back b e).0), first-digit 52 (hex_digits 8) e [] g) in
       fits) (λ _. tt)
 
   scalar4-step : (m : TextMode) (value : ℕ) → InGroups 52 (hex_digits 8) (hex_digits 8 value) characters (front ++ b ∷ []) → StepFits (Text m) pending_bytes characters front b (put_scalar text_mode.Extended4Next value)
@@ -339,16 +340,16 @@ module _ (b : ℕ) (pending_bytes characters front : List ℕ) where
   arbitrary-step s =
       cond_both _ _ _ (λ a. StepFits (Text text_mode.Arbitrary) pending_bytes characters front b a) (λ e.
       let fits : TextFits (text_mode.ArbitrarySecond (hex_value b)) characters (front ++ b ∷ []) =
-      (hex_value-small b e, subst (λ x. InString characters (92 ∷ 88 ∷ 92 ∷ x ∷ []) (front ++ b ∷ [])) (hex_digit-hex_value b e) (in_string-more characters (92 ∷ 88 ∷ 92 ∷ []) front b s)) in
+      ((hex_back b e).0, subst (λ x. InString characters (92 ∷ 88 ∷ 92 ∷ x ∷ []) (front ++ b ∷ [])) (sym (hex_back b e).1) (in_string-more characters (92 ∷ 88 ∷ 92 ∷ []) front b s)) in
       fits) (λ _. tt)
 
   arbitrary_second-step : (m : TextMode) (high : ℕ) → high < 16 → InString characters (92 ∷ 88 ∷ 92 ∷ hex_digit high ∷ []) front → StepFits (Text m) pending_bytes characters front b (arbitrary_second_action high b)
   arbitrary_second-step m high h s =
       cond_both _ _ _ (λ a. StepFits (Text m) pending_bytes characters front b a) (λ e.
-      let low : hex_value b < 16 = hex_value-small b e in
+      let low : hex_value b < 16 = (hex_back b e).0 in
       let character = high % 16 * 16 + hex_value b in
       let small : character < 256 = omega arith in
-      let digits : hex_digit high ∷ b ∷ [] ≡ hex_digits 2 character = ap (λ x. hex_digit high ∷ x ∷ []) (hex_digit-hex_value b e) ∙ sym (two-digits high (hex_value b) h low) in
+      let digits : hex_digit high ∷ b ∷ [] ≡ hex_digits 2 character = ap (λ x. hex_digit high ∷ x ∷ []) (sym (hex_back b e).1) ∙ sym (two-digits high (hex_value b) h low) in
       in_string-unit characters (front ++ b ∷ []) (arbitrary character) small
       (subst (λ x. InString characters (92 ∷ 88 ∷ 92 ∷ x) (front ++ b ∷ [])) digits (in_string-more characters (92 ∷ 88 ∷ 92 ∷ hex_digit high ∷ []) front b s))) (λ _. tt)
 

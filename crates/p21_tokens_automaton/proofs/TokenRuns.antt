@@ -26,7 +26,8 @@ use Rattle.p21_tokens_automaton.specs.declared.mode.BinaryMode.TheVariants as bi
 use Rattle.p21_tokens_automaton.specs.declared.mode.Single.{Single}
 use Rattle.p21_tokens_automaton.specs.declared.mode.Single.TheVariants as single
 use Rattle.p21_tokens_automaton.specs.declared.mode.Action.TheVariants.{Skip, Keep, Close, End}
-use Rattle.p21_tokens_automaton.proofs.Classes.{digit-decides, upper-decides, keyword_byte-decides, hex_digit-is_hex, false_from_not}
+use Rattle.p21_scan.proofs.Classes.{digit-decides, upper-decides, keyword_byte-decides, false_from_not}
+use Rattle.p21_scan.proofs.HexRuns.{hex_forth}
 use Rattle.p21_tokens_automaton.proofs.Steps.{lex-keep, lex-skip, lex-give, lex-close}
 use Rattle.p21_tokens_automaton.proofs.Waits.{Waits, IsGiven}
 
@@ -292,10 +293,10 @@ no-padding zero value e = refl
 no-padding (suc padding) value e = cc
 
 keeps-hex : (n : ℕ) → n < 16 → advance (Binary binary.Hex) (hex_digit n) ≡ Keep (Binary binary.Hex)
-keeps-hex n h = rw ((hex_digit-is_hex n h).0) refl
+keeps-hex n h = rw ((hex_forth n h).0) refl
 
 keeps-first_hex : (padding n : ℕ) → n < 16 → has_zero_padding padding n ≡ true → advance (Binary (binary.Padding padding)) (hex_digit n) ≡ Keep (Binary binary.Hex)
-keeps-first_hex padding n h e = let own = hex_digit-is_hex n h in rw (own.0, own.1, e) refl
+keeps-first_hex padding n h e = let own = hex_forth n h in rw (own.0, own.1, e) refl
 
 keeps-padding : (padding : ℕ) → padding < 4 → advance (Binary binary.Quote) (48 + padding) ≡ Keep (Binary (binary.Padding padding))
 keeps-padding padding h = grind (arith, nat_tests)

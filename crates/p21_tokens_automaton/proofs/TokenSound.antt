@@ -14,7 +14,8 @@ use Rattle.p21_spec_exchange.specs.Name.{SpellsName}
 use Rattle.p21_spec_exchange.specs.Number.{Sign, none, plus, minus, sign_bytes, is_minus, signed, exponent, no_exponent, exponent_bytes, RealForm, SpellsReal, SpellsWhole}
 use Rattle.p21_spec_exchange.specs.Token.{Token, Spells, MayFollow, HasNoExponent}
 use Rattle.p21_spec_exchange.specs.Token as token
-use Rattle.p21_tokens_automaton.specs.Bytes.{is_upper, is_keyword_byte, is_hex, hex_value, is_blank}
+use Rattle.p21_scan.specs.Bytes.{is_upper, is_keyword_byte, is_blank}
+use Rattle.p21_scan.specs.Hex.{hex_value, is_hex_digit}
 use Rattle.p21_tokens_automaton.specs.Meaning.{IsOfTokenClass, Means}
 use Rattle.p21_tokens_automaton.specs.Step.{mode_behind_digit, non_digit_action, number_action, marker_text, marker_action, word_action, name_digit_action, name_action, has_zero_padding, binary_action, punctuation_action, between_action, text_action, advance}
 use Rattle.p21_tokens_automaton.specs.Reading.{FoundToken, TokenClass, keyword, user_keyword, whole, real, item, bits, known, spelled, marker_token, ended_token}
@@ -36,7 +37,7 @@ use Rattle.p21_tokens_automaton.specs.declared.mode.Absent.TheVariants.{Constant
 use Rattle.p21_tokens_automaton.specs.declared.mode.Wrong.TheVariants as wrong
 use Rattle.p21_tokens_automaton.specs.declared.mode.Action.{Action}
 use Rattle.p21_tokens_automaton.specs.declared.mode.Action.TheVariants.{Pass, Skip, Keep, Close, End, Dash, Refuse}
-use Rattle.p21_tokens_automaton.proofs.Classes.{digit-decides, upper-decides, blank-decides, keyword_byte-decides}
+use Rattle.p21_scan.proofs.Classes.{digit-decides, upper-decides, blank-decides, keyword_byte-decides}
 use Rattle.p21_tokens_automaton.proofs.Sound.{FirstFits}
 use Rattle.p21_tokens_automaton.proofs.TokenRuns.{number-more}
 use Rattle.p21_tokens_automaton.proofs.Fits.{HasExponentMark, IsInteger, IsPlainReal, HasExponent, NumberFits, NameFits, ModeFits, EndFits, StepFits}
@@ -378,12 +379,12 @@ module _ (b : ℕ) (pending_bytes characters front : List ℕ) where
   binary-step (binary.Padding padding) h =
       let P : Action → Type 0 = λ a. StepFits (Binary (binary.Padding padding)) pending_bytes characters front b a in
       let room = has_zero_padding padding (hex_value b) in
-      cond_both (is_hex b) (cond room (Keep (Binary binary.Hex)) (Refuse wrong.Binary)) (cond (eqb b 34 && eqb padding 0) Close (Refuse wrong.Binary)) P
+      cond_both (is_hex_digit b) (cond room (Keep (Binary binary.Hex)) (Refuse wrong.Binary)) (cond (eqb b 34 && eqb padding 0) Close (Refuse wrong.Binary)) P
       (λ e. cond_both room (Keep (Binary binary.Hex)) (Refuse wrong.Binary) P (λ _. keeps b pending_bytes characters front h) (λ _. tt))
       (λ e. cond_both (eqb b 34 && eqb padding 0) Close (Refuse wrong.Binary) P (λ _. close-fits (binary.Padding padding) h) (λ _. tt))
   binary-step binary.Hex h =
       let P : Action → Type 0 = λ a. StepFits (Binary binary.Hex) pending_bytes characters front b a in
-      cond_both (is_hex b) (Keep (Binary binary.Hex)) (cond (eqb b 34) Close (Refuse wrong.Binary)) P (λ e. keeps b pending_bytes characters front h)
+      cond_both (is_hex_digit b) (Keep (Binary binary.Hex)) (cond (eqb b 34) Close (Refuse wrong.Binary)) P (λ e. keeps b pending_bytes characters front h)
       (λ e. cond_both (eqb b 34) Close (Refuse wrong.Binary) P (λ _. close-fits binary.Hex h) (λ _. tt))
 
 pub binary-fits : (m : BinaryMode) (b : ℕ) (pending_bytes characters front : List ℕ) → ModeFits (Binary m) pending_bytes characters front → StepFits (Binary m) pending_bytes characters front b (binary_action m b)

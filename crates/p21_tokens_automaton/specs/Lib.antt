@@ -1,4 +1,3 @@
-pub mod Bytes
 pub mod Step
 pub mod Reading
 pub mod Meaning

@@ -2,7 +2,8 @@
 -- proofs/Complete and proofs/Sound join it to the tokens that are laid in bytes.
 use Rattle.std.specs.Prelude.{ℕ, ◌+◌, ◌-◌, ◌*◌, ◌%◌, ◌^◌, Bool, nat_le, nat_lt, ◌==◌, ◌&&◌, ◌||◌, if◌then◌else◌, List, length, Option, Some, None, codes, slice_get}
 use lib.Utf8.{scalar}
-use Rattle.p21_tokens_automaton.specs.Bytes.{is_upper, is_keyword_byte, is_hex, hex_value, is_blank}
+use Rattle.p21_scan.specs.Bytes.{is_upper, is_keyword_byte, is_blank}
+use Rattle.p21_scan.specs.Hex.{hex_value, is_hex_digit}
 use Rattle.p21_tokens_automaton.specs.declared.mode.Mode.{Mode}
 use Rattle.p21_tokens_automaton.specs.declared.mode.Mode.TheVariants.{Between, Slash, Comment, Star, Number, Word, Name, Binary, Text}
 use Rattle.p21_tokens_automaton.specs.declared.mode.NumberMode.{NumberMode}
@@ -93,11 +94,11 @@ abbrev pub binary_action : BinaryMode → ℕ → Action
 binary_action binary.Quote byte =
     if nat_le 48 byte && nat_le byte 51 then Keep (Binary (binary.Padding (byte - 48))) else Refuse wrong.Binary
 binary_action (binary.Padding padding) byte =
-    if is_hex byte then (if has_zero_padding padding (hex_value byte) then Keep (Binary binary.Hex) else Refuse wrong.Binary)
+    if is_hex_digit byte then (if has_zero_padding padding (hex_value byte) then Keep (Binary binary.Hex) else Refuse wrong.Binary)
     else if byte == 34 && padding == 0 then Close
     else Refuse wrong.Binary
 binary_action binary.Hex byte =
-    if is_hex byte then Keep (Binary binary.Hex) else if byte == 34 then Close else Refuse wrong.Binary
+    if is_hex_digit byte then Keep (Binary binary.Hex) else if byte == 34 then Close else Refuse wrong.Binary
 
 -- a character that is known, if it is a scalar value
 abbrev pub put_scalar : TextMode → ℕ → Action
@@ -165,37 +166,37 @@ hex_mark_action byte =
     else Refuse wrong.Directive
 
 abbrev pub arbitrary_action : ℕ → Action
-arbitrary_action byte = if is_hex byte then Skip (Text (text.ArbitrarySecond (hex_value byte))) else Refuse wrong.Directive
+arbitrary_action byte = if is_hex_digit byte then Skip (Text (text.ArbitrarySecond (hex_value byte))) else Refuse wrong.Directive
 
 abbrev pub arbitrary_second_action : ℕ → ℕ → Action
 arbitrary_second_action high byte =
-    if is_hex byte then Put (Text text.Inside) (high % 16 * 16 + hex_value byte) else Refuse wrong.Directive
+    if is_hex_digit byte then Put (Text text.Inside) (high % 16 * 16 + hex_value byte) else Refuse wrong.Directive
 
 abbrev pub first2_action : ℕ → Action
-first2_action byte = if is_hex byte then Skip (Text (text.Extended2Digits 1 (hex_value byte))) else Refuse wrong.Directive
+first2_action byte = if is_hex_digit byte then Skip (Text (text.Extended2Digits 1 (hex_value byte))) else Refuse wrong.Directive
 
 abbrev pub digits2_action : ℕ → ℕ → ℕ → Action
 digits2_action count value byte =
-    if is_hex byte then (if nat_lt count 3 then Skip (Text (text.Extended2Digits (count + 1) (group_value value byte))) else group_action (group_value value byte))
+    if is_hex_digit byte then (if nat_lt count 3 then Skip (Text (text.Extended2Digits (count + 1) (group_value value byte))) else group_action (group_value value byte))
     else Refuse wrong.Directive
 
 abbrev pub low_first_action : ℕ → ℕ → Action
 low_first_action high byte =
-    if is_hex byte then Skip (Text (text.LowDigits high 1 (hex_value byte)))
+    if is_hex_digit byte then Skip (Text (text.LowDigits high 1 (hex_value byte)))
     else if byte == 92 then Refuse wrong.CodePoint
     else Refuse wrong.Directive
 
 abbrev pub low_digits_action : ℕ → ℕ → ℕ → ℕ → Action
 low_digits_action high count value byte =
-    if is_hex byte then (if nat_lt count 3 then Skip (Text (text.LowDigits high (count + 1) (group_value value byte))) else low_group_action high (group_value value byte))
+    if is_hex_digit byte then (if nat_lt count 3 then Skip (Text (text.LowDigits high (count + 1) (group_value value byte))) else low_group_action high (group_value value byte))
     else Refuse wrong.Directive
 
 abbrev pub first4_action : ℕ → Action
-first4_action byte = if is_hex byte then Skip (Text (text.Extended4Digits 1 (hex_value byte))) else Refuse wrong.Directive
+first4_action byte = if is_hex_digit byte then Skip (Text (text.Extended4Digits 1 (hex_value byte))) else Refuse wrong.Directive
 
 abbrev pub digits4_action : ℕ → ℕ → ℕ → Action
 digits4_action count value byte =
-    if is_hex byte then (if nat_lt count 7 then Skip (Text (text.Extended4Digits (count + 1) (long_value value byte))) else put_scalar text.Extended4Next (long_value value byte))
+    if is_hex_digit byte then (if nat_lt count 7 then Skip (Text (text.Extended4Digits (count + 1) (long_value value byte))) else put_scalar text.Extended4Next (long_value value byte))
     else Refuse wrong.Directive
 
 abbrev pub utf8_last_action : ℕ → ℕ → Action

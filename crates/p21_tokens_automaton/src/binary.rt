@@ -1,8 +1,8 @@
 ghost use Rattle.std.specs.Prelude.{◌≡◌};
 ghost use Rattle.p21_tokens_automaton.specs.Step.{binary_action, has_zero_padding};
 
-use crate::bytes::{hex_value, is_hex};
 use crate::mode::{Action, BinaryMode, Mode, Wrong};
+use p21_scan::{hex_value, is_hex_digit};
 
 /// What a byte does inside a binary.
 pub(crate) fn binary_action(mode: BinaryMode, byte: u8) -> Action
@@ -17,7 +17,7 @@ pub(crate) fn binary_action(mode: BinaryMode, byte: u8) -> Action
             }
         }
         BinaryMode::Padding(padding) => {
-            if is_hex(byte) {
+            if is_hex_digit(byte) {
                 if is_padded(padding, hex_value(byte)) {
                     Action::Keep(Mode::Binary(BinaryMode::Hex))
                 } else {
@@ -30,7 +30,7 @@ pub(crate) fn binary_action(mode: BinaryMode, byte: u8) -> Action
             }
         }
         BinaryMode::Hex => {
-            if is_hex(byte) {
+            if is_hex_digit(byte) {
                 Action::Keep(Mode::Binary(BinaryMode::Hex))
             } else if byte == b'"' {
                 Action::Close

@@ -1,10 +1,10 @@
 ghost use Rattle.std.specs.Prelude.{◌≡◌};
 ghost use Rattle.p21_tokens_automaton.specs.Step.{between_action, punctuation_action};
 
-use crate::bytes::{is_blank, is_digit, is_upper};
 use crate::mode::{
     Absent, Action, BinaryMode, Mode, NameMode, NumberMode, Single, TextMode, WordMode, Wrong,
 };
+use p21_scan::{is_blank, is_digit, is_upper};
 
 /// A byte between tokens.
 pub(crate) fn between_action(byte: u8) -> Action

@@ -4,14 +4,12 @@
 
 mod action;
 mod binary;
-mod bytes;
 mod gap;
 mod mode;
 mod name;
 mod number;
 mod run;
 mod text;
-mod wide;
 mod word;
 
 pub use action::advance;
@@ -19,4 +17,4 @@ pub use mode::{
     Absent, Action, BinaryMode, Marker, Mode, NameMode, NumberMode, Single, TextMode, WordMode,
     Wrong,
 };
-pub use run::{Run, blanks, keyword_bytes, name_digits, plain_characters, run_of};
+pub use run::{Run, blanks, plain_characters, run_of};

@@ -1,8 +1,8 @@
 ghost use Rattle.std.specs.Prelude.{◌≡◌};
 ghost use Rattle.p21_tokens_automaton.specs.Step.{name_action, name_digit_action};
 
-use crate::bytes::{is_digit, is_upper};
 use crate::mode::{Absent, Action, Mode, NameMode, Wrong};
+use p21_scan::{is_digit, is_upper};
 
 /// What a byte does inside an instance name.
 pub(crate) fn name_action(mode: NameMode, byte: u8) -> Action

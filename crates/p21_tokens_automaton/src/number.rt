@@ -1,8 +1,8 @@
 ghost use Rattle.std.specs.Prelude.{◌≡◌};
 ghost use Rattle.p21_tokens_automaton.specs.Step.{number_action, mode_behind_digit, non_digit_action};
 
-use crate::bytes::is_digit;
 use crate::mode::{Action, Mode, NumberMode, Wrong};
+use p21_scan::is_digit;
 
 /// What a byte does inside a number.
 pub(crate) fn number_action(mode: NumberMode, byte: u8) -> Action

@@ -1,16 +1,15 @@
 ghost use Rattle.p21_spec_basics.specs.Digits.{is_digit};
 ghost use Rattle.std.specs.Prelude.{◌≡◌, ◌^◌, ◌<◌, ◌≤◌, ◌⊎◌, false, length, slice_index};
-ghost use Rattle.p21_tokens_automaton.specs.Run.{IsRun, AreNameDigits, AreOfClass, EachHasAction, is_of_class};
-ghost use Rattle.p21_tokens_automaton.specs.declared.mode.Action.TheVariants.{Keep, Pass, Put};
-ghost use Rattle.p21_tokens_automaton.specs.declared.mode.Mode.TheVariants.{Between, Name, Text, Word};
+ghost use Rattle.p21_tokens_automaton.specs.Run.{IsRun, AreNameDigits, EachHasAction};
+ghost use Rattle.p21_scan.specs.Class.{is_of_class};
+ghost use Rattle.p21_tokens_automaton.specs.declared.mode.Action.TheVariants.{Pass, Put};
+ghost use Rattle.p21_tokens_automaton.specs.declared.mode.Mode.TheVariants.{Between, Name, Text};
 ghost use Rattle.p21_tokens_automaton.specs.declared.mode.NameMode.TheVariants.{Digits};
 ghost use Rattle.p21_tokens_automaton.specs.declared.mode.TextMode.TheVariants.{Inside};
-ghost use Rattle.p21_tokens_automaton.specs.declared.mode.WordMode.TheVariants.{Keyword};
-ghost use Rattle.p21_tokens_automaton.specs.declared.run.Class.TheVariants.{Blank, KeywordByte, Plain};
+ghost use Rattle.p21_scan.specs.declared.class.Class.TheVariants.{Blank, Plain};
 
-use crate::bytes::{is_blank, is_digit, is_hex, is_keyword_byte};
 use crate::mode::{BinaryMode, Mode, NameMode, NumberMode, TextMode, WordMode};
-use crate::wide::long_prefix;
+use p21_scan::{Class, is_digit, long_prefix, rare_prefix, short_prefix};
 
 /// How many bytes at the front leave the mode as it is, and what each of them does.
 #[derive(Clone, Copy, Debug, PartialEq, Eq)]
@@ -70,7 +69,7 @@ fn text_run(bytes: &[u8]) -> Run
 /// Digits of an instance name at the front, behind those that stand for a number, as long as any digit more is in range:
 /// how many, and the number that they stand for with those before them.
 #[inline]
-pub fn name_digits(value: u64, bytes: &[u8]) -> (usize, u64)
+fn name_digits(value: u64, bytes: &[u8]) -> (usize, u64)
     ensures are { AreNameDigits (Name (Digits value)) bytes.now result.0 result.1 }
     ensures ends { result.0 < length bytes.now → (is_digit (slice_index bytes.now result.0) ≡ false) ⊎ (10 ^ 18 ≤ result.1) }
 {
@@ -89,16 +88,7 @@ pub fn blanks(bytes: &[u8]) -> usize
     ensures are { EachHasAction Between bytes.now result (λ byte. Pass Between) }
     ensures ends { result < length bytes.now → is_of_class Blank (slice_index bytes.now result) ≡ false }
 {
-    front(Class::Blank, bytes)
-}
-
-/// How many bytes of a keyword stand at the front.
-#[inline]
-pub fn keyword_bytes(bytes: &[u8]) -> usize
-    ensures are { EachHasAction (Word Keyword) bytes.now result (λ byte. Keep (Word Keyword)) }
-    ensures ends { result < length bytes.now → is_of_class KeywordByte (slice_index bytes.now result) ≡ false }
-{
-    long_prefix(Class::KeywordByte, bytes)
+    rare_prefix(Class::Blank, bytes)
 }
 
 /// How many bytes at the front are characters of a string, each of one byte.
@@ -112,63 +102,3 @@ pub fn plain_characters(bytes: &[u8]) -> usize
 
 /// A number below it can take any digit more.
 const SHORT_NAME: u64 = 1_000_000_000_000_000_000;
-
-/// Bytes that a mode takes all alike.
-#[derive(Clone, Copy)]
-pub(crate) enum Class {
-    Blank,
-    /// Inside a comment, any but `*`.
-    Commented,
-    Digit,
-    KeywordByte,
-    HexDigit,
-    /// Inside a string, a character of its own.
-    Plain,
-    /// Inside a string, a character of its own, or one of its bytes in UTF-8.
-    CharacterByte,
-}
-
-#[inline(always)]
-fn is_of_class(class: Class, byte: u8) -> bool
-    ensures { result ≡ is_of_class class byte }
-{
-    match class {
-        Class::Blank => is_blank(byte),
-        Class::Commented => byte != b'*',
-        Class::Digit => is_digit(byte),
-        Class::KeywordByte => is_keyword_byte(byte),
-        Class::HexDigit => is_hex(byte),
-        Class::CharacterByte => b' ' <= byte && byte != b'\'' && byte != b'\\' && byte != 127,
-        Class::Plain => b' ' <= byte && byte <= b'~' && byte != b'\'' && byte != b'\\',
-    }
-}
-
-/// How many bytes at the front are of the class, where there is often none.
-#[inline]
-fn front(class: Class, bytes: &[u8]) -> usize
-    ensures are { AreOfClass class bytes.now result }
-    ensures ends { result < length bytes.now → is_of_class class (slice_index bytes.now result) ≡ false }
-{
-    match bytes.first() {
-        None => 0,
-        Some(byte) => {
-            if !is_of_class(class, *byte) {
-                return 0;
-            }
-            long_prefix(class, bytes)
-        }
-    }
-}
-
-/// How many bytes at the front are of the class, where there are often few.
-#[inline(always)]
-pub(crate) fn short_prefix(class: Class, bytes: &[u8]) -> usize
-    ensures are { AreOfClass class bytes.now result }
-    ensures ends { result < length bytes.now → is_of_class class (slice_index bytes.now result) ≡ false }
-{
-    let mut count = 0;
-    while count < bytes.len() && is_of_class(class, bytes[count]) {
-        count += 1;
-    }
-    count
-}

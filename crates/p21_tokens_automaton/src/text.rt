@@ -1,9 +1,9 @@
 ghost use Rattle.std.specs.Prelude.{◌≡◌, ◌&&◌, nat_le, IsTrue};
-ghost use Rattle.p21_tokens_automaton.specs.Bytes.{is_hex};
+ghost use Rattle.p21_scan.specs.Hex.{is_hex_digit};
 ghost use Rattle.p21_tokens_automaton.specs.Step.{text_action, inside_action, utf8_action, utf8_value, utf8_last_action, directive_action, backslash_action, page_action, hex_mark_action, arbitrary_action, arbitrary_second_action, put_scalar, first2_action, group_value, digits2_action, group_action, low_first_action, low_digits_action, low_group_action, first4_action, digits4_action};
 
-use crate::bytes::{hex_value, is_hex};
 use crate::mode::{Action, Mode, TextMode, Wrong};
+use p21_scan::{hex_value, is_hex_digit};
 
 /// What a byte does inside a string.
 pub(crate) fn text_action(mode: TextMode, byte: u8) -> Action
@@ -177,7 +177,7 @@ fn hex_mark_action(byte: u8) -> Action
 fn arbitrary_action(byte: u8) -> Action
     ensures { result ≡ arbitrary_action byte }
 {
-    if is_hex(byte) {
+    if is_hex_digit(byte) {
         Action::Skip(Mode::Text(TextMode::ArbitrarySecond(hex_value(byte))))
     } else {
         Action::Refuse(Wrong::Directive)
@@ -187,7 +187,7 @@ fn arbitrary_action(byte: u8) -> Action
 fn arbitrary_second_action(high: u8, byte: u8) -> Action
     ensures { result ≡ arbitrary_second_action high byte }
 {
-    if is_hex(byte) {
+    if is_hex_digit(byte) {
         let character = (high % 16 * 16 + hex_value(byte)) as char;
         Action::Put(Mode::Text(TextMode::Inside), character)
     } else {
@@ -209,7 +209,7 @@ fn put_scalar(mode: TextMode, character: u32) -> Action
 fn first2_action(byte: u8) -> Action
     ensures { result ≡ first2_action byte }
 {
-    if is_hex(byte) {
+    if is_hex_digit(byte) {
         Action::Skip(Mode::Text(TextMode::Extended2Digits(1, u16::from(hex_value(byte)))))
     } else {
         Action::Refuse(Wrong::Directive)
@@ -218,7 +218,7 @@ fn first2_action(byte: u8) -> Action
 
 /// The value of a group with one digit more, of at most four.
 fn group_value(value: u16, byte: u8) -> u16
-    requires { IsTrue (is_hex byte) }
+    requires { IsTrue (is_hex_digit byte) }
     ensures { result ≡ group_value value byte }
 {
     value % 4096 * 16 + u16::from(hex_value(byte))
@@ -227,7 +227,7 @@ fn group_value(value: u16, byte: u8) -> u16
 fn digits2_action(count: u8, value: u16, byte: u8) -> Action
     ensures { result ≡ digits2_action count value byte }
 {
-    if !is_hex(byte) {
+    if !is_hex_digit(byte) {
         return Action::Refuse(Wrong::Directive);
     }
     let value = group_value(value, byte);
@@ -253,7 +253,7 @@ fn group_action(value: u16) -> Action
 fn low_first_action(high: u16, byte: u8) -> Action
     ensures { result ≡ low_first_action high byte }
 {
-    if is_hex(byte) {
+    if is_hex_digit(byte) {
         Action::Skip(Mode::Text(TextMode::LowDigits(high, 1, u16::from(hex_value(byte)))))
     } else if byte == b'\\' {
         Action::Refuse(Wrong::CodePoint)
@@ -265,7 +265,7 @@ fn low_first_action(high: u16, byte: u8) -> Action
 fn low_digits_action(high: u16, count: u8, value: u16, byte: u8) -> Action
     ensures { result ≡ low_digits_action high count value byte }
 {
-    if !is_hex(byte) {
+    if !is_hex_digit(byte) {
         return Action::Refuse(Wrong::Directive);
     }
     let value = group_value(value, byte);
@@ -300,7 +300,7 @@ fn low_group_action(high: u16, value: u16) -> Action
 fn first4_action(byte: u8) -> Action
     ensures { result ≡ first4_action byte }
 {
-    if is_hex(byte) {
+    if is_hex_digit(byte) {
         Action::Skip(Mode::Text(TextMode::Extended4Digits(1, u32::from(hex_value(byte)))))
     } else {
         Action::Refuse(Wrong::Directive)
@@ -310,7 +310,7 @@ fn first4_action(byte: u8) -> Action
 fn digits4_action(count: u8, value: u32, byte: u8) -> Action
     ensures { result ≡ digits4_action count value byte }
 {
-    if !is_hex(byte) {
+    if !is_hex_digit(byte) {
         return Action::Refuse(Wrong::Directive);
     }
     let value = value % 0x1000_0000 * 16 + u32::from(hex_value(byte));

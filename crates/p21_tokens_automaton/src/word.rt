@@ -1,8 +1,8 @@
 ghost use Rattle.std.specs.Prelude.{◌≡◌, slice_get};
 ghost use Rattle.p21_tokens_automaton.specs.Step.{word_action, marker_text, marker_action};
 
-use crate::bytes::{is_keyword_byte, is_upper};
 use crate::mode::{Action, Marker, Mode, WordMode, Wrong};
+use p21_scan::{is_keyword_byte, is_upper};
 
 /// What a byte does inside a keyword or an enumeration item.
 pub(crate) fn word_action(mode: WordMode, byte: u8) -> Action

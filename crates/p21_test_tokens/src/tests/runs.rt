@@ -1,8 +1,8 @@
 //! How many bytes of a kind stand at the front.
 
 use p21_tokens_automaton::{
-    BinaryMode, Marker, Mode, NameMode, NumberMode, Run, TextMode, WordMode, blanks, keyword_bytes,
-    name_digits, plain_characters, run_of,
+    BinaryMode, Marker, Mode, NameMode, NumberMode, Run, TextMode, WordMode, blanks,
+    plain_characters, run_of,
 };
 
 /// A state, bytes, and the run at their front.
@@ -22,6 +22,9 @@ const WHOLE: Mode = Mode::Number(NumberMode::Whole);
 
 const KEYWORD: Mode = Mode::Word(WordMode::Keyword);
 
+/// Behind a 7 of an instance name.
+const NAME: Mode = Mode::Name(NameMode::Digits(7));
+
 const INSIDE: Mode = Mode::Text(TextMode::Inside);
 
 const RUNS: Runs = &[
@@ -38,7 +41,7 @@ const RUNS: Runs = &[
         Run::Passed(0),
     ),
     (Mode::Binary(BinaryMode::Hex), b"0AFG", Run::PendingBytes(3)),
-    (Mode::Name(NameMode::Digits(7)), b"05=", Run::Named(2, 705)),
+    (NAME, b"05=", Run::Named(2, 705)),
     (INSIDE, b"a ~'b", Run::Characters(3)),
     (INSIDE, b"a\\", Run::Characters(1)),
     (INSIDE, b"a\nb", Run::Characters(1)),
@@ -63,7 +66,9 @@ const FRONTS: &[(&[u8], usize, usize)] = &[
 
 fn first_wrong_front() -> Option<usize> {
     for (place, (bytes, keyword, plain)) in FRONTS.iter().enumerate() {
-        if keyword_bytes(bytes) != *keyword || plain_characters(bytes) != *plain {
+        if run_of(KEYWORD, bytes) != Run::PendingBytes(*keyword)
+            || plain_characters(bytes) != *plain
+        {
             return Some(place);
         }
     }
@@ -102,7 +107,7 @@ const DIGITS: &[(&[u8], usize, u64)] = &[
 
 fn first_wrong_digits() -> Option<usize> {
     for (place, (bytes, count, value)) in DIGITS.iter().enumerate() {
-        if name_digits(7, bytes) != (*count, *value) {
+        if run_of(NAME, bytes) != Run::Named(*count, *value) {
             return Some(place);
         }
     }

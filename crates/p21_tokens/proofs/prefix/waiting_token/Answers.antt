@@ -1,5 +1,5 @@
 use Rattle.std.proofs.Common.{◌≡◌, false, IfSome, OnErr, subst}
-use Rattle.p21_tokens_automaton.specs.Bytes.{is_blank}
+use Rattle.p21_scan.specs.Bytes.{is_blank}
 use Rattle.p21_tokens.proofs.prefix.waiting_token.Goals as goal
 
 pub returns-in_default-clause-no_memory : goal.returns-in_default-clause-no_memory

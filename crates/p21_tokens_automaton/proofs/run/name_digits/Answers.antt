@@ -2,7 +2,7 @@ use Rattle.std.proofs.Common.{◌≡◌, ℕ, ◌+◌, ◌*◌, subst, sym, ◌�
 use Rattle.p21_tokens_automaton.specs.Run.{AreNameDigits}
 use Rattle.p21_tokens_automaton.specs.declared.mode.Mode.TheVariants.{Name}
 use Rattle.p21_tokens_automaton.specs.declared.mode.NameMode.TheVariants.{Digits}
-use Rattle.p21_tokens_automaton.proofs.Classes.{digit-decides}
+use Rattle.p21_scan.proofs.Classes.{digit-decides}
 use Rattle.p21_tokens_automaton.proofs.Runs.{digits-more}
 use Rattle.p21_tokens_automaton.proofs.run.name_digits.Goals as goal
 use Rattle.p21_spec_basics.specs.Digits.{is_digit}
