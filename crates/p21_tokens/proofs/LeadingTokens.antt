@@ -10,13 +10,14 @@ use Rattle.p21_spec_exchange.specs.Laying.{count_behind}
 use Rattle.p21_spec_exchange.specs.Token as meaning
 use Rattle.p21_spec_basics.specs.Digits.{IsDigit, number as value_of}
 use Rattle.p21_spec_exchange.proofs.Forms.{NoDigitFirst}
+use Rattle.p21_scan.proofs.Classes.{digit-decides}
 use Rattle.p21_scan.proofs.NamesAt.{name-spells}
 use Rattle.p21_scan.specs.Digits.{BeginsWithoutByte}
 use Rattle.p21_scan.specs.Name.{IsNameAt}
 use Rattle.p21_scan.specs.Text.{EndsText}
 use Rattle.p21_scan.specs.Word.{IsTokenAt}
 use Rattle.p21_spec_exchange.specs.Keyword.{IsKeyword, IsUpper}
-use Rattle.p21_spec_exchange.specs.Number as number
+use Rattle.p21_spec_exchange.specs.Number as value
 use Rattle.p21_spec_exchange.specs.Number.{SpellsReal, SpellsWhole}
 use Rattle.p21_spec_exchange.specs.Token.{Spells, MayFollow}
 use Rattle.p21_tokens_automaton.proofs.Once.{spells-means}
@@ -28,11 +29,12 @@ use Rattle.p21_scan.specs.Bytes.{is_blank}
 use Rattle.p21_tokens_automaton.specs.Meaning.{found_of}
 use Rattle.p21_tokens_automaton.specs.Reading.{known, State, start, before, FoundToken, single_token, ended_token, lex}
 use Rattle.p21_tokens_automaton.specs.Step.{advance}
-use Rattle.p21_tokens_automaton.specs.declared.mode.Mode.TheVariants.{Between, Text}
+use Rattle.p21_tokens_automaton.specs.declared.mode.Mode.TheVariants.{Between, Number, Text}
+use Rattle.p21_tokens_automaton.specs.declared.mode.NumberMode.TheVariants as number
 use Rattle.p21_tokens_automaton.specs.declared.mode.TextMode.TheVariants.{Inside, Apostrophe}
 use Rattle.p21_tokens_automaton.specs.declared.mode.Single.{Single}
-use Rattle.p21_tokens_automaton.specs.declared.mode.Action.TheVariants.{Pass, Give}
-use Rattle.p21_tokens.specs.Prefix.{ReachesWaitingToken, ReachesToken, single, leads, ArePlain, TakesLeadingToken}
+use Rattle.p21_tokens_automaton.specs.declared.mode.Action.TheVariants.{Give, Keep, Pass}
+use Rattle.p21_tokens.specs.Prefix.{EndsNumber, ReachesWaitingToken, ReachesToken, single, leads, ArePlain, TakesLeadingToken}
 use Rattle.p21_tokens.specs.Held.{Held, pending_of, state_of}
 use Rattle.p21_tokens.specs.Steps.{AreBlank, SameCounts, SameLimits, TakesRun, GivesToken, HandsOverToken, Steps, Scans, handed}
 use Rattle.p21_tokens.specs.declared.fault.TokenFault.TheVariants as fault
@@ -167,6 +169,13 @@ along-no_front v w u piece n a e = subst (λ (x : Held). Along v x piece n) (sym
 
 -- ---- which tokens stand there
 
+-- what ends a number is neither a digit nor the byte that it goes on with
+ends_whole : (byte : ℕ) → EndsNumber number.Whole byte → (¬ IsDigit byte) × (byte ≢ 46)
+ends_whole byte e = (λ d. let on : advance (Number number.Whole) byte ≡ Keep (Number number.Whole) = rw ((digit-decides byte).1 d) refl in cc, λ point. let on : advance (Number number.Whole) byte ≡ Keep (Number number.Fraction) = rw point refl in cc)
+
+ends_fraction : (byte : ℕ) → EndsNumber number.Fraction byte → (¬ IsDigit byte) × (byte ≢ 69)
+ends_fraction byte e = (λ d. let on : advance (Number number.Fraction) byte ≡ Keep (Number number.Fraction) = rw ((digit-decides byte).1 d) refl in cc, λ mark. let on : advance (Number number.Fraction) byte ≡ Keep (Number number.Exponent) = rw mark refl in cc)
+
 module _ (bytes : List ℕ) (count byte : ℕ) (found : (count < length bytes) × ((d : ℕ) → byte ≡ get_or bytes count d)) where
   waits-leads : (t : meaning.Token) → Spells t (take count bytes) → Waits t (take count bytes) → MayFollow t (take count bytes) byte → ReachesWaitingToken bytes count t
   waits-leads t s w m =
@@ -183,11 +192,11 @@ module _ (bytes : List ℕ) (count byte : ℕ) (found : (count < length bytes) �
         ends = w.ends byte m;
       }
 
-  pub leads_whole : (z : ℤ) → SpellsWhole (take count bytes) z → ¬ IsDigit byte → byte ≢ 46 → ReachesWaitingToken bytes count (meaning.whole z)
-  leads_whole z s d p = waits-leads (meaning.whole z) s (waits-whole z (take count bytes) s) (d, p)
+  pub leads_whole : (z : ℤ) → SpellsWhole (take count bytes) z → EndsNumber number.Whole byte → ReachesWaitingToken bytes count (meaning.whole z)
+  leads_whole z s e = waits-leads (meaning.whole z) s (waits-whole z (take count bytes) s) (ends_whole byte e)
 
-  pub leads_real : (z : number.Decimal) → SpellsReal (take count bytes) z → ¬ IsDigit byte → byte ≢ 69 → ReachesWaitingToken bytes count (meaning.real z)
-  leads_real z s d e = waits-leads (meaning.real z) s (waits-real z (take count bytes) s) (d, λ _. e)
+  pub leads_real : (z : value.Decimal) → SpellsReal (take count bytes) z → EndsNumber number.Fraction byte → ReachesWaitingToken bytes count (meaning.real z)
+  leads_real z s e = let end = ends_fraction byte e in waits-leads (meaning.real z) s (waits-real z (take count bytes) s) (end.0, λ _. end.1)
 
 -- ---- tokens by their spellings
 

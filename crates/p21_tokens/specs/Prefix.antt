@@ -7,7 +7,8 @@ use Rattle.p21_tokens_automaton.specs.Meaning.{Means}
 use Rattle.p21_tokens_automaton.specs.Reading.{State, start, FoundToken, ended_token, single_token, lex}
 use Rattle.p21_tokens_automaton.specs.Run.{EachHasAction}
 use Rattle.p21_tokens_automaton.specs.Step.{advance}
-use Rattle.p21_tokens_automaton.specs.declared.mode.Mode.TheVariants.{Between, Text}
+use Rattle.p21_tokens_automaton.specs.declared.mode.Mode.TheVariants.{Between, Number, Text}
+use Rattle.p21_tokens_automaton.specs.declared.mode.NumberMode.{NumberMode}
 use Rattle.p21_tokens_automaton.specs.declared.mode.Single.{Single}
 use Rattle.p21_tokens_automaton.specs.declared.mode.TextMode.TheVariants.{Inside}
 use Rattle.p21_tokens_automaton.specs.declared.mode.Action.TheVariants.{End, Give, Put}
@@ -43,6 +44,10 @@ abbrev pub ReadsLeadingToken : List ℕ → Option (Result (ℕ × Token) NoMemo
 ReadsLeadingToken bytes (Some (Ok front)) = ReachesToken bytes front.0 (meant front.1)
 ReadsLeadingToken bytes (Some (Err fault)) = is_blank (get_or bytes 0 0) ≡ false
 ReadsLeadingToken bytes None = Unit {0}
+
+-- the byte ends a number that led to the mode
+abbrev pub EndsNumber : NumberMode → ℕ → Type 0
+EndsNumber mode byte = advance (Number mode) byte ≡ End
 
 -- so many bytes at the front, each of which is a character of a string
 abbrev pub ArePlain : List ℕ → ℕ → Type 0

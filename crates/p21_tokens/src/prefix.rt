@@ -1,16 +1,16 @@
 //! Tokens that stand whole at the front of bytes, read without a state.
-ghost use Rattle.std.specs.Prelude.{◌≡◌, ◌≤◌, false, IfOk, IfSome, OnErr, get_or};
+ghost use Rattle.std.specs.Prelude.{◌≡◌, ◌≤◌, false, true, IfOk, IfSome, OnErr, get_or};
 ghost use Rattle.p21_scan.specs.Bytes.{is_blank};
 ghost use Rattle.p21_tokens_automaton.specs.Step.{advance};
 ghost use Rattle.p21_tokens_automaton.specs.declared.mode.Mode.TheVariants.{Between};
 ghost use Rattle.p21_tokens_automaton.specs.declared.mode.Action.TheVariants.{Give};
-ghost use Rattle.p21_tokens.specs.Prefix.{ArePlain, ReachesWaitingToken, ReadsLeadingToken, ReadsWaitingToken};
+ghost use Rattle.p21_tokens.specs.Prefix.{ArePlain, EndsNumber, ReachesWaitingToken, ReadsLeadingToken, ReadsWaitingToken};
 ghost use Rattle.p21_tokens.specs.Token.{meant};
 
 use crate::read_token::single_token;
 use crate::token::Token;
 use p21_scan::{behind, ends_text, name_number, scan_keyword, scan_name};
-use p21_tokens_automaton::{Single, plain_characters};
+use p21_tokens_automaton::{Action, Mode, NumberMode, Single, advance, plain_characters};
 use p21_values::{Name, NoMemory, Number, Text, Word, read_number};
 use std::alloc::Global;
 
@@ -67,23 +67,27 @@ fn leading_number(alloc: Global, bytes: &[u8]) -> LeadingToken
         Err(fault) => return Some(Err(fault)),
     };
     let next = *bytes.get(count)?;
-    if next.is_ascii_digit() {
-        return None;
-    }
     match number {
         Number::Whole(number) => {
-            if next == b'.' {
+            if !ends_number(NumberMode::Whole, next) {
                 return None;
             }
             Some(Ok((count, Token::Whole(number))))
         }
         Number::Real(number) => {
-            if next == b'E' {
+            if !ends_number(NumberMode::Fraction, next) {
                 return None;
             }
             Some(Ok((count, Token::Real(number))))
         }
     }
+}
+
+/// Whether a byte ends the number that led to the mode.
+fn ends_number(mode: NumberMode, byte: u8) -> bool
+    ensures { result ≡ true → EndsNumber mode byte }
+{
+    matches!(advance(Mode::Number(mode), byte), Action::End)
 }
 
 fn leading_keyword(alloc: Global, bytes: &[u8]) -> LeadingToken
@@ -104,7 +108,7 @@ fn leading_name(bytes: &[u8]) -> Option<(usize, Token)>
     let (digits, rest) = scan_name(bytes)?;
     let (_byte, _more) = rest.split_first()?;
     let number = name_number(digits)?;
-    Some((digits.len() + 1, Token::Name(Name(number))))
+    Some((bytes.len() - rest.len(), Token::Name(Name(number))))
 }
 
 fn leading_text(alloc: Global, bytes: &[u8]) -> LeadingToken
