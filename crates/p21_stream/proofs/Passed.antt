@@ -37,6 +37,7 @@ use Rattle.p21_stream.specs.Pieces.{EndsNoToken, IsUnderWay, NeedsNoMemory, Step
 use Rattle.p21_tokens.specs.Histories.{AreSeparators}
 use Rattle.p21_transcribe.specs.Gaps.{PassesSeparators}
 use Rattle.p21_transcribe_instance.specs.Instance.{TakesInstance}
+use Rattle.p21_transcribe_instance.specs.declared.taken.Taken.{Taken}
 use Rattle.p21_transcribe_instance.specs.TakenValues.{LaidBefore}
 
 -- a `#` is no separator: bytes that have one behind their separators have a byte that is none
@@ -85,11 +86,12 @@ front-is piece front rest is =
 
 -- ---- what is found
 
-pub found-in : (s : Schema) (n : ℕ) (entities piece rest old new : List ℕ) (before after : List Need) → TakesInstance s n entities piece rest old new before after → old ≡ [] → before ≡ [] → IsFoundIn s n entities (take (length piece - length rest) piece) new (map need_view after)
-found-in s n entities piece rest old new before after takes no_text no_needs =
+pub found-in : (s : Schema) (n : ℕ) (entities piece rest : List ℕ) (old new : Taken) → TakesInstance s n entities piece rest old new → old.draft ≡ [] → old.needs.items ≡ []
+    → IsFoundIn s n entities (take (length piece - length rest) piece) new.draft (map need_view new.needs.items)
+found-in s n entities piece rest old new takes no_text no_needs =
     let (front, is, laid) = laid-front piece rest (statement_tokens (instance n takes.record_)) takes.laid in
-    let text : new ≡ takes.text = takes.appended ∙ ap (λ (l : List ℕ). l ++ takes.text) no_text in
-    let needs : after ≡ takes.added = takes.needs_are ∙ ap (λ (l : List Need). l ++ takes.added) no_needs in
+    let text : new.draft ≡ takes.text = takes.appended ∙ ap (λ (l : List ℕ). l ++ takes.text) no_text in
+    let needs : new.needs.items ≡ takes.added = takes.needs_are ∙ ap (λ (l : List Need). l ++ takes.added) no_needs in
     record {
       record_ = takes.record_;
       are = record {

@@ -1,12 +1,11 @@
 //! Instances that stand whole at the beginning of a piece, taken straight from their bytes (ISO 10303-21, data sections).
-ghost use Rattle.std.specs.Prelude.{◌≡◌, ◌≤◌, ℕ, List, [], length, take, IfErr, IfSome, IsTrue};
+ghost use Rattle.std.specs.Prelude.{◌≡◌, ◌≤◌, [], length, IfErr, IfSome, IsTrue};
 ghost use Rattle.p21_mapping_values.specs.TypedView.{ids_view};
 ghost use Rattle.p21_spec_schema.specs.Schema.{Schema as Meant};
-ghost use Rattle.p21_mapping.specs.Checked.{needs_view};
 ghost use Rattle.p21_stream_statements.specs.Source.{IsOfBytes};
 ghost use Rattle.p21_stream_statements.specs.StatementReader.{limits_of};
 ghost use Rattle.p21_stream_kept.specs.Steps.{StepKeepsBound};
-ghost use Rattle.p21_stream.specs.Passing.{HasEntities, IsFoundIn, PassGives};
+ghost use Rattle.p21_stream.specs.Passing.{FindsInstance, HasEntities, PassGives};
 ghost use Rattle.p21_stream.specs.Pieces.{EndsNoToken, IsUnderWay, NeedsNoMemory, TakesWithinPiece};
 ghost use Rattle.p21_tokens.specs.Histories.{AreSeparators};
 ghost use Rattle.p21_transcribe_instance.specs.Steps.{IsPlanOf};
@@ -15,11 +14,10 @@ ghost use Rattle.p21_transcribe_instance.specs.ExternalSet.{AreExternalSets};
 use crate::progress::{Progress, refused};
 use p21_express_graph::EntityId;
 use p21_express_tables::Schema;
-use p21_mapping_values::Need;
 use p21_stream_kept::FoundInstance;
 use p21_stream_statements::{Fault, Refusal};
 use p21_transcribe::{Draft, behind_separators};
-use p21_transcribe_instance::{Plan, Sets, append_external, append_instance};
+use p21_transcribe_instance::{Plan, Sets, Taken, append_external, append_instance};
 use p21_values::{Limits, Name};
 
 /// The most bytes of a canonical line that is made so.
@@ -79,10 +77,9 @@ impl Progress {
             &mut self.plan,
             &mut self.sets,
             piece,
-            &mut self.draft,
-            &mut self.needs,
+            &mut self.taken,
         ) else {
-            if lacks_memory(piece, &self.draft) {
+            if lacks_memory(piece, &self.taken.draft) {
                 return Err(refused(Fault::NoMemory, None, self.statement));
             }
             return Ok(None);
@@ -93,12 +90,12 @@ impl Progress {
         if !self.statements.pass_over(found.count) {
             return Ok(None);
         }
-        let line = self.draft.between(0, self.draft.len());
+        let line = self.taken.draft.between(0, self.taken.draft.len());
         let instance = FoundInstance {
             name: found.name,
             entities,
             line,
-            needs: &self.needs,
+            needs: &self.taken.needs,
         };
         match self.kept.take_found(schema, limits, &instance) {
             Ok(()) => {
@@ -118,27 +115,26 @@ pub(crate) fn find(
     plan: &mut Plan,
     sets: &mut Sets,
     piece: &[u8],
-    draft: &mut Draft,
-    needs: &mut Vec<Need>,
+    taken: &mut Taken,
 ) -> Option<Passing>
     requires plan { IsPlanOf schema.now plan.old }
     requires sets { AreExternalSets schema.now sets.old }
-    ensures found { IfSome result (λ found. (entities : List ℕ) × HasEntities schema.now sets.new found.set entities × IsFoundIn schema.now found.name entities (take found.count piece.now) draft.new (needs_view needs.new.items)) }
+    ensures found { IfSome result (λ found. FindsInstance schema.now sets.new found piece.now taken.new) }
     ensures within { IfSome result (λ found. found.count ≤ length piece.now) }
     ensures plan { IsPlanOf schema.now plan.new }
     ensures sets { AreExternalSets schema.now sets.new }
 {
-    if !has_room(piece, draft) {
+    if !has_room(piece, &mut taken.draft) {
         return None;
     }
-    forget(draft, needs);
-    match append_instance(schema, plan, piece, draft, needs) {
+    forget(taken);
+    match append_instance(schema, plan, piece, taken) {
         Some(instance) => Some(Passing {
             name: instance.name,
             set: Set::Own(instance.entity),
             count: piece.len() - instance.rest.len(),
         }),
-        None => find_external(schema, sets, piece, draft, needs),
+        None => find_external(schema, sets, piece, taken),
     }
 }
 
@@ -185,16 +181,15 @@ fn find_external(
     schema: &Schema,
     sets: &mut Sets,
     piece: &[u8],
-    draft: &mut Draft,
-    needs: &mut Vec<Need>,
+    taken: &mut Taken,
 ) -> Option<Passing>
     requires { AreExternalSets schema.now sets.old }
-    ensures found { IfSome result (λ found. (entities : List ℕ) × HasEntities schema.now sets.new found.set entities × IsFoundIn schema.now found.name entities (take found.count piece.now) draft.new (needs_view needs.new.items)) }
+    ensures found { IfSome result (λ found. FindsInstance schema.now sets.new found piece.now taken.new) }
     ensures within { IfSome result (λ found. found.count ≤ length piece.now) }
     ensures sets { AreExternalSets schema.now sets.new }
 {
-    forget(draft, needs);
-    let Some(instance) = append_external(schema, sets, piece, draft, needs) else {
+    forget(taken);
+    let Some(instance) = append_external(schema, sets, piece, taken) else {
         return None;
     };
     Some(Passing {
@@ -206,12 +201,12 @@ fn find_external(
 
 /// Gives up what an instance left in the line and the references.
 #[inline(always)]
-fn forget(draft: &mut Draft, needs: &mut Vec<Need>)
-    ensures draft { draft.new ≡ [] }
-    ensures needs { needs.new.items ≡ [] }
+fn forget(taken: &mut Taken)
+    ensures draft { taken.new.draft ≡ [] }
+    ensures needs { taken.new.needs.items ≡ [] }
 {
-    draft.cut(0);
-    needs.clear();
+    taken.draft.cut(0);
+    taken.needs.clear();
 }
 
 /// The entities of a set, rising by name.

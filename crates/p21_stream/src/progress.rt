@@ -18,12 +18,10 @@ ghost use Rattle.p21_transcribe_instance.specs.Steps.{IsPlanOf};
 use crate::counting::Counted;
 use p21_express_tables::Schema;
 use p21_grammar::Event;
-use p21_mapping_values::Need;
 use p21_stream_kept::{Kept, Workspace};
 use p21_stream_output::Accepted;
 use p21_stream_statements::{At, Fault, Refusal, StatementReader};
-use p21_transcribe::Draft;
-use p21_transcribe_instance::{Plan, Sets};
+use p21_transcribe_instance::{Plan, Sets, Taken};
 use p21_values::{Limits, Name};
 use std::alloc::Global;
 
@@ -35,8 +33,7 @@ pub(crate) struct Progress {
     pub statements: StatementReader,
     pub kept: Kept,
     // The line and the references of an instance that is taken straight from its bytes.
-    pub draft: Draft,
-    pub needs: Vec<Need>,
+    pub taken: Taken,
     // What instances that are taken so need of the schema.
     pub plan: Plan,
     // The sets of instances of external mapping that are taken so.
@@ -66,8 +63,7 @@ impl Progress {
             alloc,
             statements: StatementReader::new(alloc, limits),
             kept,
-            draft: Draft::new(alloc),
-            needs: Vec::new(alloc),
+            taken: Taken::new(alloc),
             plan: Plan::new(alloc),
             sets: Sets::new(alloc),
             workspace: Workspace::new(alloc),

@@ -15,11 +15,9 @@ use crate::passing::{entities_of, find, lacks_memory};
 use crate::progress::refused;
 use crate::sieve::Sieve;
 use p21_express_tables::Schema;
-use p21_mapping_values::Need;
 use p21_stream_kept::{FoundInstance, Workspace};
 use p21_stream_statements::{Fault, Refusal, StatementReader};
-use p21_transcribe::Draft;
-use p21_transcribe_instance::{Plan, Sets};
+use p21_transcribe_instance::{Plan, Sets, Taken};
 use p21_values::Limits;
 use std::alloc::Global;
 
@@ -37,8 +35,7 @@ pub(crate) enum Stop {
 pub(crate) struct Surveying {
     pub statements: StatementReader,
     pub sieve: Sieve,
-    pub draft: Draft,
-    pub needs: Vec<Need>,
+    pub taken: Taken,
     pub plan: Plan,
     pub sets: Sets,
     pub workspace: Workspace,
@@ -62,8 +59,7 @@ impl Surveying {
         Surveying {
             statements: StatementReader::new(alloc, limits),
             sieve: Sieve::new(alloc),
-            draft: Draft::new(alloc),
-            needs: Vec::new(alloc),
+            taken: Taken::new(alloc),
             plan: Plan::new(alloc),
             sets: Sets::new(alloc),
             workspace: Workspace::new(alloc),
@@ -169,10 +165,9 @@ impl Surveying {
             &mut self.plan,
             &mut self.sets,
             piece,
-            &mut self.draft,
-            &mut self.needs,
+            &mut self.taken,
         ) else {
-            if lacks_memory(piece, &self.draft) {
+            if lacks_memory(piece, &self.taken.draft) {
                 return Err(refused(Fault::NoMemory, None, self.statement));
             }
             return Ok(None);
@@ -183,12 +178,12 @@ impl Surveying {
         if !self.statements.pass_over(found.count) {
             return Ok(None);
         }
-        let line = self.draft.between(0, self.draft.len());
+        let line = self.taken.draft.between(0, self.taken.draft.len());
         let instance = FoundInstance {
             name: found.name,
             entities,
             line,
-            needs: &self.needs,
+            needs: &self.taken.needs,
         };
         match self.sieve.take_found(schema, limits, &instance) {
             Ok(()) => {

@@ -20,11 +20,14 @@ no-minus : (byte : ℕ) → byte ≡ 40 → byte ≢ 45
 no-minus byte left = λ minus. omega (arith, left, minus)
 
 -- a keyword before a `(`
-before-left : (s : Schema) (e : ℕ) (word bytes behind old : List ℕ) → EntityNamed s e word → IsKeyword word → bytes ≡ word ++ 40 ∷ behind → TakesEntity s e bytes (40 ∷ behind) old (old ++ word)
-before-left s e word bytes behind old named keyword is = (word, named, record { laid = ([], word, 40 ∷ behind, is, ([], tt, refl), (refl, keyword), (not-keyword_byte, no-minus 40 refl), refl); appended = refl })
+before-left : (s : Schema) (e : ℕ) (word bytes behind old : List ℕ) → EntityNamed s e word → IsKeyword word → bytes ≡ word ++ 40 ∷ behind
+    → TakesEntity s e bytes (40 ∷ behind) old (old ++ word)
+before-left s e word bytes behind old named keyword is =
+    (word, named, record { laid = ([], word, 40 ∷ behind, is, ([], tt, refl), (refl, keyword), (not-keyword_byte, no-minus 40 refl), refl); appended = refl })
 
 -- with the `(`, where both are appended
-pub opened-at : (s : Schema) (e : ℕ) (bytes : List ℕ) (count : ℕ) (old new : List ℕ) → count < length bytes → get_or bytes count 0 ≡ 40 → EntityNamed s e (take count bytes) → IsKeyword (take count bytes) → new ≡ old ++ take (count + 1) bytes → TakesOpenedEntity s e bytes (drop (count + 1) bytes) old new
+pub opened-at : (s : Schema) (e : ℕ) (bytes : List ℕ) (count : ℕ) (old new : List ℕ) → count < length bytes → get_or bytes count 0 ≡ 40 → EntityNamed s e (take count bytes)
+    → IsKeyword (take count bytes) → new ≡ old ++ take (count + 1) bytes → TakesOpenedEntity s e bytes (drop (count + 1) bytes) old new
 opened-at s e bytes count old new below is named keyword appended =
     let word : List ℕ = take count bytes in
     let behind : List ℕ = drop (count + 1) bytes in

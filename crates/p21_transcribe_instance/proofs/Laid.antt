@@ -21,24 +21,29 @@ pub laid-one : (bytes : List ℕ) (count : ℕ) (one : Token) → IsLeadingToken
 laid-one bytes count one h = ([], take count bytes, drop count bytes, sym (take-append-drop count bytes), ([], tt, refl), h.spells, h.followed, refl)
 
 -- a token of one byte
-pub laid-mark : (mark : ℕ) (one : Token) (bytes rest : List ℕ) → Spells one (mark ∷ []) → ((byte : ℕ) → MayFollow one (mark ∷ []) byte) → bytes ≡ mark ∷ rest → LaidBefore bytes (one ∷ []) rest
+pub laid-mark : (mark : ℕ) (one : Token) (bytes rest : List ℕ) → Spells one (mark ∷ []) → ((byte : ℕ) → MayFollow one (mark ∷ []) byte) → bytes ≡ mark ∷ rest
+    → LaidBefore bytes (one ∷ []) rest
 laid-mark mark one bytes rest spells any e = ([], mark ∷ [], rest, e, ([], tt, refl), spells, followed-any one (mark ∷ []) rest any, refl)
 
 -- a token of one byte, behind separators
-pub laid-next : (mark : ℕ) (one : Token) (bytes rest : List ℕ) → Spells one (mark ∷ []) → ((byte : ℕ) → MayFollow one (mark ∷ []) byte) → PassesDelimiter mark bytes rest → LaidBefore bytes (one ∷ []) rest
+pub laid-next : (mark : ℕ) (one : Token) (bytes rest : List ℕ) → Spells one (mark ∷ []) → ((byte : ℕ) → MayFollow one (mark ∷ []) byte) → PassesDelimiter mark bytes rest
+    → LaidBefore bytes (one ∷ []) rest
 laid-next mark one bytes rest spells any (gap, e, separates) = (gap, mark ∷ [], rest, e, separates, spells, followed-any one (mark ∷ []) rest any, refl)
 
 -- a byte that stands behind separators
-pub mark-passed : (mark : ℕ) (bytes inside rest old new : List ℕ) → PassesSeparators bytes inside → (inside ≡ mark ∷ rest) × (new ≡ old ++ mark ∷ []) → PassesDelimiter mark bytes rest × (new ≡ old ++ mark ∷ [])
+pub mark-passed : (mark : ℕ) (bytes inside rest old new : List ℕ) → PassesSeparators bytes inside → (inside ≡ mark ∷ rest) × (new ≡ old ++ mark ∷ [])
+    → PassesDelimiter mark bytes rest × (new ≡ old ++ mark ∷ [])
 mark-passed mark bytes inside rest old new passes (first, is) = ((passes.gap, passes.bytes_are ∙ ap (λ (x : List ℕ). passes.gap ++ x) first, passes.is_gap), is)
 
 -- tokens behind others
 pub laid-join : (bytes middle rest : List ℕ) (ts us : List Token) → LaidBefore bytes ts middle → LaidBefore middle us rest → LaidBefore bytes (ts ++ us) rest
 laid-join bytes middle rest [] us e more = subst (λ (x : List ℕ). LaidBefore x us rest) (sym e) more
-laid-join bytes middle rest (t ∷ ts) us (gap, spelling, behind, e, separates, spells, followed, laid) more = (gap, spelling, behind, e, separates, spells, followed, laid-join behind middle rest ts us laid more)
+laid-join bytes middle rest (t ∷ ts) us (gap, spelling, behind, e, separates, spells, followed, laid) more =
+    (gap, spelling, behind, e, separates, spells, followed, laid-join behind middle rest ts us laid more)
 
 -- tokens in parentheses
-pub laid-enclosed : (bytes inside behind rest : List ℕ) (ts : List Token) → PassesDelimiter 40 bytes inside → LaidBefore inside ts behind → PassesDelimiter 41 behind rest → LaidBefore bytes (token.left ∷ (ts ++ (token.right ∷ []))) rest
+pub laid-enclosed : (bytes inside behind rest : List ℕ) (ts : List Token) → PassesDelimiter 40 bytes inside → LaidBefore inside ts behind → PassesDelimiter 41 behind rest
+    → LaidBefore bytes (token.left ∷ (ts ++ (token.right ∷ []))) rest
 laid-enclosed bytes inside behind rest ts opening laid close =
     laid-join bytes inside rest (token.left ∷ []) (ts ++ (token.right ∷ [])) (laid-next 40 token.left bytes inside refl (λ byte. tt) opening)
     (laid-join inside behind rest ts (token.right ∷ []) laid (laid-next 41 token.right behind rest refl (λ byte. tt) close))
@@ -46,7 +51,8 @@ laid-enclosed bytes inside behind rest ts opening laid close =
 -- tokens leave no more bytes
 pub laid-shorter : (bytes rest : List ℕ) (ts : List Token) → LaidBefore bytes ts rest → length rest ≤ length bytes
 laid-shorter bytes rest [] e = omega (arith, ap length e)
-laid-shorter bytes rest (t ∷ ts) (gap, spelling, behind, e, separates, spells, followed, laid) = omega (arith, ap length e, length-append gap (spelling ++ behind), length-append spelling behind, laid-shorter behind rest ts laid)
+laid-shorter bytes rest (t ∷ ts) (gap, spelling, behind, e, separates, spells, followed, laid) =
+    omega (arith, ap length e, length-append gap (spelling ++ behind), length-append spelling behind, laid-shorter behind rest ts laid)
 
 -- what stands behind tokens ends the bytes
 pub laid-end : (bytes rest : List ℕ) (ts : List Token) → LaidBefore bytes ts rest → (front : List ℕ) × (bytes ≡ front ++ rest)

@@ -33,7 +33,6 @@ use Rattle.p21_spec_file.specs.Meaning.{FitPlaces, NamesEntity, RecordMeans, Typ
 use Rattle.p21_spec_file.specs.Reference.{EntitySets, Need}
 use Rattle.p21_mapping.proofs.OwnSets.{own-passes, type-same}
 use Rattle.p21_mapping.proofs.Shapes.{simple-no_leaf}
-use Rattle.p21_mapping_values.specs.declared.need.Need as code
 use Rattle.p21_spec_schema.proofs.OrderedOnce.{order-distinct}
 use Rattle.p21_spec_schema.specs.Order.{order, places}
 use Rattle.p21_spec_schema.specs.Schema.{EntityNamed, Place, Schema}
@@ -47,9 +46,11 @@ use Rattle.p21_transcribe_instance.specs.Instance.{TakesInstance}
 use Rattle.p21_transcribe_instance.specs.TakenParameters.{IsPlacedParameter, PlacedParameter, TakesTokens, TakesEntity, TakesSteps, body_text, body_tokens, needs_at, params_at, places_at, texts_at}
 use Rattle.p21_transcribe_instance.specs.Steps.{AreStepsAt, MayStandAlone}
 use Rattle.p21_transcribe_instance.specs.declared.step.Step.{Step}
-use Rattle.p21_transcribe_instance.specs.TakenValues.{LaidBefore}
+use Rattle.p21_transcribe_instance.specs.declared.taken.Taken.{Taken}
+use Rattle.p21_transcribe_instance.specs.TakenValues.{LaidBefore, with_text}
 
-pub fit-with : (s : Schema) (m : Typed) (ps : List PlacedParameter) → Each (IsPlacedParameter s m.entities) ps → AreMeant m ps → FitPlacesWithNeeds s m (places_at ps) (params_at ps) (needs_at ps)
+pub fit-with : (s : Schema) (m : Typed) (ps : List PlacedParameter) → Each (IsPlacedParameter s m.entities) ps → AreMeant m ps
+    → FitPlacesWithNeeds s m (places_at ps) (params_at ps) (needs_at ps)
 fit-with s m [] each has = refl
 fit-with s m (p ∷ ps) each has = (p.needs, needs_at ps, refl, (each.0.at, p.value, each.0.type_at, each.0.fits, has.0), fit-with s m ps each.1 has.1)
 
@@ -68,7 +69,8 @@ module _ (s : Schema) (formed : IsWellFormed s) (holds : HoldsTogether s) (e : �
   meant = record { entities = set; values = values.values }
 
   in_set : Each (IsPlacedParameter s set) ps
-  in_set = Each-weaker (IsPlacedParameter s (order s e)) (IsPlacedParameter s set) (λ p here. record { at = here.at; type_at = type-same s (order s e) set same p.place here.at here.type_at; fits = here.fits; shallow = here.shallow }) ps placed
+  in_set =
+      Each-weaker (IsPlacedParameter s (order s e)) (IsPlacedParameter s set) (λ p here. record { at = here.at; type_at = type-same s (order s e) set same p.place here.at here.type_at; fits = here.fits; shallow = here.shallow }) ps placed
 
   abbrev own : Part
   own = record { key = key_of word; params = params_at ps }
@@ -146,15 +148,19 @@ pub entity-is : (s : Schema) (e : ℕ) (word : List ℕ) → EntityNamed s e wor
 entity-is s e word (x, at, is) = slice_get_within s.entities e x at
 
 -- the parts of an instance one behind the other
-pub instance-taken : (s : Schema) → IsWellFormed s → HoldsTogether s → (n e : ℕ) (entities : List ℕ) → IsOwnRising s e entities → MayStandAlone s e → (steps : List Step) → AreStepsAt s (order s e) (places s e) steps → (bytes keyed behind rest old headed worded new : List ℕ) (before after : List code.Need)
-    → TakesTokens (token.name n ∷ token.equals ∷ []) (name_spelling n ++ 61 ∷ []) bytes keyed old headed → TakesEntity s e keyed behind headed worded → TakesSteps s body_tokens body_text steps behind rest worded new before after → TakesInstance s n entities bytes rest old new before after
-instance-taken s formed holds n e entities rising may steps are bytes keyed behind rest old headed worded new before after head (word, named, key) takes =
+pub instance-taken : (s : Schema) → IsWellFormed s → HoldsTogether s → (n e : ℕ) (entities : List ℕ) → IsOwnRising s e entities → MayStandAlone s e → (steps : List Step)
+    → AreStepsAt s (order s e) (places s e) steps
+    → (bytes keyed behind rest : List ℕ) (old : Taken) (headed worded : List ℕ) (new : Taken)
+    → TakesTokens (token.name n ∷ token.equals ∷ []) (name_spelling n ++ 61 ∷ []) bytes keyed old.draft headed → TakesEntity s e keyed behind headed worded
+    → TakesSteps s body_tokens body_text steps behind rest (with_text worded old) new → TakesInstance s n entities bytes rest old new
+instance-taken s formed holds n e entities rising may steps are bytes keyed behind rest old headed worded new head (word, named, key) takes =
     let h = takes (order s e) (places s e) are in
     let ps : List PlacedParameter = h.placed in
     let part : Part = record { key = key_of word; params = params_at ps } in
-    let body : TakesTokens (body_tokens (params_at ps)) (body_text (texts_at s ps)) behind rest worded new = record { laid = h.laid; appended = h.text_is } in
-    let keyword_body = takes-join (token.keyword word ∷ []) (body_tokens (params_at ps)) word (body_text (texts_at s ps)) keyed behind rest headed worded new key body in
-    let all = takes-join (token.name n ∷ token.equals ∷ []) (token.keyword word ∷ body_tokens (params_at ps)) (name_spelling n ++ 61 ∷ []) (word ++ body_text (texts_at s ps)) bytes keyed rest old headed new head keyword_body in
+    let body : TakesTokens (body_tokens (params_at ps)) (body_text (texts_at s ps)) behind rest worded new.draft = record { laid = h.laid; appended = h.text_is } in
+    let keyword_body = takes-join (token.keyword word ∷ []) (body_tokens (params_at ps)) word (body_text (texts_at s ps)) keyed behind rest headed worded new.draft key body in
+    let all =
+    takes-join (token.name n ∷ token.equals ∷ []) (token.keyword word ∷ body_tokens (params_at ps)) (name_spelling n ++ 61 ∷ []) (word ++ body_text (texts_at s ps)) bytes keyed rest old.draft headed new.draft head keyword_body in
     let tokens : token.name n ∷ token.equals ∷ token.keyword word ∷ body_tokens (params_at ps) ≡ statement_tokens (instance n (simple part)) =
     ap (λ (ts : List Token). token.name n ∷ token.equals ∷ token.keyword word ∷ token.left ∷ ts) (sym (append_assoc (params_tokens (params_at ps)) (token.right ∷ []) (token.semicolon ∷ []))) in
     let laid : LaidBefore bytes (statement_tokens (instance n (simple part))) rest = subst (λ (ts : List Token). LaidBefore bytes ts rest) tokens all.laid in

@@ -28,7 +28,8 @@ mutual
   fits-plain s type p v needs (with_underlying _ under _ _ _ _ fit) = fits-plain s under p v needs fit
   fits-plain s type p v needs (with_item _ _ _ _ _) = (tt, tt)
   fits-plain s type p v needs (with_chosen_instance _ _ _ _) = (tt, tt)
-  fits-plain s type p v needs (with_chosen_type _ u _ q x _ _ _ fit) = (tt, (tt, Each-append IsNoUserKeyword (param_tokens q) (token.right ∷ []) (fits-plain s (schema.defined u) q x needs fit) (tt, tt)))
+  fits-plain s type p v needs (with_chosen_type _ u _ q x _ _ _ fit) =
+      (tt, (tt, Each-append IsNoUserKeyword (param_tokens q) (token.right ∷ []) (fits-plain s (schema.defined u) q x needs fit) (tt, tt)))
   fits-plain s type p v needs (with_array _ _ optional _ element ps vs _ each _ _) = list-plain ps (each-plain s optional element ps vs needs each)
   fits-plain s type p v needs (with_list _ _ _ element ps vs _ each _ _) = list-plain ps (each-plain s false element ps vs needs each)
   fits-plain s type p v needs (with_set _ _ element ps vs _ each _ _) = list-plain ps (each-plain s false element ps vs needs each)

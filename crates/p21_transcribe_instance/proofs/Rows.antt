@@ -31,7 +31,8 @@ row-count e k (suc n) (p ∷ ps) same = let more : places_at ps ≡ places_from 
 abbrev IsIn : ℕ → Values → PlacedParameter → Type 0
 IsIn e whole p = (p.place.entity ≡ e) × (value_at whole p.place.index ≡ Some p.value)
 
-row-each : (e k n : ℕ) (whole : Values) (ps : List PlacedParameter) → places_at ps ≡ places_from e k n → ((i j : ℕ) → j ≡ k + i → value_at whole j ≡ value_at (row ps) i) → Each (IsIn e whole) ps
+row-each : (e k n : ℕ) (whole : Values) (ps : List PlacedParameter) → places_at ps ≡ places_from e k n → ((i j : ℕ) → j ≡ k + i → value_at whole j ≡ value_at (row ps) i)
+    → Each (IsIn e whole) ps
 row-each e k zero whole [] same rest = tt
 row-each e k zero whole (p ∷ ps) same rest = absurd (none-cons p.place (places_at ps) same)
 row-each e k (suc n) whole [] same rest = tt
@@ -108,7 +109,8 @@ zip-has R (f ∷ es) (vs ∷ rows) e all among = elim (Contains-cases f es e amo
 abbrev IsBeside : List ℕ → List Values → ℕ → Values → Type 0
 IsBeside es rows f ws = Contains (zip es rows) (f, ws)
 
-arranged_elements : (R : ℕ → Values → Type 0) (es : List ℕ) (rows : List Values) → AllZip R es rows → (fs : List ℕ) → ((f : ℕ) → Contains fs f → Contains es f) → (all : List Values) × AllZip (IsBeside es rows) fs all
+arranged_elements : (R : ℕ → Values → Type 0) (es : List ℕ) (rows : List Values) → AllZip R es rows → (fs : List ℕ) → ((f : ℕ) → Contains fs f → Contains es f)
+    → (all : List Values) × AllZip (IsBeside es rows) fs all
 arranged_elements R es rows zipped [] within = ([], tt)
 arranged_elements R es rows zipped (f ∷ fs) within =
     let (vs, there) = zip-has R es rows f zipped (within f (Contains-first f fs)) in
@@ -127,7 +129,8 @@ pub record HasMeaning (s : Schema) (fs : List ℕ) (ps : List PlacedParameter) :
   pub counts : AllZip (HasOwnCount s) fs values
   pub each : Each (λ (p : PlacedParameter). HasValueAt (record { entities = fs; values = values }) p.place p.value) ps
 
-pub has-meaning : (s : Schema) (es fs : List ℕ) (ps : List PlacedParameter) → NoneTwice es → ((f : ℕ) → Contains es f → Contains fs f) → ((f : ℕ) → Contains fs f → Contains es f) → places_at ps ≡ flat_map (own_places s) es → HasMeaning s fs ps
+pub has-meaning : (s : Schema) (es fs : List ℕ) (ps : List PlacedParameter) → NoneTwice es → ((f : ℕ) → Contains es f → Contains fs f)
+    → ((f : ℕ) → Contains fs f → Contains es f) → places_at ps ≡ flat_map (own_places s) es → HasMeaning s fs ps
 has-meaning s es fs ps none onto back same =
     let h = rows-of s es ps same in
     let (all, beside) = arranged_elements (HasOwnCount s) es h.rows h.counts fs back in

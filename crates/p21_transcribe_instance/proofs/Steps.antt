@@ -28,7 +28,8 @@ use Rattle.p21_transcribe_instance.specs.declared.row.Row.{Row}
 use Rattle.p21_transcribe_instance.specs.declared.step.Step.{Step}
 
 -- one step more
-pub steps_more : (s : Schema) (entities : List ℕ) (before : List Place) (steps : List Step) (place : Place) (step : Step) → AreStepsAt s entities before steps → IsStepAt s entities place step → AreStepsAt s entities (before ++ place ∷ []) (steps ++ step ∷ [])
+pub steps_more : (s : Schema) (entities : List ℕ) (before : List Place) (steps : List Step) (place : Place) (step : Step) → AreStepsAt s entities before steps
+    → IsStepAt s entities place step → AreStepsAt s entities (before ++ place ∷ []) (steps ++ step ∷ [])
 steps_more s entities [] [] place step are is = (is, tt)
 steps_more s entities [] (other ∷ steps) place step are is = absurd are
 steps_more s entities (first ∷ before) [] place step are is = absurd are
@@ -50,13 +51,15 @@ ok_to (Ok x) follows h = follows x h
 ok_to (Err fault) follows h = tt
 
 -- the type itself, where it is a plain one that was found
-pub reduced_type-plain : (s : Schema) → HoldsTogether s → (of : code.TypeUse) (last : Bor code.TypeUse) (base : Base) → base ≡ Plain last → HasBase s (type_use of) base → IsTypeUse s (type_use of) → (same : code.TypeUse) → type_use same ≡ type_use last.now → IsTypeUse s (type_use same) × ComesTo s (type_use of) (type_use same)
+pub reduced_type-plain : (s : Schema) → HoldsTogether s → (of : code.TypeUse) (last : Bor code.TypeUse) (base : Base) → base ≡ Plain last → HasBase s (type_use of) base
+    → IsTypeUse s (type_use of) → (same : code.TypeUse) → type_use same ≡ type_use last.now → IsTypeUse s (type_use same) × ComesTo s (type_use of) (type_use same)
 reduced_type-plain s holds of last base is (found_, comes, base_is) known same says =
     let plain : found_ ≡ type_use same = (subst (IsBase s found_) is base_is).0 ∙ sym says in
     (subst (IsTypeUse s) plain (comes-is s holds (type_use of) found_ comes known), subst (ComesTo s (type_use of)) plain comes)
 
 -- the type itself
-pub reduced_type-same : (s : Schema) (of same : code.TypeUse) → IsTypeUse s (type_use of) → type_use same ≡ type_use of → IsTypeUse s (type_use same) × ComesTo s (type_use of) (type_use same)
+pub reduced_type-same : (s : Schema) (of same : code.TypeUse) → IsTypeUse s (type_use of) → type_use same ≡ type_use of
+    → IsTypeUse s (type_use same) × ComesTo s (type_use of) (type_use same)
 reduced_type-same s of same known says = (subst (IsTypeUse s) (sym says) known, subst (ComesTo s (type_use of)) (sym says) (at_itself (type_use of)))
 
 -- ---- rows
@@ -83,7 +86,8 @@ one_put s rows k new are has e row at =
     let room : e < length rows = omega (arith, below, length-set rows k (Some new)) in
     elim (cases_eq e k) [
       | inl same ↦
-          let both : Some new ≡ Some row = sym (ap (λ (i : ℕ). get_or (set rows k (Some new)) i None) same ∙ get_or-set_same rows k (Some new) None (subst (λ (i : ℕ). i < length rows) same room)) ∙ is in
+          let both : Some new ≡ Some row =
+          sym (ap (λ (i : ℕ). get_or (set rows k (Some new)) i None) same ∙ get_or-set_same rows k (Some new) None (subst (λ (i : ℕ). i < length rows) same room)) ∙ is in
           let one : new ≡ row = cc in
           subst (λ (i : ℕ). IsRow s i row) (sym same) (subst (λ (x : Prepared). IsRow s k x) one has)
       | inr other ↦ are e row (found_back rows e row room (sym (get_or-set_other rows k e (Some new) None other) ∙ is))
@@ -97,7 +101,8 @@ row_more s rows are = subst (IsPlanOf s) (sym (map_push (option_map row_view) ro
 pub row_put : (s : Schema) (rows : List (Option Row)) (k : ℕ) (new : Row) → IsPlanOf s (rows_view rows) → IsRow s k (row_view new) → IsPlanOf s (rows_view (set rows k (Some new)))
 row_put s rows k new are has = subst (IsPlanOf s) (sym (map-set (option_map row_view) rows k (Some new))) (one_put s (rows_view rows) k (row_view new) are has)
 
-pub row_at : (s : Schema) (rows : List (Option Row)) (e : ℕ) (found_ : Option Row) (row : Row) → IsPlanOf s (rows_view rows) → (e < length rows) × ((d : Option Row) → found_ ≡ get_or rows e d) → found_ ≡ Some row → IsRow s e (row_view row)
+pub row_at : (s : Schema) (rows : List (Option Row)) (e : ℕ) (found_ : Option Row) (row : Row) → IsPlanOf s (rows_view rows)
+    → (e < length rows) × ((d : Option Row) → found_ ≡ get_or rows e d) → found_ ≡ Some row → IsRow s e (row_view row)
 row_at s rows e found_ row are (below, at) is =
     are e (row_view row) (slice_get-map (option_map row_view) rows e ∙ ap (option_map (option_map row_view)) (found_back rows e row below (sym (at None) ∙ is)))
 
@@ -107,7 +112,8 @@ not_true : (b : Bool) → (IsTrue b → ⊥) → b ≡ false
 not_true true not = absurd (not refl)
 not_true false not = refl
 
-pub stands_alone : (s : Schema) (e : ℕ) (faults : OwnFaults) (none : Bool) → HasOwnFaults s e faults → IsTrue none ↔ ((faults.is_abstract ≡ false) × (faults.leaves_open ≡ false) × (faults.clashes ≡ false)) → IsTrue none ↔ MayStandAlone s e
+pub stands_alone : (s : Schema) (e : ℕ) (faults : OwnFaults) (none : Bool) → HasOwnFaults s e faults
+    → IsTrue none ↔ ((faults.is_abstract ≡ false) × (faults.leaves_open ≡ false) × (faults.clashes ≡ false)) → IsTrue none ↔ MayStandAlone s e
 stands_alone s e faults none has are = (
   λ yes. let (concrete, decided, agrees) = are.0 yes in record {
     concrete = λ h. let t = has.abstract_is.1 h in cc;

@@ -5,13 +5,12 @@ use Rattle.p21_spec_laws.specs.Needs.{FitsWithNeeds, with_chosen_type}
 use Rattle.p21_spec_exchange.specs.Parameter as parameter
 use Rattle.p21_spec_exchange.specs.Parameter.{Param, key_of, param_tokens}
 use Rattle.p21_spec_exchange.specs.Token as token
-use Rattle.p21_express_tables.specs.Base.{HasBase, IsBase}
+use Rattle.p21_express_tables.specs.Base.{HasBase}
 use Rattle.p21_express_tables.specs.declared.base.Base.{Base}
 use Rattle.p21_spec_file.specs.Reference as reference
 use Rattle.p21_spec_file.specs.Value as meant
 use Rattle.p21_spec_file.specs.Value.{Value}
 use Rattle.p21_spec_file.specs.ValueText.{value_text}
-use Rattle.p21_mapping_values.specs.declared.need.Need.{Need}
 use Rattle.p21_spec_schema.specs.Schema as schema
 use Rattle.p21_spec_schema.specs.Schema.{Schema, TypeNamed, TypeUse, type_member}
 use Rattle.p21_spec_schema.specs.Select.{Offers}
@@ -20,15 +19,17 @@ use Rattle.p21_transcribe.specs.Gaps.{PassesSeparators}
 use Rattle.p21_transcribe.specs.LeadingToken.{Transcribes}
 use Rattle.p21_transcribe_instance.proofs.Laid.{laid-enclosed, laid-join, laid-one, param-behind}
 use Rattle.p21_transcribe_instance.proofs.Values.{comes-fits}
-use Rattle.p21_transcribe_instance.specs.TakenValues.{IsBaseInSchema, KeepsNeeds, LaidBefore, PassesDelimiter, TakesEnclosed, TakesKeyword, TakesWithNeeds}
+use Rattle.p21_transcribe_instance.specs.declared.taken.Taken.{Taken}
+use Rattle.p21_transcribe_instance.specs.TakenValues.{IsBaseInSchema, KeepsNeeds, LaidBefore, PassesDelimiter, TakesBase, TakesEnclosed, TakesEnclosedBase, TakesKeyword, TakesWithNeeds, with_text}
 use Rattle.p21_values.specs.Canonical.{Continues}
 
 -- ---- what a refusal leaves
 
 -- ---- separators before a value, and parentheses around it
 
-pub behind-gap : (s : Schema) (F : Param → Value → List reference.Need → Type 0) (most : ℕ) (bytes middle rest old new : List ℕ) (before after : List Need) → PassesSeparators bytes middle → TakesWithNeeds s F most middle rest old new before after → TakesWithNeeds s F most bytes rest old new before after
-behind-gap s F most bytes middle rest old new before after passes h = record {
+pub behind-gap : (s : Schema) (F : Param → Value → List reference.Need → Type 0) (most : ℕ) (bytes middle rest : List ℕ) (old new : Taken) → PassesSeparators bytes middle
+    → TakesWithNeeds s F most middle rest old new → TakesWithNeeds s F most bytes rest old new
+behind-gap s F most bytes middle rest old new passes h = record {
   added = h.added;
   needs_are = h.needs_are;
   takes = record {
@@ -41,13 +42,16 @@ behind-gap s F most bytes middle rest old new before after passes h = record {
   };
 }
 
-pub enclosed-text : (old opened middle new text : List ℕ) → opened ≡ old ++ 40 ∷ [] → middle ≡ opened ++ text → new ≡ middle ++ 41 ∷ [] → new ≡ old ++ (codes "(" ++ (text ++ codes ")"))
+pub enclosed-text : (old opened middle new text : List ℕ) → opened ≡ old ++ 40 ∷ [] → middle ≡ opened ++ text → new ≡ middle ++ 41 ∷ []
+    → new ≡ old ++ (codes "(" ++ (text ++ codes ")"))
 enclosed-text old opened middle new text opens is ends = rw (ends, is, opens) (simp append_assoc refl)
 
-pub enclosed-taken : (s : Schema) (base : Base) (most : ℕ) (bytes opened inside behind rest old marked middle new : List ℕ) (before after : List Need) → PassesDelimiter 40 bytes opened → marked ≡ old ++ 40 ∷ [] → PassesSeparators opened inside
-    → ((last : TypeUse) → IsBase s last base → TakesWithNeeds s (FitsWithNeeds s last) most inside behind marked middle before after) → PassesDelimiter 41 behind rest × (new ≡ middle ++ 41 ∷ []) → (type : TypeUse) → HasBase s type base → TakesEnclosed s (FitsWithNeeds s type) most bytes rest old new before after
-enclosed-taken s base most bytes opened inside behind rest old marked middle new before after opening opens passes takes closing type (last, comes, is) =
-    let h = behind-gap s (FitsWithNeeds s last) most opened inside behind marked middle before after passes (takes last is) in
+pub enclosed-taken : (s : Schema) (base : Base) (most : ℕ) (bytes opened inside behind rest : List ℕ) (old : Taken) (marked : List ℕ) (middle : Taken) (new : List ℕ)
+    → PassesDelimiter 40 bytes opened → marked ≡ old.draft ++ 40 ∷ [] → PassesSeparators opened inside
+    → TakesBase s base most inside behind (with_text marked old) middle → PassesDelimiter 41 behind rest × (new ≡ middle.draft ++ 41 ∷ [])
+    → TakesEnclosedBase s base most bytes rest old (with_text new middle)
+enclosed-taken s base most bytes opened inside behind rest old marked middle new opening opens passes takes closing type (last, comes, is) =
+    let h = behind-gap s (FitsWithNeeds s last) most opened inside behind (with_text marked old) middle passes (takes last is) in
     record {
       parameter = h.takes.parameter;
       value = h.takes.value;
@@ -56,19 +60,21 @@ enclosed-taken s base most bytes opened inside behind rest old marked middle new
       fits = comes-fits s type last h.takes.parameter h.takes.value _ comes h.takes.fits;
       shallow = h.takes.shallow;
       laid = laid-enclosed bytes opened behind rest (param_tokens h.takes.parameter) opening h.takes.laid closing.0;
-      text_is = enclosed-text old marked middle new (value_text s h.takes.value) opens h.takes.text_is closing.1;
+      text_is = enclosed-text old.draft marked middle.draft new (value_text s h.takes.value) opens h.takes.text_is closing.1;
     }
 
 -- what a refusal behind the value leaves
-pub enclosed-refused : (s : Schema) (base : Base) (most : ℕ) (inside behind old marked middle : List ℕ) (before after : List Need) → IsBaseInSchema s base → marked ≡ old ++ 40 ∷ [] → ((last : TypeUse) → IsBase s last base → TakesWithNeeds s (FitsWithNeeds s last) most inside behind marked middle before after)
-    → Continues old middle × KeepsNeeds before after
-enclosed-refused s base most inside behind old marked middle before after (type, known, (last, comes, is)) opens takes =
+pub enclosed-refused : (s : Schema) (base : Base) (most : ℕ) (inside behind : List ℕ) (old : Taken) (marked : List ℕ) (middle : Taken) → IsBaseInSchema s base
+    → marked ≡ old.draft ++ 40 ∷ []
+    → TakesBase s base most inside behind (with_text marked old) middle → Continues old.draft middle.draft × KeepsNeeds old.needs.items middle.needs.items
+enclosed-refused s base most inside behind old marked middle (type, known, (last, comes, is)) opens takes =
     let h = takes last is in
-    (goes-on old marked middle (value_text s h.takes.value) (40 ∷ [], opens) h.takes.text_is, (h.added, h.needs_are))
+    (goes-on old.draft marked middle.draft (value_text s h.takes.value) (40 ∷ [], opens) h.takes.text_is, (h.added, h.needs_are))
 
 -- ---- typed parameters
 
-pub keyword-taken : (s : Schema) (t u : ℕ) (word bytes rest old new : List ℕ) → rest ≡ drop (length word) bytes → Transcribes bytes (length word) (token.keyword word) old new → Offers s t (type_member u) → TypeNamed s u word → TakesKeyword s t u bytes rest old new
+pub keyword-taken : (s : Schema) (t u : ℕ) (word bytes rest old new : List ℕ) → rest ≡ drop (length word) bytes → Transcribes bytes (length word) (token.keyword word) old new
+    → Offers s t (type_member u) → TypeNamed s u word → TakesKeyword s t u bytes rest old new
 keyword-taken s t u word bytes rest old new e h offers named = record {
   word = word;
   offers = offers;
@@ -77,9 +83,11 @@ keyword-taken s t u word bytes rest old new e h offers named = record {
   text_is = h.appended;
 }
 
-typed-as : (s : Schema) (t u less most : ℕ) (bytes behind rest old middle new : List ℕ) (before after : List Need) → suc less ≤ most → TakesKeyword s t u bytes behind old middle → TakesEnclosed s (FitsWithNeeds s (schema.defined u)) less behind rest middle new before after
-    → TakesWithNeeds s (FitsWithNeeds s (schema.defined t)) most bytes rest old new before after
-typed-as s t u less most bytes behind rest old middle new before after room key h = record {
+typed-as : (s : Schema) (t u less most : ℕ) (bytes behind rest : List ℕ) (old : Taken) (middle : List ℕ) (new : Taken) → suc less ≤ most
+    → TakesKeyword s t u bytes behind old.draft middle
+    → TakesEnclosed s (FitsWithNeeds s (schema.defined u)) less behind rest (with_text middle old) new
+    → TakesWithNeeds s (FitsWithNeeds s (schema.defined t)) most bytes rest old new
+typed-as s t u less most bytes behind rest old middle new room key h = record {
   added = h.added;
   needs_are = h.needs_are;
   takes = record {
@@ -90,10 +98,12 @@ typed-as s t u less most bytes behind rest old middle new before after room key 
     laid = laid-join bytes behind rest (token.keyword key.word ∷ []) (token.left ∷ (param_tokens h.parameter ++ (token.right ∷ []))) key.laid h.laid;
     text_is =
         let E = codes "(" ++ (value_text s h.value ++ codes ")") in
-        h.text_is ∙ (ap (λ (x : List ℕ). x ++ E) key.text_is ∙ (append_assoc old key.word E ∙ ap (λ (x : List ℕ). old ++ (x ++ E)) (sym (named-is s u key.word key.named))));
+        h.text_is ∙ (ap (λ (x : List ℕ). x ++ E) key.text_is ∙ (append_assoc old.draft key.word E ∙ ap (λ (x : List ℕ). old.draft ++ (x ++ E)) (sym (named-is s u key.word key.named))));
   };
 }
 
-pub typed-taken : (s : Schema) (t u less most : ℕ) (base : Base) (bytes behind rest old middle new : List ℕ) (before after : List Need) → suc less ≤ most → TakesKeyword s t u bytes behind old middle → HasBase s (schema.defined u) base
-    → ((type : TypeUse) → HasBase s type base → TakesEnclosed s (FitsWithNeeds s type) less behind rest middle new before after) → TakesWithNeeds s (FitsWithNeeds s (schema.defined t)) most bytes rest old new before after
-typed-taken s t u less most base bytes behind rest old middle new before after room key has takes = typed-as s t u less most bytes behind rest old middle new before after room key (takes (schema.defined u) has)
+pub typed-taken : (s : Schema) (t u less most : ℕ) (base : Base) (bytes behind rest : List ℕ) (old : Taken) (middle : List ℕ) (new : Taken) → suc less ≤ most
+    → TakesKeyword s t u bytes behind old.draft middle → HasBase s (schema.defined u) base
+    → TakesEnclosedBase s base less behind rest (with_text middle old) new → TakesWithNeeds s (FitsWithNeeds s (schema.defined t)) most bytes rest old new
+typed-taken s t u less most base bytes behind rest old middle new room key has takes =
+    typed-as s t u less most bytes behind rest old middle new room key (takes (schema.defined u) has)

@@ -29,7 +29,6 @@ use Rattle.p21_spec_file.specs.CanonicalTexts.{IsInstanceText}
 use Rattle.p21_spec_file.specs.Meaning.{FitPlaces, HasValueAt, MeansExternal, PartMeans, RecordMeans, Typed}
 use Rattle.p21_spec_file.specs.Reference.{IsServed, EntitySets, Need}
 use Rattle.p21_spec_file.specs.ValueText.{with_commas_between}
-use Rattle.p21_mapping_values.specs.declared.need.Need as code
 use Rattle.p21_spec_schema.specs.Order.{own_places}
 use Rattle.p21_spec_schema.specs.Schema.{EntityNamed, Place, Schema}
 use Rattle.p21_transcribe_instance.proofs.LaidRuns.{laid-spelled, takes-join, takes-mark}
@@ -41,7 +40,8 @@ use Rattle.p21_transcribe_instance.specs.Instance.{TakesInstance}
 use Rattle.p21_transcribe_instance.specs.Records.{IsOwnRecord, OwnRecord, TakesRecord, needs_in, own_record_text, own_record_texts, owners_at, part_of, parts_at}
 use Rattle.p21_transcribe_instance.specs.TakenParameters.{PlacedParameter, TakesTokens, TakesDelimiter, needs_at, params_at, places_at}
 use Rattle.p21_transcribe_instance.specs.ExternalSet.{IsExternalSet}
-use Rattle.p21_transcribe_instance.specs.TakenValues.{LaidBefore}
+use Rattle.p21_transcribe_instance.specs.declared.taken.Taken.{Taken}
+use Rattle.p21_transcribe_instance.specs.TakenValues.{LaidBefore, with_text}
 
 -- ---- the places of all simple records
 
@@ -62,7 +62,8 @@ some-parts (o ∷ os) e among = omega arith
 module _ (s : Schema) (entities : List ℕ) where
   parts-plain : (os : List OwnRecord) → Each (IsOwnRecord s entities) os → Each IsNoUserKeyword (flat_map part_tokens (parts_at os))
   parts-plain [] each = tt
-  parts-plain (o ∷ os) each = Each-append IsNoUserKeyword (part_tokens (part_of o)) (flat_map part_tokens (parts_at os)) (part-plain (part_of o) tt (placed-plain s entities o.placed each.0.each)) (parts-plain os each.1)
+  parts-plain (o ∷ os) each =
+      Each-append IsNoUserKeyword (part_tokens (part_of o)) (flat_map part_tokens (parts_at os)) (part-plain (part_of o) tt (placed-plain s entities o.placed each.0.each)) (parts-plain os each.1)
 
   parts-shallow : (os : List OwnRecord) → Each (IsOwnRecord s entities) os → Each IsShallowPart (parts_at os)
   parts-shallow [] each = tt
@@ -77,7 +78,8 @@ module _ (s : Schema) (m : Typed) where
   parts-need (o ∷ os) each has = (needs_at o.placed, needs_in os, refl, (o.owner, (o.word, each.0.named, refl), own-fit o each.0 has.0), parts-need os each.1 has.1)
 
   module _ (kinds : EntitySets) where
-    parts-mean : (os : List OwnRecord) → Each (IsOwnRecord s m.entities) os → Each (λ (o : OwnRecord). AreMeant m o.placed) os → AreServed s kinds (needs_in os) → AllZip (PartMeans s kinds m) (parts_at os) (owners_at os)
+    parts-mean : (os : List OwnRecord) → Each (IsOwnRecord s m.entities) os → Each (λ (o : OwnRecord). AreMeant m o.placed) os → AreServed s kinds (needs_in os)
+        → AllZip (PartMeans s kinds m) (parts_at os) (owners_at os)
     parts-mean [] each has served = tt
     parts-mean (o ∷ os) each has served = (
       ((o.word, each.0.named, refl), served-places s kinds m (own_places s o.owner) (params_at o.placed) (needs_at o.placed) (own-fit o each.0 has.0) (Each-front (IsServed s kinds) (needs_at o.placed) (needs_in os) served)),
@@ -93,7 +95,8 @@ abbrev canonical_parts : Schema → List OwnRecord → List Part
 canonical_parts s os = map (canonical_part s) os
 
 module _ (s : Schema) (m : Typed) where
-  canonical-stands : (os : List OwnRecord) → Each (IsOwnRecord s m.entities) os → Each (λ (o : OwnRecord). AreMeant m o.placed) os → Each (IsCanonicalPart s (canonical_typed s m)) (canonical_parts s os)
+  canonical-stands : (os : List OwnRecord) → Each (IsOwnRecord s m.entities) os → Each (λ (o : OwnRecord). AreMeant m o.placed) os
+      → Each (IsCanonicalPart s (canonical_typed s m)) (canonical_parts s os)
   canonical-stands [] each has = tt
   canonical-stands (o ∷ os) each has = (
     (o.owner, (o.word, each.0.named, refl), subst (λ (xs : List Place). AreCanonicalAt (canonical_typed s m) xs (canonical_at s o.placed)) each.0.places_are (canonical-stand s m o.placed has.0)),
@@ -101,7 +104,8 @@ module _ (s : Schema) (m : Typed) where
   )
 
   module _ (kinds : EntitySets) where
-    canonical-mean : (os : List OwnRecord) → Each (IsOwnRecord s m.entities) os → Each (λ (o : OwnRecord). AreMeant m o.placed) os → AreServed s kinds (needs_in os) → AllZip (PartMeans s kinds (canonical_typed s m)) (canonical_parts s os) (owners_at os)
+    canonical-mean : (os : List OwnRecord) → Each (IsOwnRecord s m.entities) os → Each (λ (o : OwnRecord). AreMeant m o.placed) os → AreServed s kinds (needs_in os)
+        → AllZip (PartMeans s kinds (canonical_typed s m)) (canonical_parts s os) (owners_at os)
     canonical-mean [] each has served = tt
     canonical-mean (o ∷ os) each has served = (
       (
@@ -111,18 +115,21 @@ module _ (s : Schema) (m : Typed) where
       canonical-mean os each.1 has.1 (Each-back (IsServed s kinds) (needs_at o.placed) (needs_in os) served),
     )
 
-    canonical-said : (os : List OwnRecord) (rest : List Token) → Each (IsOwnRecord s m.entities) os → AreServed s kinds (needs_in os) → Each IsSpelled (flat_map part_tokens (parts_at os) ++ rest) → Each IsSpelled (flat_map part_tokens (canonical_parts s os))
+    canonical-said : (os : List OwnRecord) (rest : List Token) → Each (IsOwnRecord s m.entities) os → AreServed s kinds (needs_in os)
+        → Each IsSpelled (flat_map part_tokens (parts_at os) ++ rest) → Each IsSpelled (flat_map part_tokens (canonical_parts s os))
     canonical-said [] rest each served spelled = tt
     canonical-said (o ∷ os) rest each served spelled =
         let behind : List Token = flat_map part_tokens (parts_at os) ++ rest in
-        let whole : Each IsSpelled (part_tokens (part_of o) ++ behind) = subst (Each IsSpelled) (append_assoc (part_tokens (part_of o)) (flat_map part_tokens (parts_at os)) rest) spelled in
+        let whole : Each IsSpelled (part_tokens (part_of o) ++ behind) =
+        subst (Each IsSpelled) (append_assoc (part_tokens (part_of o)) (flat_map part_tokens (parts_at os)) rest) spelled in
         let params = part-written (part_of o) (Each-front IsSpelled (part_tokens (part_of o)) behind whole) in
         Each-append IsSpelled (part_tokens (canonical_part s o)) (flat_map part_tokens (canonical_parts s os))
         (part-said (canonical_part s o) whole.0 (canonical-spelled s kinds m.entities o.placed each.0.each (Each-front (IsServed s kinds) (needs_at o.placed) (needs_in os) served) params))
         (canonical-said os rest each.1 (Each-back (IsServed s kinds) (needs_at o.placed) (needs_in os) served) (Each-back IsSpelled (part_tokens (part_of o)) behind whole))
 
 -- their keywords are the names of their entities
-words-are : (s : Schema) (entities : List ℕ) (os : List OwnRecord) (names : List (List ℕ)) → Each (IsOwnRecord s entities) os → AllZip (EntityNamed s) (owners_at os) names → words (canonical_parts s os) ≡ names
+words-are : (s : Schema) (entities : List ℕ) (os : List OwnRecord) (names : List (List ℕ)) → Each (IsOwnRecord s entities) os → AllZip (EntityNamed s) (owners_at os) names
+    → words (canonical_parts s os) ≡ names
 words-are s entities [] [] each named = refl
 words-are s entities [] (n ∷ names) each named = absurd named
 words-are s entities (o ∷ os) [] each named = absurd named
@@ -132,7 +139,8 @@ words-are s entities (o ∷ os) (n ∷ names) each named =
 -- ---- texts
 
 part-text : (s : Schema) (o : OwnRecord) → tokens_text (part_tokens (canonical_part s o)) ≡ own_record_text s o
-part-text s o = ap (λ (x : List ℕ). o.word ++ x) (list-is (canonical_at s o.placed)) ∙ ap (λ (xs : List (List ℕ)). o.word ++ (40 ∷ (with_commas_between xs ++ (41 ∷ [])))) (texts-are s o.placed)
+part-text s o =
+    ap (λ (x : List ℕ). o.word ++ x) (list-is (canonical_at s o.placed)) ∙ ap (λ (xs : List (List ℕ)). o.word ++ (40 ∷ (with_commas_between xs ++ (41 ∷ [])))) (texts-are s o.placed)
 
 parts-text : (s : Schema) (os : List OwnRecord) → tokens_text (flat_map part_tokens (canonical_parts s os)) ≡ own_record_texts s os
 parts-text s [] = refl
@@ -140,7 +148,8 @@ parts-text s (o ∷ os) =
     tokens_text-append (part_tokens (canonical_part s o)) (flat_map part_tokens (canonical_parts s os)) ∙ ap (λ (x : List ℕ). x ++ tokens_text (flat_map part_tokens (canonical_parts s os))) (part-text s o) ∙ ap (λ (x : List ℕ). own_record_text s o ++ x) (parts-text s os)
 
 -- the name, `=`, the simple records in parentheses and `;`
-line-is : (s : Schema) (n : ℕ) (os : List OwnRecord) → (name_spelling n ++ 61 ∷ []) ++ (40 ∷ (own_record_texts s os ++ (41 ∷ 59 ∷ []))) ≡ statement_text (instance n (complex (canonical_parts s os)))
+line-is : (s : Schema) (n : ℕ) (os : List OwnRecord)
+    → (name_spelling n ++ 61 ∷ []) ++ (40 ∷ (own_record_texts s os ++ (41 ∷ 59 ∷ []))) ≡ statement_text (instance n (complex (canonical_parts s os)))
 line-is s n os =
     let parts : List Token = flat_map part_tokens (canonical_parts s os) in
     let inside : List Token = parts ++ (token.right ∷ []) in
@@ -156,7 +165,8 @@ module _ (s : Schema) (entities : List ℕ) (usual : IsExternalSet s entities) (
   none_one one = let (e, f, differ, leaf, other) = usual.several_leaves in differ (one.2 e leaf ∙ sym (one.2 f other))
 
   values : HasMeaning s entities (placed_in os)
-  values = has-meaning s entities entities (placed_in os) (distinct-none_twice entities usual.distinct) (λ f among. among) (λ f among. among) (all-places s entities os each ∙ ap (flat_map (own_places s)) owners_are)
+  values =
+      has-meaning s entities entities (placed_in os) (distinct-none_twice entities usual.distinct) (λ f among. among) (λ f among. among) (all-places s entities os each ∙ ap (flat_map (own_places s)) owners_are)
 
   abbrev meant : Typed
   meant = record { entities = entities; values = values.values }
@@ -173,7 +183,8 @@ module _ (s : Schema) (entities : List ℕ) (usual : IsExternalSet s entities) (
   served : (kinds : EntitySets) × AreServed s kinds (needs_in os)
   served = needs-can_be_served s (complex (parts_at os)) meant (needs_in os) need
 
-  by-mapping : (m : Typed) → m.entities ≡ entities → (parts : List Part) → 0 < length parts → AllZip (PartMeans s served.0 m) parts (owners_at os) → MeansExternal s served.0 parts m
+  by-mapping : (m : Typed) → m.entities ≡ entities → (parts : List Part) → 0 < length parts → AllZip (PartMeans s served.0 m) parts (owners_at os)
+      → MeansExternal s served.0 parts m
   by-mapping m same parts some_ mean = record {
     some_parts = some_;
     entities = entities;
@@ -218,7 +229,8 @@ module _ (s : Schema) (entities : List ℕ) (usual : IsExternalSet s entities) (
     written =
         let inside = Each-front IsSpelled (record_tokens (complex (parts_at os))) (token.semicolon ∷ []) spelled.1.1 in
         let said = canonical-said s meant served.0 os (token.right ∷ []) each served.1 inside.1 in
-        let all : Each IsSpelled (record_tokens (complex (canonical_parts s os))) = (inside.0, Each-append IsSpelled (flat_map part_tokens (canonical_parts s os)) (token.right ∷ []) said ((codes ")", refl), tt)) in
+        let all : Each IsSpelled (record_tokens (complex (canonical_parts s os))) =
+        (inside.0, Each-append IsSpelled (flat_map part_tokens (canonical_parts s os)) (token.right ∷ []) said ((codes ")", refl), tt)) in
         (spelled.0, (spelled.1.0, Each-append IsSpelled (record_tokens (complex (canonical_parts s os))) (token.semicolon ∷ []) all ((codes ";", refl), tt)))
 
     text-is : (text : List ℕ) → text ≡ statement_text (instance n (complex (canonical_parts s os))) → IsInstanceText s n (complex (parts_at os)) text
@@ -238,18 +250,20 @@ module _ (s : Schema) (entities : List ℕ) (usual : IsExternalSet s entities) (
 -- ---- what is taken
 
 -- the parts of an instance one behind the other
-pub external-taken : (s : Schema) (entities : List ℕ) → IsExternalSet s entities → (n : ℕ) (bytes keyed inside rest old headed opened new : List ℕ) (before after : List code.Need)
-    → TakesTokens (token.name n ∷ token.equals ∷ []) (name_spelling n ++ 61 ∷ []) bytes keyed old headed → TakesDelimiter 40 keyed inside headed opened → TakesRecord s entities inside rest opened new before after → TakesInstance s n entities bytes rest old new before after
-external-taken s entities usual n bytes keyed inside rest old headed opened new before after head mark h =
+pub external-taken : (s : Schema) (entities : List ℕ) → IsExternalSet s entities → (n : ℕ) (bytes keyed inside rest : List ℕ) (old : Taken) (headed opened : List ℕ) (new : Taken)
+    → TakesTokens (token.name n ∷ token.equals ∷ []) (name_spelling n ++ 61 ∷ []) bytes keyed old.draft headed → TakesDelimiter 40 keyed inside headed opened
+    → TakesRecord s entities inside rest (with_text opened old) new → TakesInstance s n entities bytes rest old new
+external-taken s entities usual n bytes keyed inside rest old headed opened new head mark h =
     let os : List OwnRecord = h.parts.owned in
     let parts : List Part = parts_at os in
     let ts : List Token = flat_map part_tokens parts in
     let t : List ℕ = own_record_texts s os in
     let left : TakesTokens (token.left ∷ []) (40 ∷ []) keyed inside headed opened = takes-mark 40 token.left keyed inside headed opened refl (λ byte. tt) mark in
     let own : TakesTokens ts t inside h.middle opened h.between = record { laid = h.parts.laid; appended = h.parts.text_is } in
-    let closed = takes-join ts (token.right ∷ token.semicolon ∷ []) t (41 ∷ 59 ∷ []) inside h.middle rest opened h.between new own h.end in
-    let listed = takes-join (token.left ∷ []) (ts ++ (token.right ∷ token.semicolon ∷ [])) (40 ∷ []) (t ++ (41 ∷ 59 ∷ [])) keyed inside rest headed opened new left closed in
-    let all = takes-join (token.name n ∷ token.equals ∷ []) (token.left ∷ (ts ++ (token.right ∷ token.semicolon ∷ []))) (name_spelling n ++ 61 ∷ []) (40 ∷ (t ++ (41 ∷ 59 ∷ []))) bytes keyed rest old headed new head listed in
+    let closed = takes-join ts (token.right ∷ token.semicolon ∷ []) t (41 ∷ 59 ∷ []) inside h.middle rest opened h.between new.draft own h.end in
+    let listed = takes-join (token.left ∷ []) (ts ++ (token.right ∷ token.semicolon ∷ [])) (40 ∷ []) (t ++ (41 ∷ 59 ∷ [])) keyed inside rest headed opened new.draft left closed in
+    let all =
+    takes-join (token.name n ∷ token.equals ∷ []) (token.left ∷ (ts ++ (token.right ∷ token.semicolon ∷ []))) (name_spelling n ++ 61 ∷ []) (40 ∷ (t ++ (41 ∷ 59 ∷ []))) bytes keyed rest old.draft headed new.draft head listed in
     let tokens : token.name n ∷ token.equals ∷ token.left ∷ (ts ++ (token.right ∷ token.semicolon ∷ [])) ≡ statement_tokens (instance n (complex parts)) =
     ap (λ (xs : List Token). token.name n ∷ token.equals ∷ token.left ∷ xs) (sym (append_assoc ts (token.right ∷ []) (token.semicolon ∷ []))) in
     let laid : LaidBefore bytes (statement_tokens (instance n (complex parts))) rest = subst (λ (xs : List Token). LaidBefore bytes xs rest) tokens all.laid in

@@ -23,7 +23,8 @@ fewer-same (suc m) (suc n) (x ∷ xs) (y ∷ ys) within same =
     ap (λ (z : ℕ). z ∷ take m xs) first ∙ ap (λ (zs : List ℕ). y ∷ zs) (fewer-same m n xs ys (omega (arith, within)) more)
 
 -- the last eight too
-pub all-same : (xs ys : List ℕ) (last n : ℕ) → length xs ≡ length ys → length xs ≡ last + 8 → last ≤ n → take n xs ≡ take n ys → take 8 (drop last xs) ≡ take 8 (drop last ys) → xs ≡ ys
+pub all-same : (xs ys : List ℕ) (last n : ℕ) → length xs ≡ length ys → length xs ≡ last + 8 → last ≤ n → take n xs ≡ take n ys → take 8 (drop last xs) ≡ take 8 (drop last ys)
+    → xs ≡ ys
 all-same xs ys last n sizes size within front end =
     let before : take last xs ≡ take last ys = fewer-same last n xs ys within front in
     sym (take_all (last + 8) xs (omega (arith, size))) ∙ more-same xs ys last before end ∙ take_all (last + 8) ys (omega (arith, sizes, size))
@@ -40,6 +41,7 @@ word-byte xs at within fits i = elim (cases_lt i 8) [
 ]
 
 -- the number of eight bytes gives them back
-pub word-is : (xs : List ℕ) (at n : ℕ) (front : List ℕ) → ((i : ℕ) → Fits w8 (get_or xs i 0)) → at + 8 ≤ length xs → front ≡ take 8 (take (length xs - at) (drop at xs)) → n ≡ from_le_bytes w64 front → to_le_bytes w64 n ≡ take 8 (drop at xs)
+pub word-is : (xs : List ℕ) (at n : ℕ) (front : List ℕ) → ((i : ℕ) → Fits w8 (get_or xs i 0)) → at + 8 ≤ length xs → front ≡ take 8 (take (length xs - at) (drop at xs))
+    → n ≡ from_le_bytes w64 front → to_le_bytes w64 n ≡ take 8 (drop at xs)
 word-is xs at n front fits within is number =
     le_bytes_8 (take 8 (drop at xs)) n (length-take-le 8 (drop at xs) (omega (arith, within, length-drop at xs))) (word-byte xs at within fits) (number ∙ ap (from_le_bytes w64) (is ∙ ap (take 8) (take_rest xs at)))

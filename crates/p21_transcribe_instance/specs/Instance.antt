@@ -4,25 +4,31 @@ use Rattle.p21_spec_laws.specs.Needs.{MeansWithNeeds}
 use Rattle.p21_spec_exchange.specs.Grammar.{IsDataRecord}
 use Rattle.p21_spec_exchange.specs.Record.{Record}
 use Rattle.p21_spec_exchange.specs.Statement.{instance, statement_tokens}
+use Rattle.p21_express_graph.specs.Rising.{IsOwnRising}
 use Rattle.p21_spec_file.specs.CanonicalTexts.{IsInstanceText}
 use Rattle.p21_spec_file.specs.Meaning.{Typed}
 use Rattle.p21_mapping_values.specs.declared.need.Need.{Need}
 use Rattle.p21_mapping_values.specs.TypedView.{need_view}
 use Rattle.p21_spec_schema.specs.Schema.{Schema}
+use Rattle.p21_transcribe_instance.specs.declared.taken.Taken.{Taken}
 use Rattle.p21_transcribe_instance.specs.TakenValues.{LaidBefore}
 
 -- The statement of an instance of this name is laid at the front, with the rest behind it. Its record may stand in a data
 -- section, and means something, whose set are these entities, with the needs that are added to those before. Its canonical
 -- text is appended
-pub record TakesInstance (s : Schema) (n : ℕ) (entities bytes rest old new : List ℕ) (before after : List Need) : Type 0 where
+pub record TakesInstance (s : Schema) (n : ℕ) (entities bytes rest : List ℕ) (old new : Taken) : Type 0 where
   pub record_ : Record
   pub laid : LaidBefore bytes (statement_tokens (instance n record_)) rest
   pub data_record : IsDataRecord record_
   pub meaning : Typed
   pub set_is : meaning.entities ≡ entities
   pub added : List Need
-  pub needs_are : after ≡ before ++ added
+  pub needs_are : new.needs.items ≡ old.needs.items ++ added
   pub means : MeansWithNeeds s record_ meaning (map need_view added)
   pub text : List ℕ
   pub text_is : IsInstanceText s n record_ text
-  pub appended : new ≡ old ++ text
+  pub appended : new.draft ≡ old.draft ++ text
+
+-- an instance of internal mapping is taken, whose set are this entity and its supertypes
+abbrev pub TakesOwnInstance : Schema → ℕ → ℕ → List ℕ → List ℕ → Taken → Taken → Type 0
+TakesOwnInstance s n e bytes rest old new = (entities : List ℕ) × IsOwnRising s e entities × TakesInstance s n entities bytes rest old new

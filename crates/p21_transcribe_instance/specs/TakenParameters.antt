@@ -12,9 +12,10 @@ use Rattle.p21_mapping_values.specs.declared.need.Need.{Need}
 use Rattle.p21_mapping_values.specs.TypedView.{need_view}
 use Rattle.p21_spec_schema.specs.PlaceType.{PlaceType, TypeAt}
 use Rattle.p21_spec_schema.specs.Schema.{EntityNamed, Place, Schema}
-use Rattle.p21_transcribe_instance.specs.Steps.{AreStepsAt}
+use Rattle.p21_transcribe_instance.specs.Steps.{AreStepsAt, IsStepFor}
 use Rattle.p21_transcribe_instance.specs.declared.step.Step.{Step}
-use Rattle.p21_transcribe_instance.specs.TakenValues.{LaidBefore, PassesDelimiter}
+use Rattle.p21_transcribe_instance.specs.declared.taken.Taken.{Taken}
+use Rattle.p21_transcribe_instance.specs.TakenValues.{LaidBefore, PassesDelimiter, TakesWithNeeds, with_text}
 
 -- the tokens are laid at the front, with the rest behind them, and this text is appended
 pub record TakesTokens (tokens : List Token) (text bytes rest old new : List ℕ) : Type 0 where
@@ -67,20 +68,24 @@ texts_at s ps = map (λ (p : PlacedParameter). value_text s p.value) ps
 
 -- Parameters at these places are laid at the front, with these tokens, and the canonical texts of their values are appended,
 -- put together so. What they need is added to the needs before, in their order
-pub record TakesPlaces (s : Schema) (entities : List ℕ) (tokens_of : Params → List Token) (text_of : List (List ℕ) → List ℕ) (places : List Place) (bytes rest old new : List ℕ) (before after : List Need) : Type 0 where
+pub record TakesPlaces (s : Schema) (entities : List ℕ) (tokens_of : Params → List Token) (text_of : List (List ℕ) → List ℕ) (places : List Place) (bytes rest : List ℕ) (old new : Taken) : Type 0 where
   pub placed : List PlacedParameter
   pub each : Each (IsPlacedParameter s entities) placed
   pub places_are : places_at placed ≡ places
   pub added : List Need
-  pub needs_are : after ≡ before ++ added
+  pub needs_are : new.needs.items ≡ old.needs.items ++ added
   pub added_are : needs_at placed ≡ map need_view added
   pub laid : LaidBefore bytes (tokens_of (params_at placed)) rest
-  pub text_is : new ≡ old ++ text_of (texts_at s placed)
+  pub text_is : new.draft ≡ old.draft ++ text_of (texts_at s placed)
+
+-- a parameter at a place of which the step speaks
+abbrev pub TakesStep : Schema → Step → List ℕ → List ℕ → Taken → Taken → Type 0
+TakesStep s step bytes rest old new = (at : PlaceType) → IsStepFor s at step → TakesWithNeeds s (FitsAtWithNeeds s at) 64 bytes rest old new
 
 -- they stand at the places of which these steps speak
-abbrev pub TakesSteps : Schema → (Params → List Token) → (List (List ℕ) → List ℕ) → List Step → List ℕ → List ℕ → List ℕ → List ℕ → List Need → List Need → Type 0
-TakesSteps s tokens_of text_of steps bytes rest old new before after =
-    (entities : List ℕ) (places : List Place) → AreStepsAt s entities places steps → TakesPlaces s entities tokens_of text_of places bytes rest old new before after
+abbrev pub TakesSteps : Schema → (Params → List Token) → (List (List ℕ) → List ℕ) → List Step → List ℕ → List ℕ → Taken → Taken → Type 0
+TakesSteps s tokens_of text_of steps bytes rest old new =
+    (entities : List ℕ) (places : List Place) → AreStepsAt s entities places steps → TakesPlaces s entities tokens_of text_of places bytes rest old new
 
 -- the steps say what may stand at some places
 abbrev pub AreStepsIn : Schema → List Step → Type 0
@@ -94,8 +99,8 @@ abbrev pub body_text : List (List ℕ) → List ℕ
 body_text texts = 40 ∷ (with_commas_between texts ++ (41 ∷ 59 ∷ []))
 
 -- the same behind the `(`
-pub record TakesInside (s : Schema) (steps : List Step) (bytes rest old new : List ℕ) (before after : List Need) : Type 0 where
+pub record TakesInside (s : Schema) (steps : List Step) (bytes rest : List ℕ) (old new : Taken) : Type 0 where
   pub behind : List ℕ
   pub between : List ℕ
-  pub places : TakesSteps s params_tokens with_commas_between steps bytes behind old between before after
-  pub ended : TakesTokens (right ∷ semicolon ∷ []) (41 ∷ 59 ∷ []) behind rest between new
+  pub places : TakesSteps s params_tokens with_commas_between steps bytes behind old (with_text between new)
+  pub ended : TakesTokens (right ∷ semicolon ∷ []) (41 ∷ 59 ∷ []) behind rest between new.draft

@@ -1,13 +1,13 @@
 -- Values that are taken straight from their bytes.
-use Rattle.std.specs.Prelude.{◌≡◌, ℕ, ◌≤◌, List, [], ◌∷◌, ◌++◌, codes, drop, length, map}
-use Rattle.p21_spec_laws.specs.Needs.{FitsWithNeeds}
+use Rattle.std.specs.Prelude.{◌≡◌, ℕ, ◌≤◌, Bool, List, [], ◌∷◌, ◌++◌, codes, drop, length, map}
+use Rattle.p21_spec_laws.specs.Needs.{FitsAtWithNeeds, FitsWithNeeds}
 use Rattle.p21_spec_exchange.specs.Nesting.{depth}
 use Rattle.p21_spec_exchange.specs.Parameter as parameter
 use Rattle.p21_spec_exchange.specs.Parameter.{Param, param_tokens}
 use Rattle.p21_spec_exchange.specs.Separator.{IsSeparatorText}
 use Rattle.p21_spec_exchange.specs.Token as token
 use Rattle.p21_spec_exchange.specs.Token.{Token, Spells, IsFollowed}
-use Rattle.p21_express_tables.specs.Base.{HasBase}
+use Rattle.p21_express_tables.specs.Base.{HasBase, IsBase}
 use Rattle.p21_express_tables.specs.declared.base.Base.{Base}
 use Rattle.p21_express_graph.specs.Resolved.{IsTypeUse}
 use Rattle.p21_spec_file.specs.Reference as meant
@@ -19,6 +19,8 @@ use Rattle.p21_spec_schema.specs.PlaceType.{PlaceType, stored_place}
 use Rattle.p21_spec_schema.specs.Schema.{Member, Schema, TypeNamed, TypeUse, type_member}
 use Rattle.p21_spec_schema.specs.Select.{Offers}
 use Rattle.p21_transcribe.specs.LeadingToken.{IsLeadingToken}
+use Rattle.p21_transcribe_instance.specs.declared.taken.Taken.{Taken}
+use Rattle.p21_transcribe_instance.specs.declared.value.Stored.{Stored}
 
 -- the tokens are laid at the front of the bytes, separator text before each, and behind the last one stands the rest
 abbrev pub LaidBefore : List ℕ → List Token → List ℕ → Type 0
@@ -36,26 +38,30 @@ pub record TakesValue (s : Schema) (Fits : Param → Value → Type 0) (most : �
   pub laid : LaidBefore bytes (param_tokens parameter) rest
   pub text_is : new ≡ old ++ value_text s value
 
+-- with this text, and the needs as they are
+abbrev pub with_text : List ℕ → Taken → Taken
+with_text text taken = record { draft = text; needs = taken.needs }
+
 -- the same of a parameter that has needs, which are added to those before
-pub record TakesWithNeeds (s : Schema) (Fits : Param → Value → List meant.Need → Type 0) (most : ℕ) (bytes rest old new : List ℕ) (before after : List Need) : Type 0 where
+pub record TakesWithNeeds (s : Schema) (Fits : Param → Value → List meant.Need → Type 0) (most : ℕ) (bytes rest : List ℕ) (old new : Taken) : Type 0 where
   pub added : List Need
-  pub needs_are : after ≡ before ++ added
-  pub takes : TakesValue s (λ p v. Fits p v (map need_view added)) most bytes rest old new
+  pub needs_are : new.needs.items ≡ old.needs.items ++ added
+  pub takes : TakesValue s (λ p v. Fits p v (map need_view added)) most bytes rest old.draft new.draft
 
 -- the same of a parameter that so many bytes at the front are
-abbrev pub TakesFront : (s : Schema) (Fits : Param → Value → List meant.Need → Type 0) (most : ℕ) (bytes : List ℕ) (count : ℕ) (old new : List ℕ) (before after : List Need) → Type 0
-TakesFront s Fits most bytes count old new before after = (count ≤ length bytes) × TakesWithNeeds s Fits most bytes (drop count bytes) old new before after
+abbrev pub TakesFront : Schema → (Param → Value → List meant.Need → Type 0) → ℕ → List ℕ → ℕ → Taken → Taken → Type 0
+TakesFront s Fits most bytes count old new = (count ≤ length bytes) × TakesWithNeeds s Fits most bytes (drop count bytes) old new
 
 -- the same of a parameter in parentheses, which are appended with it
-pub record TakesEnclosed (s : Schema) (Fits : Param → Value → List meant.Need → Type 0) (most : ℕ) (bytes rest old new : List ℕ) (before after : List Need) : Type 0 where
+pub record TakesEnclosed (s : Schema) (Fits : Param → Value → List meant.Need → Type 0) (most : ℕ) (bytes rest : List ℕ) (old new : Taken) : Type 0 where
   pub parameter : Param
   pub value : Value
   pub added : List Need
-  pub needs_are : after ≡ before ++ added
+  pub needs_are : new.needs.items ≡ old.needs.items ++ added
   pub fits : Fits parameter value (map need_view added)
   pub shallow : depth parameter ≤ most
   pub laid : LaidBefore bytes (token.left ∷ (param_tokens parameter ++ (token.right ∷ []))) rest
-  pub text_is : new ≡ old ++ (codes "(" ++ (value_text s value ++ codes ")"))
+  pub text_is : new.draft ≡ old.draft ++ (codes "(" ++ (value_text s value ++ codes ")"))
 
 -- a keyword is laid at the front, with the rest behind it; it names this type, which the select offers, and is appended
 pub record TakesKeyword (s : Schema) (select chosen : ℕ) (bytes rest old new : List ℕ) : Type 0 where
@@ -97,3 +103,25 @@ IsKnownAt s other = Unit {0}
 -- the new needs begin with the old ones
 abbrev pub KeepsNeeds : List Need → List Need → Type 0
 KeepsNeeds old new = (added : List Need) × (new ≡ old ++ added)
+
+-- so many bytes at the front are a name, which needs an instance of this member, at each type where it does
+abbrev pub TakesReference : Member → List ℕ → ℕ → Taken → Taken → Type 0
+TakesReference wanted bytes count old new =
+    (count ≤ length bytes) × ((s : Schema) (type : TypeUse) → TakesReferencesTo s type wanted → TakesWithNeeds s (FitsWithNeeds s type) 0 bytes (drop count bytes) old new)
+
+-- a value of a type that is this base
+abbrev pub TakesBase : Schema → Base → ℕ → List ℕ → List ℕ → Taken → Taken → Type 0
+TakesBase s base most bytes rest old new = (type : TypeUse) → IsBase s type base → TakesWithNeeds s (FitsWithNeeds s type) most bytes rest old new
+
+-- a value of a type that comes down to this base, in parentheses
+abbrev pub TakesEnclosedBase : Schema → Base → ℕ → List ℕ → List ℕ → Taken → Taken → Type 0
+TakesEnclosedBase s base most bytes rest old new = (type : TypeUse) → HasBase s type base → TakesEnclosed s (FitsWithNeeds s type) most bytes rest old new
+
+-- a value at a place with a type that comes down to this base
+abbrev pub TakesPlaced : Schema → Bool → Base → ℕ → List ℕ → List ℕ → Taken → Taken → Type 0
+TakesPlaced s optional base most bytes rest old new =
+    (type : TypeUse) → HasBase s type base → TakesWithNeeds s (FitsAtWithNeeds s (stored_place optional type)) most bytes rest old new
+
+-- what may stand at a place
+abbrev pub TakesStored : Stored → List ℕ → List ℕ → Taken → Taken → Type 0
+TakesStored at = TakesPlaced at.schema.now at.optional at.base.now at.most

@@ -8,27 +8,21 @@ ghost use Rattle.p21_values.specs.Canonical.{Continues};
 
 use crate::reference::append_reference;
 use crate::scalar::append_scalar;
+use crate::taken::Taken;
 use p21_express_graph::{Member, TypeUse};
-use p21_mapping_values::Need;
-use p21_transcribe::Draft;
 
 /// A value of a type that is no declared one and no aggregate: what stands behind it.
 #[inline(always)]
-pub(crate) fn append_plain<'a>(
-    of: &TypeUse,
-    bytes: &'a [u8],
-    draft: &mut Draft,
-    needs: &mut Vec<Need>,
-) -> Option<&'a [u8]>
-    ensures some { IfSome result (λ rest. (s : Meant) → TakesWithNeeds s (FitsWithNeeds s (type_use of.now)) 0 bytes.now rest.now draft.old draft.new needs.old.items needs.new.items) }
-    ensures draft { IfNone result (Continues draft.old draft.new) }
-    ensures needs { IfNone result (needs.new.items ≡ needs.old.items) }
+pub(crate) fn append_plain<'a>(of: &TypeUse, bytes: &'a [u8], taken: &mut Taken) -> Option<&'a [u8]>
+    ensures some { IfSome result (λ rest. (s : Meant) → TakesWithNeeds s (FitsWithNeeds s (type_use of.now)) 0 bytes.now rest.now taken.old taken.new) }
+    ensures draft { IfNone result (Continues taken.old.draft taken.new.draft) }
+    ensures needs { IfNone result (taken.new.needs.items ≡ taken.old.needs.items) }
 {
     match of {
         TypeUse::Entity(entity) => {
-            let count = append_reference(Member::Entity(*entity), bytes, draft, needs)?;
+            let count = append_reference(Member::Entity(*entity), bytes, taken)?;
             Some(&bytes[count..])
         }
-        _ => append_scalar(of, bytes, draft),
+        _ => append_scalar(of, bytes, &mut taken.draft),
     }
 }

@@ -8,8 +8,8 @@ ghost use Rattle.p21_values.specs.Canonical.{Continues};
 use crate::places::append_places;
 use crate::separated_delimiter::append_delimiter;
 use crate::step::Step;
+use crate::taken::Taken;
 use p21_express_tables::Schema;
-use p21_mapping_values::Need;
 use p21_transcribe::Draft;
 
 /// Appends the parameters at the front, by what may stand at their attributes, and the `)` and `;` behind them, and adds their
@@ -19,16 +19,15 @@ pub(crate) fn append_body<'a>(
     schema: &Schema,
     steps: &[Step],
     bytes: &'a [u8],
-    draft: &mut Draft,
-    needs: &mut Vec<Need>,
+    taken: &mut Taken,
 ) -> Option<&'a [u8]>
     requires { AreStepsIn schema.now steps.now }
-    ensures some { IfSome result (λ rest. TakesInside schema.now steps.now bytes.now rest.now draft.old draft.new needs.old.items needs.new.items) }
-    ensures draft { IfNone result (Continues draft.old draft.new) }
-    ensures needs { IfNone result (KeepsNeeds needs.old.items needs.new.items) }
+    ensures some { IfSome result (λ rest. TakesInside schema.now steps.now bytes.now rest.now taken.old taken.new) }
+    ensures draft { IfNone result (Continues taken.old.draft taken.new.draft) }
+    ensures needs { IfNone result (KeepsNeeds taken.old.needs.items taken.new.needs.items) }
 {
-    let behind = append_places(schema, steps, bytes, draft, needs)?;
-    append_end(behind, draft)
+    let behind = append_places(schema, steps, bytes, taken)?;
+    append_end(behind, &mut taken.draft)
 }
 
 /// Appends `)` and `;`: what stands behind them.

@@ -7,9 +7,9 @@ ghost use Rattle.p21_transcribe_instance.specs.TakenValues.{TakesFront, TakesKey
 ghost use Rattle.p21_values.specs.Canonical.{Continues};
 
 use crate::reference::append_reference;
+use crate::taken::Taken;
 use p21_express_graph::{Member, TypeId};
 use p21_express_tables::Schema;
-use p21_mapping_values::Need;
 use p21_transcribe::{Draft, append_keyword};
 
 /// A reference, at a select that offers an entity: how many bytes it has.
@@ -17,18 +17,17 @@ pub(crate) fn append_chosen(
     schema: &Schema,
     select: TypeId,
     bytes: &[u8],
-    draft: &mut Draft,
-    needs: &mut Vec<Need>,
+    taken: &mut Taken,
 ) -> Option<usize>
     requires { IsSelect schema.now select.0 }
-    ensures some { IfSome result (λ count. TakesFront schema.now (FitsWithNeeds schema.now (defined select.0)) 0 bytes.now count draft.old draft.new needs.old.items needs.new.items) }
-    ensures draft { IfNone result (Continues draft.old draft.new) }
-    ensures needs { IfNone result (needs.new.items ≡ needs.old.items) }
+    ensures some { IfSome result (λ count. TakesFront schema.now (FitsWithNeeds schema.now (defined select.0)) 0 bytes.now count taken.old taken.new) }
+    ensures draft { IfNone result (Continues taken.old.draft taken.new.draft) }
+    ensures needs { IfNone result (taken.new.needs.items ≡ taken.old.needs.items) }
 {
     if !schema.offers_entity(select) {
         return None;
     }
-    append_reference(Member::Defined(select), bytes, draft, needs)
+    append_reference(Member::Defined(select), bytes, taken)
 }
 
 /// Appends the keyword at the front, if it names a type that the select offers: the type, and what stands behind the

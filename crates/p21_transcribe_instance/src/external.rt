@@ -13,9 +13,8 @@ use crate::head::append_head;
 use crate::parts::append_record;
 use crate::separated_delimiter::append_delimiter;
 use crate::sets::Sets;
+use crate::taken::Taken;
 use p21_express_tables::Schema;
-use p21_mapping_values::Need;
-use p21_transcribe::Draft;
 use p21_values::{Name, NoMemory};
 use std::alloc::Global;
 use std::sync::ArcSlice;
@@ -35,19 +34,18 @@ pub fn append_external<'a>(
     schema: &Schema,
     sets: &mut Sets,
     bytes: &'a [u8],
-    draft: &mut Draft,
-    needs: &mut Vec<Need>,
+    taken: &mut Taken,
 ) -> Option<External<'a>>
     requires { AreExternalSets schema.now sets.old }
-    ensures some { IfSome result (λ found. TakesNumberedInstance schema.now found.name sets.new found.set bytes.now found.rest.now draft.old draft.new needs.old.items needs.new.items) }
-    ensures draft { IfNone result (Continues draft.old draft.new) }
-    ensures needs { IfNone result (KeepsNeeds needs.old.items needs.new.items) }
+    ensures some { IfSome result (λ found. TakesNumberedInstance schema.now found.name sets.new found.set bytes.now found.rest.now taken.old taken.new) }
+    ensures draft { IfNone result (Continues taken.old.draft taken.new.draft) }
+    ensures needs { IfNone result (KeepsNeeds taken.old.needs.items taken.new.needs.items) }
     ensures sets { AreExternalSets schema.now sets.new }
     ensures one { length sets.new ≤ length sets.old + 1 }
 {
-    let (number, behind) = append_head(bytes, draft)?;
-    let inside = append_delimiter(b'(', behind, draft)?;
-    let (set, rest) = append_records(schema, sets, inside, draft, needs)?;
+    let (number, behind) = append_head(bytes, &mut taken.draft)?;
+    let inside = append_delimiter(b'(', behind, &mut taken.draft)?;
+    let (set, rest) = append_records(schema, sets, inside, taken)?;
     Some(External {
         name: Name(number),
         set,
@@ -61,19 +59,18 @@ fn append_records<'a>(
     schema: &Schema,
     sets: &mut Sets,
     bytes: &'a [u8],
-    draft: &mut Draft,
-    needs: &mut Vec<Need>,
+    taken: &mut Taken,
 ) -> Option<(usize, &'a [u8])>
     requires { AreExternalSets schema.now sets.old }
-    ensures some { IfSome result (λ found. TakesNumbered schema.now sets.new found.0 bytes.now found.1.now draft.old draft.new needs.old.items needs.new.items) }
-    ensures draft { IfNone result (Continues draft.old draft.new) }
-    ensures needs { IfNone result (KeepsNeeds needs.old.items needs.new.items) }
+    ensures some { IfSome result (λ found. TakesNumbered schema.now sets.new found.0 bytes.now found.1.now taken.old taken.new) }
+    ensures draft { IfNone result (Continues taken.old.draft taken.new.draft) }
+    ensures needs { IfNone result (KeepsNeeds taken.old.needs.items taken.new.needs.items) }
     ensures sets { AreExternalSets schema.now sets.new }
     ensures one { length sets.new ≤ length sets.old + 1 }
 {
-    match append_by_guess(schema, sets, bytes, draft, needs) {
+    match append_by_guess(schema, sets, bytes, taken) {
         Some(found) => Some(found),
-        None => append_by_keywords(schema, sets, bytes, draft, needs),
+        None => append_by_keywords(schema, sets, bytes, taken),
     }
 }
 
@@ -82,22 +79,21 @@ fn append_by_guess<'a>(
     schema: &Schema,
     sets: &Sets,
     bytes: &'a [u8],
-    draft: &mut Draft,
-    needs: &mut Vec<Need>,
+    taken: &mut Taken,
 ) -> Option<(usize, &'a [u8])>
     requires { AreExternalSets schema.now sets.now }
-    ensures some { IfSome result (λ found. TakesNumbered schema.now sets.now found.0 bytes.now found.1.now draft.old draft.new needs.old.items needs.new.items) }
-    ensures draft { IfNone result (draft.new ≡ draft.old) }
-    ensures needs { IfNone result (needs.new.items ≡ needs.old.items) }
+    ensures some { IfSome result (λ found. TakesNumbered schema.now sets.now found.0 bytes.now found.1.now taken.old taken.new) }
+    ensures draft { IfNone result (taken.new.draft ≡ taken.old.draft) }
+    ensures needs { IfNone result (taken.new.needs.items ≡ taken.old.needs.items) }
 {
-    let start = draft.len();
-    let before = needs.len();
+    let start = taken.draft.len();
+    let before = taken.needs.len();
     let guess = sets.guess(bytes);
-    match append_by_set(schema, sets, guess, bytes, draft, needs) {
+    match append_by_set(schema, sets, guess, bytes, taken) {
         Some(rest) => Some((guess, rest)),
         None => {
-            draft.cut(start);
-            needs.truncate(before);
+            taken.draft.cut(start);
+            taken.needs.truncate(before);
             None
         }
     }
@@ -108,28 +104,27 @@ fn append_by_keywords<'a>(
     schema: &Schema,
     sets: &mut Sets,
     bytes: &'a [u8],
-    draft: &mut Draft,
-    needs: &mut Vec<Need>,
+    taken: &mut Taken,
 ) -> Option<(usize, &'a [u8])>
     requires { AreExternalSets schema.now sets.old }
-    ensures some { IfSome result (λ found. TakesNumbered schema.now sets.new found.0 bytes.now found.1.now draft.old draft.new needs.old.items needs.new.items) }
-    ensures draft { IfNone result (Continues draft.old draft.new) }
-    ensures needs { IfNone result (KeepsNeeds needs.old.items needs.new.items) }
+    ensures some { IfSome result (λ found. TakesNumbered schema.now sets.new found.0 bytes.now found.1.now taken.old taken.new) }
+    ensures draft { IfNone result (Continues taken.old.draft taken.new.draft) }
+    ensures needs { IfNone result (KeepsNeeds taken.old.needs.items taken.new.needs.items) }
     ensures sets { AreExternalSets schema.now sets.new }
     ensures one { length sets.new ≤ length sets.old + 1 }
 {
-    if draft.wants_memory() {
+    if taken.draft.wants_memory() {
         return None;
     }
-    let Ok(found) = set_ahead(*needs.allocator(), schema, sets, bytes) else {
-        draft.note_want_of_memory();
+    let Ok(found) = set_ahead(*taken.needs.allocator(), schema, sets, bytes) else {
+        taken.draft.note_want_of_memory();
         return None;
     };
     let Some(at) = found else {
         return None;
     };
     sets.expect(bytes, at);
-    let rest = append_by_set(schema, sets, at, bytes, draft, needs)?;
+    let rest = append_by_set(schema, sets, at, bytes, taken)?;
     Some((at, rest))
 }
 
@@ -139,16 +134,15 @@ fn append_by_set<'a>(
     sets: &Sets,
     at: usize,
     bytes: &'a [u8],
-    draft: &mut Draft,
-    needs: &mut Vec<Need>,
+    taken: &mut Taken,
 ) -> Option<&'a [u8]>
     requires { AreExternalSets schema.now sets.now }
-    ensures some { IfSome result (λ rest. TakesNumbered schema.now sets.now at bytes.now rest.now draft.old draft.new needs.old.items needs.new.items) }
-    ensures draft { IfNone result (Continues draft.old draft.new) }
-    ensures needs { IfNone result (KeepsNeeds needs.old.items needs.new.items) }
+    ensures some { IfSome result (λ rest. TakesNumbered schema.now sets.now at bytes.now rest.now taken.old taken.new) }
+    ensures draft { IfNone result (Continues taken.old.draft taken.new.draft) }
+    ensures needs { IfNone result (KeepsNeeds taken.old.needs.items taken.new.needs.items) }
 {
     let set = sets.get(at)?;
-    append_record(schema, set, bytes, draft, needs)
+    append_record(schema, set, bytes, taken)
 }
 
 /// The number of the set of the instance whose simple records stand at the front. Where it isn't kept yet, it is looked at and

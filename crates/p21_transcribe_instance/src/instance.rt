@@ -1,7 +1,6 @@
 //! The statement of an instance (ISO 10303-21, data sections; mapping of EXPRESS entity data types: internal mapping).
-ghost use Rattle.std.specs.Prelude.{ℕ, IfNone, IfSome, List};
-ghost use Rattle.p21_express_graph.specs.Rising.{IsOwnRising};
-ghost use Rattle.p21_transcribe_instance.specs.Instance.{TakesInstance};
+ghost use Rattle.std.specs.Prelude.{IfNone, IfSome};
+ghost use Rattle.p21_transcribe_instance.specs.Instance.{TakesOwnInstance};
 ghost use Rattle.p21_transcribe_instance.specs.Steps.{IsPlanOf};
 ghost use Rattle.p21_transcribe_instance.specs.TakenValues.{KeepsNeeds};
 ghost use Rattle.p21_values.specs.Canonical.{Continues};
@@ -10,10 +9,9 @@ use crate::body::append_body;
 use crate::entity::append_entity;
 use crate::head::append_head;
 use crate::plan::Plan;
+use crate::taken::Taken;
 use p21_express_graph::EntityId;
 use p21_express_tables::Schema;
-use p21_mapping_values::Need;
-use p21_transcribe::Draft;
 use p21_values::Name;
 
 /// An instance that was taken: its name, the entity whose closure its set is, and what stands behind its `;`.
@@ -32,21 +30,20 @@ pub fn append_instance<'a>(
     schema: &Schema,
     plan: &mut Plan,
     bytes: &'a [u8],
-    draft: &mut Draft,
-    needs: &mut Vec<Need>,
+    taken: &mut Taken,
 ) -> Option<Instance<'a>>
     requires { IsPlanOf schema.now plan.old }
-    ensures some { IfSome result (λ found. (entities : List ℕ) × IsOwnRising schema.now found.entity.0 entities × TakesInstance schema.now found.name entities bytes.now found.rest.now draft.old draft.new needs.old.items needs.new.items) }
-    ensures draft { IfNone result (Continues draft.old draft.new) }
-    ensures needs { IfNone result (KeepsNeeds needs.old.items needs.new.items) }
+    ensures some { IfSome result (λ found. TakesOwnInstance schema.now found.name found.entity.0 bytes.now found.rest.now taken.old taken.new) }
+    ensures draft { IfNone result (Continues taken.old.draft taken.new.draft) }
+    ensures needs { IfNone result (KeepsNeeds taken.old.needs.items taken.new.needs.items) }
     ensures plan { IsPlanOf schema.now plan.new }
 {
     schema.well_formed();
     schema.holds_together();
-    let (number, keyed) = append_head(bytes, draft)?;
-    let (entity, inside) = append_entity(schema, plan, keyed, draft)?;
+    let (number, keyed) = append_head(bytes, &mut taken.draft)?;
+    let (entity, inside) = append_entity(schema, plan, keyed, &mut taken.draft)?;
     let row = plan.row(entity)?;
-    let rest = append_body(schema, &row.steps, inside, draft, needs)?;
+    let rest = append_body(schema, &row.steps, inside, taken)?;
     Some(Instance {
         name: Name(number),
         entity,

@@ -30,9 +30,11 @@ mod scalar;
 mod separated_delimiter;
 mod sets;
 mod step;
+mod taken;
 mod value;
 
 pub use external::{External, append_external};
 pub use instance::{Instance, append_instance};
 pub use plan::Plan;
 pub use sets::Sets;
+pub use taken::Taken;

@@ -1,25 +1,21 @@
 //! The parameters of a simple record of external mapping, at the attributes that its entity declares itself (ISO 10303-21,
 //! mapping of EXPRESS entity data types: external mapping).
-ghost use Rattle.std.specs.Prelude.{◌≡◌, ◌-◌, ◌≤◌, length, IfNone, IfSome};
-ghost use Rattle.p21_spec_exchange.specs.Parameter.{more_tokens, params_tokens};
-ghost use Rattle.p21_express_graph.specs.Lookups.{AreEntities, places_from};
+ghost use Rattle.std.specs.Prelude.{◌≡◌, ◌≤◌, length, IfNone, IfSome};
+ghost use Rattle.p21_express_graph.specs.Lookups.{AreEntities};
 ghost use Rattle.p21_express_graph.specs.Orders.{numbers};
 ghost use Rattle.p21_express_graph.specs.Resolved.{IsEntity, IsPlace};
 ghost use Rattle.p21_express_graph.specs.Meaning.{place as place_of};
-ghost use Rattle.p21_spec_file.specs.ValueText.{with_commas, with_commas_between};
-ghost use Rattle.p21_spec_schema.specs.Order.{own_places};
 ghost use Rattle.p21_spec_schema.specs.Schema.{attributes_of};
-ghost use Rattle.p21_transcribe_instance.specs.Records.{TakesAtPlace};
-ghost use Rattle.p21_transcribe_instance.specs.TakenParameters.{TakesPlaces};
+ghost use Rattle.p21_transcribe_instance.specs.Records.{TakesAtPlace, TakesFurtherPlaces, TakesOwnPlaces};
 ghost use Rattle.p21_transcribe_instance.specs.TakenValues.{KeepsNeeds};
 ghost use Rattle.p21_values.specs.Canonical.{Continues};
 
 use crate::separated_delimiter::append_delimiter;
+use crate::taken::Taken;
 use crate::value::append_placed;
 use p21_express_graph::{EntityId, Place};
 use p21_express_tables::Schema;
-use p21_mapping_values::Need;
-use p21_transcribe::{Draft, behind_separators};
+use p21_transcribe::behind_separators;
 
 /// In a set of more entities a redeclared attribute is left to those who read the instance token by token.
 const MOST_OF_A_REDECLARING_SET: usize = 16;
@@ -39,14 +35,13 @@ pub(crate) fn append_own_parameters<'a>(
     set: &[EntityId],
     owner: EntityId,
     bytes: &'a [u8],
-    draft: &mut Draft,
-    needs: &mut Vec<Need>,
+    taken: &mut Taken,
 ) -> Option<&'a [u8]>
     requires set { AreEntities schema.now (numbers set.now) }
     requires owner { IsEntity schema.now owner.0 }
-    ensures some { IfSome result (λ rest. TakesPlaces schema.now (numbers set.now) params_tokens with_commas_between (own_places schema.now owner.0) bytes.now rest.now draft.old draft.new needs.old.items needs.new.items) }
-    ensures draft { IfNone result (Continues draft.old draft.new) }
-    ensures needs { IfNone result (KeepsNeeds needs.old.items needs.new.items) }
+    ensures some { IfSome result (λ rest. TakesOwnPlaces schema.now (numbers set.now) owner.0 bytes.now rest.now taken.old taken.new) }
+    ensures draft { IfNone result (Continues taken.old.draft taken.new.draft) }
+    ensures needs { IfNone result (KeepsNeeds taken.old.needs.items taken.new.needs.items) }
 {
     let count = schema.attribute_count(owner);
     if count == 0 {
@@ -60,14 +55,13 @@ pub(crate) fn append_own_parameters<'a>(
             index: 0,
         },
         bytes,
-        draft,
-        needs,
+        taken,
     )?;
     let owner = Owner {
         entity: owner,
         count,
     };
-    append_further_parameters(schema, set, owner, rest, draft, needs)
+    append_further_parameters(schema, set, owner, rest, taken)
 }
 
 /// The same from the second attribute on, with a comma before each.
@@ -76,24 +70,23 @@ fn append_further_parameters<'a>(
     set: &[EntityId],
     owner: Owner,
     bytes: &'a [u8],
-    draft: &mut Draft,
-    needs: &mut Vec<Need>,
+    taken: &mut Taken,
 ) -> Option<&'a [u8]>
     requires set { AreEntities schema.now (numbers set.now) }
     requires count { owner.count ≡ length (attributes_of schema.now owner.entity.0) }
     requires some { 1 ≤ owner.count }
-    ensures some { IfSome result (λ rest. TakesPlaces schema.now (numbers set.now) more_tokens with_commas (places_from owner.entity.0 1 (owner.count - 1)) bytes.now rest.now draft.old draft.new needs.old.items needs.new.items) }
-    ensures draft { IfNone result (Continues draft.old draft.new) }
-    ensures needs { IfNone result (KeepsNeeds needs.old.items needs.new.items) }
+    ensures some { IfSome result (λ rest. TakesFurtherPlaces schema.now (numbers set.now) owner.entity.0 owner.count bytes.now rest.now taken.old taken.new) }
+    ensures draft { IfNone result (Continues taken.old.draft taken.new.draft) }
+    ensures needs { IfNone result (KeepsNeeds taken.old.needs.items taken.new.needs.items) }
 {
     let mut rest = bytes;
     for index in 1..owner.count {
-        let behind = append_delimiter(b',', rest, draft)?;
+        let behind = append_delimiter(b',', rest, &mut taken.draft)?;
         let place = Place {
             entity: owner.entity,
             index,
         };
-        rest = append_parameter_at(schema, set, place, behind, draft, needs)?;
+        rest = append_parameter_at(schema, set, place, behind, taken)?;
     }
     Some(rest)
 }
@@ -105,14 +98,13 @@ fn append_parameter_at<'a>(
     set: &[EntityId],
     place: Place,
     bytes: &'a [u8],
-    draft: &mut Draft,
-    needs: &mut Vec<Need>,
+    taken: &mut Taken,
 ) -> Option<&'a [u8]>
     requires set { AreEntities schema.now (numbers set.now) }
     requires place { IsPlace schema.now (place_of place) }
-    ensures some { IfSome result (λ rest. TakesAtPlace schema.now (numbers set.now) (place_of place) bytes.now rest.now draft.old draft.new needs.old.items needs.new.items) }
-    ensures draft { IfNone result (Continues draft.old draft.new) }
-    ensures needs { IfNone result (KeepsNeeds needs.old.items needs.new.items) }
+    ensures some { IfSome result (λ rest. TakesAtPlace schema.now (numbers set.now) (place_of place) bytes.now rest.now taken.old taken.new) }
+    ensures draft { IfNone result (Continues taken.old.draft taken.new.draft) }
+    ensures needs { IfNone result (KeepsNeeds taken.old.needs.items taken.new.needs.items) }
 {
     if is_dear(schema, set, place) {
         return None;
@@ -120,7 +112,7 @@ fn append_parameter_at<'a>(
     schema.holds_together();
     let at = schema.type_at(set, place);
     let front = behind_separators(bytes);
-    let count = append_placed(schema, at, front, draft, needs)?;
+    let count = append_placed(schema, at, front, taken)?;
     Some(&front[count..])
 }
 

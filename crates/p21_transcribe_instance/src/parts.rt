@@ -13,9 +13,9 @@ use crate::body::append_end;
 use crate::own_parameters::append_own_parameters;
 use crate::same::are_same;
 use crate::separated_delimiter::append_delimiter;
+use crate::taken::Taken;
 use p21_express_graph::EntityId;
 use p21_express_tables::Schema;
-use p21_mapping_values::Need;
 use p21_transcribe::{Draft, append_keyword, behind_separators};
 
 /// Appends the simple records at the front, one for each entity of a set in its order, and the `)` and `;` behind them, and
@@ -24,16 +24,15 @@ pub(crate) fn append_record<'a>(
     schema: &Schema,
     set: &[EntityId],
     bytes: &'a [u8],
-    draft: &mut Draft,
-    needs: &mut Vec<Need>,
+    taken: &mut Taken,
 ) -> Option<&'a [u8]>
     requires { AreEntities schema.now (numbers set.now) }
-    ensures some { IfSome result (λ rest. TakesRecord schema.now (numbers set.now) bytes.now rest.now draft.old draft.new needs.old.items needs.new.items) }
-    ensures draft { IfNone result (Continues draft.old draft.new) }
-    ensures needs { IfNone result (KeepsNeeds needs.old.items needs.new.items) }
+    ensures some { IfSome result (λ rest. TakesRecord schema.now (numbers set.now) bytes.now rest.now taken.old taken.new) }
+    ensures draft { IfNone result (Continues taken.old.draft taken.new.draft) }
+    ensures needs { IfNone result (KeepsNeeds taken.old.needs.items taken.new.needs.items) }
 {
-    let behind = append_parts(schema, set, bytes, draft, needs)?;
-    append_end(behind, draft)
+    let behind = append_parts(schema, set, bytes, taken)?;
+    append_end(behind, &mut taken.draft)
 }
 
 /// Appends the simple records.
@@ -41,17 +40,16 @@ fn append_parts<'a>(
     schema: &Schema,
     set: &[EntityId],
     bytes: &'a [u8],
-    draft: &mut Draft,
-    needs: &mut Vec<Need>,
+    taken: &mut Taken,
 ) -> Option<&'a [u8]>
     requires { AreEntities schema.now (numbers set.now) }
-    ensures some { IfSome result (λ rest. TakesParts schema.now (numbers set.now) (numbers set.now) bytes.now rest.now draft.old draft.new needs.old.items needs.new.items) }
-    ensures draft { IfNone result (Continues draft.old draft.new) }
-    ensures needs { IfNone result (KeepsNeeds needs.old.items needs.new.items) }
+    ensures some { IfSome result (λ rest. TakesParts schema.now (numbers set.now) (numbers set.now) bytes.now rest.now taken.old taken.new) }
+    ensures draft { IfNone result (Continues taken.old.draft taken.new.draft) }
+    ensures needs { IfNone result (KeepsNeeds taken.old.needs.items taken.new.needs.items) }
 {
     let mut rest = bytes;
     for owner in set {
-        rest = append_part(schema, set, *owner, rest, draft, needs)?;
+        rest = append_part(schema, set, *owner, rest, taken)?;
     }
     Some(rest)
 }
@@ -62,19 +60,18 @@ fn append_part<'a>(
     set: &[EntityId],
     owner: EntityId,
     bytes: &'a [u8],
-    draft: &mut Draft,
-    needs: &mut Vec<Need>,
+    taken: &mut Taken,
 ) -> Option<&'a [u8]>
     requires set { AreEntities schema.now (numbers set.now) }
     requires owner { IsEntity schema.now owner.0 }
-    ensures some { IfSome result (λ rest. TakesParts schema.now (numbers set.now) (owner.0 ∷ []) bytes.now rest.now draft.old draft.new needs.old.items needs.new.items) }
-    ensures draft { IfNone result (Continues draft.old draft.new) }
-    ensures needs { IfNone result (KeepsNeeds needs.old.items needs.new.items) }
+    ensures some { IfSome result (λ rest. TakesParts schema.now (numbers set.now) (owner.0 ∷ []) bytes.now rest.now taken.old taken.new) }
+    ensures draft { IfNone result (Continues taken.old.draft taken.new.draft) }
+    ensures needs { IfNone result (KeepsNeeds taken.old.needs.items taken.new.needs.items) }
 {
-    let keyed = append_name_of(schema, owner, bytes, draft)?;
-    let inside = append_delimiter(b'(', keyed, draft)?;
-    let behind = append_own_parameters(schema, set, owner, inside, draft, needs)?;
-    let rest = append_delimiter(b')', behind, draft)?;
+    let keyed = append_name_of(schema, owner, bytes, &mut taken.draft)?;
+    let inside = append_delimiter(b'(', keyed, &mut taken.draft)?;
+    let behind = append_own_parameters(schema, set, owner, inside, taken)?;
+    let rest = append_delimiter(b')', behind, &mut taken.draft)?;
     Some(rest)
 }
 

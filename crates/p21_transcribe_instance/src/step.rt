@@ -102,32 +102,17 @@ fn step_at(alloc: Global, schema: &Schema, entity: EntityId, place: Place) -> Re
     requires decided { TypeAt schema.now (order schema.now entity.0) (place_of place) two_redeclarations → ⊥ }
     ensures { IfOk result (λ step. IsStepAt schema.now (order schema.now entity.0) (place_of place) step) }
 {
+    schema.holds_together();
     match schema.own_type(entity, place) {
         PlaceType::Derived => Ok(Step::Derived),
-        PlaceType::Stored(optional, of) => stored_step(alloc, schema, entity, place, optional, of),
+        PlaceType::Stored(optional, of) => {
+            let found = reduced_type(alloc, schema, of)?;
+            match found {
+                Some(last) => Ok(Step::Stored(optional, last)),
+                None => Ok(Step::Placed(entity, place)),
+            }
+        }
         PlaceType::Two => unreachable!(),
-    }
-}
-
-/// What may stand at one of these attributes where it is a value of this type.
-fn stored_step(
-    alloc: Global,
-    schema: &Schema,
-    entity: EntityId,
-    place: Place,
-    optional: bool,
-    of: &TypeUse,
-) -> Result<Step, NoMemory>
-    requires entity { IsEntity schema.now entity.0 }
-    requires place { IsPlace schema.now (place_of place) }
-    requires type_at { TypeAt schema.now (order schema.now entity.0) (place_of place) (stored_place optional (type_use of.now)) }
-    ensures { IfOk result (λ step. IsStepAt schema.now (order schema.now entity.0) (place_of place) step) }
-{
-    schema.holds_together();
-    let found = reduced_type(alloc, schema, of)?;
-    match found {
-        Some(last) => Ok(Step::Stored(optional, last)),
-        None => Ok(Step::Placed(entity, place)),
     }
 }
 

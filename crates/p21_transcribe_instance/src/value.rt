@@ -1,16 +1,16 @@
 //! A value, by what may stand at its attribute.
-ghost use Rattle.std.specs.Prelude.{◌≡◌, ◌+◌, [], ◌∷◌, ◌++◌, length, false, true, IfNone, IfSome, IsTrue};
+ghost use Rattle.std.specs.Prelude.{◌≡◌, [], ◌∷◌, ◌++◌, length, false, true, IfNone, IfSome, IsTrue};
 ghost use Rattle.p21_spec_laws.specs.Needs.{FitsAtWithNeeds, FitsWithNeeds};
-ghost use Rattle.p21_express_tables.specs.Base.{HasBase, IsBase};
+ghost use Rattle.p21_express_tables.specs.Base.{HasBase};
 ghost use Rattle.p21_express_graph.specs.Resolved.{HoldsTogether, IsTypeUse};
 ghost use Rattle.p21_express_graph.specs.Meaning.{place_type, type_use};
-ghost use Rattle.p21_spec_schema.specs.PlaceType.{PlaceType as MeantPlace, stored_place};
-ghost use Rattle.p21_spec_schema.specs.Schema.{TypeUse as MeantType, defined};
+ghost use Rattle.p21_spec_schema.specs.Schema.{defined};
 ghost use Rattle.p21_spec_schema.specs.Select.{IsSelect};
-ghost use Rattle.p21_transcribe_instance.specs.Steps.{IsStepForSome, IsStepFor};
-ghost use Rattle.p21_transcribe_instance.specs.Elements.{AddsLength, IsAggregateOf, TakesElements};
+ghost use Rattle.p21_transcribe_instance.specs.Steps.{IsStepForSome};
+ghost use Rattle.p21_transcribe_instance.specs.Elements.{AddsLength, IsAggregateOf, TakesAggregate, TakesStoredEach};
 ghost use Rattle.p21_transcribe_instance.specs.Reals.{IsRealBase};
-ghost use Rattle.p21_transcribe_instance.specs.TakenValues.{IsBaseInSchema, IsKnownAt, KeepsNeeds, TakesEnclosed, TakesFront, TakesWithNeeds};
+ghost use Rattle.p21_transcribe_instance.specs.TakenParameters.{TakesStep};
+ghost use Rattle.p21_transcribe_instance.specs.TakenValues.{IsBaseInSchema, IsKnownAt, KeepsNeeds, TakesBase, TakesEnclosedBase, TakesFront, TakesStored, TakesWithNeeds};
 ghost use Rattle.p21_values.specs.Canonical.{Continues};
 
 use crate::aggregate::{are_compared, element_of};
@@ -22,10 +22,10 @@ use crate::order::append_close;
 use crate::reals::{append_each_real, is_real};
 use crate::scalar::append_listed;
 use crate::step::Step;
+use crate::taken::Taken;
 use p21_express_graph::{PlaceType, TypeId, TypeUse};
 use p21_express_tables::{Base, Schema};
 use p21_mapping::allows_count;
-use p21_mapping_values::Need;
 use p21_transcribe::{Draft, behind_separators};
 
 /// How deep lists and typed parameters stand one in another at most, as in the grammar.
@@ -57,17 +57,16 @@ pub(crate) fn append_value<'a>(
     schema: &Schema,
     step: &Step,
     bytes: &'a [u8],
-    draft: &mut Draft,
-    needs: &mut Vec<Need>,
+    taken: &mut Taken,
 ) -> Option<&'a [u8]>
     requires { IsStepForSome schema.now step.now }
-    ensures some { IfSome result (λ rest. (at : MeantPlace) → IsStepFor schema.now at step.now → TakesWithNeeds schema.now (FitsAtWithNeeds schema.now at) 64 bytes.now rest.now draft.old draft.new needs.old.items needs.new.items) }
-    ensures draft { IfNone result (Continues draft.old draft.new) }
-    ensures needs { IfNone result (KeepsNeeds needs.old.items needs.new.items) }
+    ensures some { IfSome result (λ rest. TakesStep schema.now step.now bytes.now rest.now taken.old taken.new) }
+    ensures draft { IfNone result (Continues taken.old.draft taken.new.draft) }
+    ensures needs { IfNone result (KeepsNeeds taken.old.needs.items taken.new.needs.items) }
 {
     schema.holds_together();
     match step {
-        Step::Derived => append_delimiter(b'*', bytes, draft),
+        Step::Derived => append_delimiter(b'*', bytes, &mut taken.draft),
         Step::Stored(optional, of) => {
             let base = base_of(schema, of);
             let at = Stored {
@@ -76,11 +75,11 @@ pub(crate) fn append_value<'a>(
                 base: &base,
                 most: NESTING,
             };
-            append_stored(&at, bytes, draft, needs)
+            append_stored(&at, bytes, taken)
         }
         Step::Placed(entity, place) => {
             let at = schema.own_type(*entity, *place);
-            let count = append_placed(schema, at, bytes, draft, needs)?;
+            let count = append_placed(schema, at, bytes, taken)?;
             Some(&bytes[count..])
         }
     }
@@ -92,15 +91,14 @@ pub(crate) fn append_placed(
     schema: &Schema,
     at: PlaceType<'_>,
     bytes: &[u8],
-    draft: &mut Draft,
-    needs: &mut Vec<Need>,
+    taken: &mut Taken,
 ) -> Option<usize>
     requires { IsKnownAt schema.now (place_type at) }
-    ensures some { IfSome result (λ count. TakesFront schema.now (FitsAtWithNeeds schema.now (place_type at.entry)) 64 bytes.now count draft.old draft.new needs.old.items needs.new.items) }
-    ensures draft { IfNone result (Continues draft.old draft.new) }
-    ensures needs { IfNone result (KeepsNeeds needs.old.items needs.new.items) }
+    ensures some { IfSome result (λ count. TakesFront schema.now (FitsAtWithNeeds schema.now (place_type at.entry)) 64 bytes.now count taken.old taken.new) }
+    ensures draft { IfNone result (Continues taken.old.draft taken.new.draft) }
+    ensures needs { IfNone result (KeepsNeeds taken.old.needs.items taken.new.needs.items) }
 {
-    let rest = append_at(schema, at, bytes, draft, needs)?;
+    let rest = append_at(schema, at, bytes, taken)?;
     Some(bytes.len() - rest.len())
 }
 
@@ -110,16 +108,15 @@ fn append_at<'a>(
     schema: &Schema,
     at: PlaceType<'_>,
     bytes: &'a [u8],
-    draft: &mut Draft,
-    needs: &mut Vec<Need>,
+    taken: &mut Taken,
 ) -> Option<&'a [u8]>
     requires { IsKnownAt schema.now (place_type at) }
-    ensures some { IfSome result (λ rest. TakesWithNeeds schema.now (FitsAtWithNeeds schema.now (place_type at.entry)) 64 bytes.now rest.now draft.old draft.new needs.old.items needs.new.items) }
-    ensures draft { IfNone result (Continues draft.old draft.new) }
-    ensures needs { IfNone result (KeepsNeeds needs.old.items needs.new.items) }
+    ensures some { IfSome result (λ rest. TakesWithNeeds schema.now (FitsAtWithNeeds schema.now (place_type at.entry)) 64 bytes.now rest.now taken.old taken.new) }
+    ensures draft { IfNone result (Continues taken.old.draft taken.new.draft) }
+    ensures needs { IfNone result (KeepsNeeds taken.old.needs.items taken.new.needs.items) }
 {
     match at {
-        PlaceType::Derived => append_delimiter(b'*', bytes, draft),
+        PlaceType::Derived => append_delimiter(b'*', bytes, &mut taken.draft),
         PlaceType::Stored(optional, of) => {
             let base = base_of(schema, of);
             let at = Stored {
@@ -128,7 +125,7 @@ fn append_at<'a>(
                 base: &base,
                 most: NESTING,
             };
-            append_stored(&at, bytes, draft, needs)
+            append_stored(&at, bytes, taken)
         }
         PlaceType::Two => None,
     }
@@ -137,20 +134,15 @@ fn append_at<'a>(
 /// A value, or `$` where there may be none.
 #[inline(always)]
 #[cycle(append)]
-fn append_stored<'a>(
-    at: &Stored<'_>,
-    bytes: &'a [u8],
-    draft: &mut Draft,
-    needs: &mut Vec<Need>,
-) -> Option<&'a [u8]>
+fn append_stored<'a>(at: &Stored<'_>, bytes: &'a [u8], taken: &mut Taken) -> Option<&'a [u8]>
     requires { IsBaseInSchema at.now.schema.now at.now.base.now }
-    ensures some { IfSome result (λ rest. (type : MeantType) → HasBase at.now.schema.now type at.now.base.now → TakesWithNeeds at.now.schema.now (FitsAtWithNeeds at.now.schema.now (stored_place at.now.optional type)) at.now.most bytes.now rest.now draft.old draft.new needs.old.items needs.new.items) }
-    ensures draft { IfNone result (Continues draft.old draft.new) }
-    ensures needs { IfNone result (KeepsNeeds needs.old.items needs.new.items) }
+    ensures some { IfSome result (λ rest. TakesStored at.now bytes.now rest.now taken.old taken.new) }
+    ensures draft { IfNone result (Continues taken.old.draft taken.new.draft) }
+    ensures needs { IfNone result (KeepsNeeds taken.old.needs.items taken.new.needs.items) }
 {
-    match append_left_out(at.optional, bytes, draft) {
+    match append_left_out(at.optional, bytes, &mut taken.draft) {
         Some(rest) => Some(rest),
-        None => append_present(at.schema, at.base, at.most, bytes, draft, needs),
+        None => append_present(at.schema, at.base, at.most, bytes, taken),
     }
 }
 
@@ -174,22 +166,21 @@ fn append_present<'a>(
     base: &Base<'_>,
     most: usize,
     bytes: &'a [u8],
-    draft: &mut Draft,
-    needs: &mut Vec<Need>,
+    taken: &mut Taken,
 ) -> Option<&'a [u8]>
     requires { IsBaseInSchema schema.now base.now }
-    ensures some { IfSome result (λ rest. (type : MeantType) → IsBase schema.now type base.now → TakesWithNeeds schema.now (FitsWithNeeds schema.now type) most bytes.now rest.now draft.old draft.new needs.old.items needs.new.items) }
-    ensures draft { IfNone result (Continues draft.old draft.new) }
-    ensures needs { IfNone result (KeepsNeeds needs.old.items needs.new.items) }
+    ensures some { IfSome result (λ rest. TakesBase schema.now base.now most bytes.now rest.now taken.old taken.new) }
+    ensures draft { IfNone result (Continues taken.old.draft taken.new.draft) }
+    ensures needs { IfNone result (KeepsNeeds taken.old.needs.items taken.new.needs.items) }
 {
     match base {
         Base::Select(select) => {
-            let count = append_choice(schema, *select, most, bytes, draft, needs)?;
+            let count = append_choice(schema, *select, most, bytes, taken)?;
             Some(&bytes[count..])
         }
-        Base::Plain(of) => append_undeclared(schema, of, most, bytes, draft, needs),
+        Base::Plain(of) => append_undeclared(schema, of, most, bytes, taken),
         Base::Items(words) => {
-            let count = append_listed(words, bytes, draft)?;
+            let count = append_listed(words, bytes, &mut taken.draft)?;
             Some(&bytes[count..])
         }
     }
@@ -203,18 +194,17 @@ fn append_choice(
     select: TypeId,
     most: usize,
     bytes: &[u8],
-    draft: &mut Draft,
-    needs: &mut Vec<Need>,
+    taken: &mut Taken,
 ) -> Option<usize>
     requires { IsSelect schema.now select.0 }
-    ensures some { IfSome result (λ count. TakesFront schema.now (FitsWithNeeds schema.now (defined select.0)) most bytes.now count draft.old draft.new needs.old.items needs.new.items) }
-    ensures draft { IfNone result (Continues draft.old draft.new) }
-    ensures needs { IfNone result (KeepsNeeds needs.old.items needs.new.items) }
+    ensures some { IfSome result (λ count. TakesFront schema.now (FitsWithNeeds schema.now (defined select.0)) most bytes.now count taken.old taken.new) }
+    ensures draft { IfNone result (Continues taken.old.draft taken.new.draft) }
+    ensures needs { IfNone result (KeepsNeeds taken.old.needs.items taken.new.needs.items) }
 {
     match bytes.first() {
-        Some(b'#') => append_chosen(schema, select, bytes, draft, needs),
+        Some(b'#') => append_chosen(schema, select, bytes, taken),
         _ => {
-            let rest = append_typed(schema, select, most, bytes, draft, needs)?;
+            let rest = append_typed(schema, select, most, bytes, taken)?;
             Some(bytes.len() - rest.len())
         }
     }
@@ -228,21 +218,20 @@ fn append_typed<'a>(
     select: TypeId,
     most: usize,
     bytes: &'a [u8],
-    draft: &mut Draft,
-    needs: &mut Vec<Need>,
+    taken: &mut Taken,
 ) -> Option<&'a [u8]>
     requires { IsSelect schema.now select.0 }
-    ensures some { IfSome result (λ rest. TakesWithNeeds schema.now (FitsWithNeeds schema.now (defined select.0)) most bytes.now rest.now draft.old draft.new needs.old.items needs.new.items) }
-    ensures draft { IfNone result (Continues draft.old draft.new) }
-    ensures needs { IfNone result (KeepsNeeds needs.old.items needs.new.items) }
+    ensures some { IfSome result (λ rest. TakesWithNeeds schema.now (FitsWithNeeds schema.now (defined select.0)) most bytes.now rest.now taken.old taken.new) }
+    ensures draft { IfNone result (Continues taken.old.draft taken.new.draft) }
+    ensures needs { IfNone result (KeepsNeeds taken.old.needs.items taken.new.needs.items) }
 {
     if most == 0 {
         return None;
     }
-    let (chosen, behind) = append_offered(schema, select, bytes, draft)?;
+    let (chosen, behind) = append_offered(schema, select, bytes, &mut taken.draft)?;
     let of = TypeUse::Defined(chosen);
     let base = base_of(schema, &of);
-    append_enclosed(schema, &base, most - 1, behind, draft, needs)
+    append_enclosed(schema, &base, most - 1, behind, taken)
 }
 
 /// A value of a type that comes down to this, in parentheses.
@@ -253,18 +242,17 @@ fn append_enclosed<'a>(
     base: &Base<'_>,
     most: usize,
     bytes: &'a [u8],
-    draft: &mut Draft,
-    needs: &mut Vec<Need>,
+    taken: &mut Taken,
 ) -> Option<&'a [u8]>
     requires { IsBaseInSchema schema.now base.now }
-    ensures some { IfSome result (λ rest. (type : MeantType) → HasBase schema.now type base.now → TakesEnclosed schema.now (FitsWithNeeds schema.now type) most bytes.now rest.now draft.old draft.new needs.old.items needs.new.items) }
-    ensures draft { IfNone result (Continues draft.old draft.new) }
-    ensures needs { IfNone result (KeepsNeeds needs.old.items needs.new.items) }
+    ensures some { IfSome result (λ rest. TakesEnclosedBase schema.now base.now most bytes.now rest.now taken.old taken.new) }
+    ensures draft { IfNone result (Continues taken.old.draft taken.new.draft) }
+    ensures needs { IfNone result (KeepsNeeds taken.old.needs.items taken.new.needs.items) }
 {
-    let opened = append_next_delimiter(b'(', bytes, draft)?;
+    let opened = append_next_delimiter(b'(', bytes, &mut taken.draft)?;
     let inside = behind_separators(opened);
-    let behind = append_present(schema, base, most, inside, draft, needs)?;
-    append_next_delimiter(b')', behind, draft)
+    let behind = append_present(schema, base, most, inside, taken)?;
+    append_next_delimiter(b')', behind, &mut taken.draft)
 }
 
 /// A value of a type that is no declared one.
@@ -275,13 +263,12 @@ fn append_undeclared<'a>(
     of: &TypeUse,
     most: usize,
     bytes: &'a [u8],
-    draft: &mut Draft,
-    needs: &mut Vec<Need>,
+    taken: &mut Taken,
 ) -> Option<&'a [u8]>
     requires { HoldsTogether schema.now → IsTypeUse schema.now (type_use of.now) }
-    ensures some { IfSome result (λ rest. TakesWithNeeds schema.now (FitsWithNeeds schema.now (type_use of.now)) most bytes.now rest.now draft.old draft.new needs.old.items needs.new.items) }
-    ensures draft { IfNone result (Continues draft.old draft.new) }
-    ensures needs { IfNone result (KeepsNeeds needs.old.items needs.new.items) }
+    ensures some { IfSome result (λ rest. TakesWithNeeds schema.now (FitsWithNeeds schema.now (type_use of.now)) most bytes.now rest.now taken.old taken.new) }
+    ensures draft { IfNone result (Continues taken.old.draft taken.new.draft) }
+    ensures needs { IfNone result (KeepsNeeds taken.old.needs.items taken.new.needs.items) }
 {
     match element_of(of) {
         Some((optional, element)) => {
@@ -290,10 +277,10 @@ fn append_undeclared<'a>(
                 optional,
                 element,
             };
-            let count = append_aggregate(schema, &aggregate, most, bytes, draft, needs)?;
+            let count = append_aggregate(schema, &aggregate, most, bytes, taken)?;
             Some(&bytes[count..])
         }
-        None => append_plain(of, bytes, draft, needs),
+        None => append_plain(of, bytes, taken),
     }
 }
 
@@ -305,28 +292,27 @@ fn append_aggregate(
     aggregate: &Aggregate<'_>,
     most: usize,
     bytes: &[u8],
-    draft: &mut Draft,
-    needs: &mut Vec<Need>,
+    taken: &mut Taken,
 ) -> Option<usize>
     requires known { HoldsTogether schema.now → IsTypeUse schema.now (type_use aggregate.now.of.now) }
     requires elements { IsAggregateOf (type_use aggregate.now.of.now) aggregate.now.optional (type_use aggregate.now.element.now) }
-    ensures some { IfSome result (λ count. TakesFront schema.now (FitsWithNeeds schema.now (type_use aggregate.now.of.now)) most bytes.now count draft.old draft.new needs.old.items needs.new.items) }
-    ensures draft { IfNone result (Continues draft.old draft.new) }
-    ensures needs { IfNone result (KeepsNeeds needs.old.items needs.new.items) }
+    ensures some { IfSome result (λ count. TakesFront schema.now (FitsWithNeeds schema.now (type_use aggregate.now.of.now)) most bytes.now count taken.old taken.new) }
+    ensures draft { IfNone result (Continues taken.old.draft taken.new.draft) }
+    ensures needs { IfNone result (KeepsNeeds taken.old.needs.items taken.new.needs.items) }
 {
     if most == 0 {
         return None;
     }
     schema.holds_together();
     let base = base_of(schema, aggregate.element);
-    let mut lengths = Vec::new(*needs.allocator());
+    let mut lengths = Vec::new(*taken.needs.allocator());
     let at = Stored {
         schema,
         optional: aggregate.optional,
         base: &base,
         most: most - 1,
     };
-    let rest = append_counted(&at, aggregate.of, bytes, draft, needs, &mut lengths)?;
+    let rest = append_counted(&at, aggregate.of, bytes, taken, &mut lengths)?;
     Some(bytes.len() - rest.len())
 }
 
@@ -337,25 +323,24 @@ fn append_counted<'a>(
     at: &Stored<'_>,
     of: &TypeUse,
     bytes: &'a [u8],
-    draft: &mut Draft,
-    needs: &mut Vec<Need>,
+    taken: &mut Taken,
     lengths: &mut Vec<usize>,
 ) -> Option<&'a [u8]>
     requires base { IsBaseInSchema at.now.schema.now at.now.base.now }
     requires empty { lengths.old.items ≡ [] }
-    ensures some { IfSome result (λ rest. (element : MeantType) → IsAggregateOf (type_use of.now) at.now.optional element → HasBase at.now.schema.now element at.now.base.now → TakesWithNeeds at.now.schema.now (FitsWithNeeds at.now.schema.now (type_use of.now)) (at.now.most + 1) bytes.now rest.now draft.old draft.new needs.old.items needs.new.items) }
-    ensures draft { IfNone result (Continues draft.old draft.new) }
-    ensures needs { IfNone result (KeepsNeeds needs.old.items needs.new.items) }
+    ensures some { IfSome result (λ rest. TakesAggregate at.now (type_use of.now) bytes.now rest.now taken.old taken.new) }
+    ensures draft { IfNone result (Continues taken.old.draft taken.new.draft) }
+    ensures needs { IfNone result (KeepsNeeds taken.old.needs.items taken.new.needs.items) }
 {
-    let start = draft.len();
+    let start = taken.draft.len();
     let compared = are_compared(of);
-    let inside = append_delimiter(b'(', bytes, draft)?;
-    let (count, behind) = append_elements(at, compared, inside, draft, needs, lengths)?;
+    let inside = append_delimiter(b'(', bytes, &mut taken.draft)?;
+    let (count, behind) = append_elements(at, compared, inside, taken, lengths)?;
     if !allows_count(of, count) {
         return None;
     }
     at.schema.well_formed();
-    append_close(of, start, lengths, behind, draft)
+    append_close(of, start, lengths, behind, &mut taken.draft)
 }
 
 /// Elements with a comma between each two: how many, and what stands behind them. How long they are is added where they are
@@ -366,19 +351,18 @@ fn append_elements<'a>(
     at: &Stored<'_>,
     compared: bool,
     bytes: &'a [u8],
-    draft: &mut Draft,
-    needs: &mut Vec<Need>,
+    taken: &mut Taken,
     lengths: &mut Vec<usize>,
 ) -> Option<(usize, &'a [u8])>
     requires { IsBaseInSchema at.now.schema.now at.now.base.now }
-    ensures some { IfSome result (λ found. (element : MeantType) → HasBase at.now.schema.now element at.now.base.now → TakesElements at.now.schema.now at.now.optional element compared at.now.most found.0 bytes.now found.1.now draft.old draft.new lengths.old.items lengths.new.items needs.old.items needs.new.items) }
-    ensures draft { IfNone result (Continues draft.old draft.new) }
-    ensures needs { IfNone result (KeepsNeeds needs.old.items needs.new.items) }
+    ensures some { IfSome result (λ found. TakesStoredEach at.now compared found.0 bytes.now found.1.now lengths.old.items lengths.new.items taken.old taken.new) }
+    ensures draft { IfNone result (Continues taken.old.draft taken.new.draft) }
+    ensures needs { IfNone result (KeepsNeeds taken.old.needs.items taken.new.needs.items) }
 {
     if are_reals(at, compared) {
-        return append_each_real(bytes, draft);
+        return append_each_real(bytes, &mut taken.draft);
     }
-    append_each(at, compared, bytes, draft, needs, lengths)
+    append_each(at, compared, bytes, taken, lengths)
 }
 
 /// Whether there stand reals alone, which aren't compared.
@@ -396,24 +380,23 @@ fn append_each<'a>(
     at: &Stored<'_>,
     compared: bool,
     bytes: &'a [u8],
-    draft: &mut Draft,
-    needs: &mut Vec<Need>,
+    taken: &mut Taken,
     lengths: &mut Vec<usize>,
 ) -> Option<(usize, &'a [u8])>
     requires { IsBaseInSchema at.now.schema.now at.now.base.now }
-    ensures some { IfSome result (λ found. (element : MeantType) → HasBase at.now.schema.now element at.now.base.now → TakesElements at.now.schema.now at.now.optional element compared at.now.most found.0 bytes.now found.1.now draft.old draft.new lengths.old.items lengths.new.items needs.old.items needs.new.items) }
-    ensures draft { IfNone result (Continues draft.old draft.new) }
-    ensures needs { IfNone result (KeepsNeeds needs.old.items needs.new.items) }
+    ensures some { IfSome result (λ found. TakesStoredEach at.now compared found.0 bytes.now found.1.now lengths.old.items lengths.new.items taken.old taken.new) }
+    ensures draft { IfNone result (Continues taken.old.draft taken.new.draft) }
+    ensures needs { IfNone result (KeepsNeeds taken.old.needs.items taken.new.needs.items) }
 {
     let first = behind_separators(bytes);
     if let Some(b')') = first.first() {
         return Some((0, bytes));
     }
-    let mut behind = append_element(at, compared, first, draft, needs, lengths)?;
+    let mut behind = append_element(at, compared, first, taken, lengths)?;
     let mut count = 1;
-    while let Some(next) = append_next_delimiter(b',', behind, draft) {
+    while let Some(next) = append_next_delimiter(b',', behind, &mut taken.draft) {
         let inside = behind_separators(next);
-        behind = append_element(at, compared, inside, draft, needs, lengths)?;
+        behind = append_element(at, compared, inside, taken, lengths)?;
         count += 1;
     }
     Some((count, behind))
@@ -426,20 +409,19 @@ fn append_element<'a>(
     at: &Stored<'_>,
     compared: bool,
     bytes: &'a [u8],
-    draft: &mut Draft,
-    needs: &mut Vec<Need>,
+    taken: &mut Taken,
     lengths: &mut Vec<usize>,
 ) -> Option<&'a [u8]>
     requires { IsBaseInSchema at.now.schema.now at.now.base.now }
-    ensures some { IfSome result (λ rest. (element : MeantType) → HasBase at.now.schema.now element at.now.base.now → TakesWithNeeds at.now.schema.now (FitsAtWithNeeds at.now.schema.now (stored_place at.now.optional element)) at.now.most bytes.now rest.now draft.old draft.new needs.old.items needs.new.items) }
-    ensures lengths { IfSome result (λ rest. AddsLength compared (length draft.old) (length draft.new) lengths.old.items lengths.new.items) }
-    ensures draft { IfNone result (Continues draft.old draft.new) }
-    ensures needs { IfNone result (KeepsNeeds needs.old.items needs.new.items) }
+    ensures some { IfSome result (λ rest. TakesStored at.now bytes.now rest.now taken.old taken.new) }
+    ensures lengths { IfSome result (λ rest. AddsLength compared (length taken.old.draft) (length taken.new.draft) lengths.old.items lengths.new.items) }
+    ensures draft { IfNone result (Continues taken.old.draft taken.new.draft) }
+    ensures needs { IfNone result (KeepsNeeds taken.old.needs.items taken.new.needs.items) }
 {
-    let before = draft.len();
-    let rest = append_stored(at, bytes, draft, needs)?;
-    if !add_length(compared, before, draft.len(), lengths) {
-        draft.note_want_of_memory();
+    let before = taken.draft.len();
+    let rest = append_stored(at, bytes, taken)?;
+    if !add_length(compared, before, taken.draft.len(), lengths) {
+        taken.draft.note_want_of_memory();
         return None;
     }
     Some(rest)

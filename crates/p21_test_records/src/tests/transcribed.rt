@@ -1,9 +1,7 @@
 use super::schemas::DEMO;
 use super::*;
 use p21_express_graph::EntityId;
-use p21_mapping_values::Need;
-use p21_transcribe::Draft;
-use p21_transcribe_instance::{Plan, Sets, append_external, append_instance};
+use p21_transcribe_instance::{Plan, Sets, Taken, append_external, append_instance};
 
 /// No canonical line here has more bytes.
 const ROOM: usize = 64;
@@ -14,57 +12,38 @@ fn is_known(schema: &Schema, plan: &mut Plan, entity: EntityId) -> bool {
 }
 
 /// Appends an instance of internal mapping whose entity is named POINT: whether it is taken whole.
-fn append_point(
-    alloc: Global,
-    schema: &Schema,
-    text: &[u8],
-    draft: &mut Draft,
-    needs: &mut Vec<Need>,
-) -> bool {
+fn append_point(alloc: Global, schema: &Schema, text: &[u8], taken: &mut Taken) -> bool {
     let mut plan = Plan::new(alloc);
-    match append_instance(schema, &mut plan, text, draft, needs) {
+    match append_instance(schema, &mut plan, text, taken) {
         Some(found) => found.rest.is_empty() && is_known(schema, &mut plan, found.entity),
         None => false,
     }
 }
 
 /// Appends an instance of external mapping: whether it is taken whole, and its set is kept.
-fn append_several(
-    alloc: Global,
-    schema: &Schema,
-    text: &[u8],
-    draft: &mut Draft,
-    needs: &mut Vec<Need>,
-) -> bool {
+fn append_several(alloc: Global, schema: &Schema, text: &[u8], taken: &mut Taken) -> bool {
     let mut sets = Sets::new(alloc);
-    match append_external(schema, &mut sets, text, draft, needs) {
+    match append_external(schema, &mut sets, text, taken) {
         Some(found) => found.rest.is_empty() && sets.get(found.set).is_some(),
         None => false,
     }
 }
 
 /// Appends an instance of either mapping.
-fn append_either(
-    alloc: Global,
-    schema: &Schema,
-    text: &[u8],
-    draft: &mut Draft,
-    needs: &mut Vec<Need>,
-) -> bool {
-    if append_point(alloc, schema, text, draft, needs) {
+fn append_either(alloc: Global, schema: &Schema, text: &[u8], taken: &mut Taken) -> bool {
+    if append_point(alloc, schema, text, taken) {
         return true;
     }
-    draft.cut(0);
-    append_several(alloc, schema, text, draft, needs)
+    taken.draft.cut(0);
+    append_several(alloc, schema, text, taken)
 }
 
 /// Whether an instance is taken straight from its bytes, with this canonical line.
 fn is_taken(alloc: Global, schema: &Schema, text: &[u8], wanted: &[u8]) -> bool {
-    let mut draft = Draft::new(alloc);
-    let mut needs = Vec::new(alloc);
-    draft.make_room(ROOM).is_ok()
-        && append_either(alloc, schema, text, &mut draft, &mut needs)
-        && draft.between(0, draft.len()) == wanted
+    let mut taken = Taken::new(alloc);
+    taken.draft.make_room(ROOM).is_ok()
+        && append_either(alloc, schema, text, &mut taken)
+        && taken.draft.between(0, taken.draft.len()) == wanted
 }
 
 fn first_left_of(alloc: Global, schema: &Schema, rows: Rows) -> &'static str {

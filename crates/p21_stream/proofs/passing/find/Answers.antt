@@ -7,7 +7,7 @@ use Rattle.p21_stream.proofs.passing.find.Goals as goal
 pub returns-in-Some-clause-found : goal.returns-in-Some-clause-found
 returns-in-Some-clause-found c =
     let (entities, rising, takes) = c.in-Some.ensures.some in
-    (entities, rising, found-in c.args.schema.now c.in-Some.instance.name entities c.args.piece.now c.in-Some.instance.rest.now _ _ _ _ takes c.forget.ensures.draft c.forget.ensures.needs)
+    (entities, rising, found-in c.args.schema.now c.in-Some.instance.name entities c.args.piece.now c.in-Some.instance.rest.now _ _ takes c.forget.ensures.draft c.forget.ensures.needs)
 
 pub overflow_sub-result : goal.overflow_sub-result
 overflow_sub-result c =

@@ -7,4 +7,5 @@ pub offers_entity-requires : goal.offers_entity-requires
 offers_entity-requires c = select-known c.args.schema.now c.args.select.0 c.requires
 
 pub returns-clause-some : goal.returns-clause-some
-returns-clause-some c = some_to _ (λ count. chosen-front c.args.schema.now c.args.select.0 c.args.bytes.now count _ _ _ _ (c.if-not-offers_entity.ensures.0 refl)) c.append_reference.ensures.some
+returns-clause-some c =
+    some_to _ (λ count. chosen-front c.args.schema.now c.args.select.0 c.args.bytes.now count _ _ (c.if-not-offers_entity.ensures.0 refl)) c.append_reference.ensures.some

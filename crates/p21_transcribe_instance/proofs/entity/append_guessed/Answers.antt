@@ -14,5 +14,6 @@ returns-clause-some c =
     let count = c.in_ok-count.count in
     let (word, named, keyword) = (c.in_ok-row.ensures s c.requires).keyword c.if-not-row.false in
     let own = c.if-not-has_name.ensures refl in
-    let found = opened-at s e bytes count _ _ c.in_ok-count.ensures.0 c.in_ok-count.ensures.1 own (subst IsKeyword (EntityNamed-one s e word (take count bytes) named own) keyword) (c.if-not-append_prefix.ensures {u = tt}) in
+    let found =
+    opened-at s e bytes count _ _ c.in_ok-count.ensures.0 c.in_ok-count.ensures.1 own (subst IsKeyword (EntityNamed-one s e word (take count bytes) named own) keyword) (c.if-not-append_prefix.ensures {u = tt}) in
     subst (λ (rest : List ℕ). TakesOpenedEntity s e bytes rest c.args.draft.now c.append_prefix.new.self) (sym (rest_is bytes (count + 1))) found

@@ -3,10 +3,12 @@ use Rattle.p21_transcribe_instance.proofs.Joining.{draft-back, needs-back}
 use Rattle.p21_transcribe_instance.proofs.external.append_by_guess.Goals as goal
 
 pub cut-requires : goal.cut-requires
-cut-requires c = (draft-back c.args.draft.now c.append_by_set.new.draft c.len-start.result c.len-start.ensures c.in-None.ensures.draft).0
+cut-requires c = (draft-back c.args.taken.now.draft c.append_by_set.new.taken.draft c.len-start.result c.len-start.ensures c.in-None.ensures.draft).0
 
 pub returns-in-None-clause-draft : goal.returns-in-None-clause-draft
-returns-in-None-clause-draft c = c.cut.ensures ∙ (draft-back c.args.draft.now c.append_by_set.new.draft c.len-start.result c.len-start.ensures c.in-None.ensures.draft).1
+returns-in-None-clause-draft c =
+    c.cut.ensures ∙ (draft-back c.args.taken.now.draft c.append_by_set.new.taken.draft c.len-start.result c.len-start.ensures c.in-None.ensures.draft).1
 
 pub returns-in-None-clause-needs : goal.returns-in-None-clause-needs
-returns-in-None-clause-needs c = c.truncate.ensures.items ∙ needs-back c.args.needs.now.items c.append_by_set.new.needs.items c.len-before.result (c.len-before.ensures ∙ c.args.needs.now.ok.0) c.in-None.ensures.needs
+returns-in-None-clause-needs c =
+    c.truncate.ensures.items ∙ needs-back c.args.taken.now.needs.items c.append_by_set.new.taken.needs.items c.len-before.result (c.len-before.ensures ∙ c.args.taken.now.needs.ok.0) c.in-None.ensures.needs

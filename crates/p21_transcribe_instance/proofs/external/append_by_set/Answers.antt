@@ -16,7 +16,7 @@ append_record-requires c =
 pub returns-clause-some : goal.returns-clause-some
 returns-clause-some c =
     let usual = usual-at c.args.schema.now c.args.sets.now c.args.at (numbers c.in_ok-set.set.now) c.requires c.in_ok-set.ensures in
-    some_to _ (λ rest. numbered-taken c.args.schema.now c.args.sets.now c.args.at (numbers c.in_ok-set.set.now) c.args.bytes.now rest.now _ _ _ _ c.in_ok-set.ensures usual) c.append_record.ensures.some
+    some_to _ (λ rest. numbered-taken c.args.schema.now c.args.sets.now c.args.at (numbers c.in_ok-set.set.now) c.args.bytes.now rest.now _ _ c.in_ok-set.ensures usual) c.append_record.ensures.some
 
 pub returns-in_err-set-clause-draft : goal.returns-in_err-set-clause-draft
 returns-in_err-set-clause-draft c = none_from _ (continues-same _ _ refl)

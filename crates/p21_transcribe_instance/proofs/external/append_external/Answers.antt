@@ -9,7 +9,7 @@ use Rattle.p21_values.proofs.Continuing.{continues-join}
 pub returns-clause-some : goal.returns-clause-some
 returns-clause-some c =
     let h = c.in_ok-set.ensures.some in
-    record { entities = h.entities; numbered = h.numbered; takes = external-taken c.args.schema.now h.entities h.usual c.in_ok-number.number c.args.bytes.now _ _ _ _ _ _ _ _ _ c.in_ok-number.ensures.some c.in_ok-inside.ensures.some h.takes }
+    record { entities = h.entities; numbered = h.numbered; takes = external-taken c.args.schema.now h.entities h.usual c.in_ok-number.number c.args.bytes.now _ _ _ c.args.taken.now _ _ _ c.in_ok-number.ensures.some c.in_ok-inside.ensures.some h.takes }
 
 pub returns-in_err-number-clause-needs : goal.returns-in_err-number-clause-needs
 returns-in_err-number-clause-needs c = none_from _ (needs-same _ _ refl)

@@ -6,7 +6,8 @@ use Rattle.p21_transcribe_instance.specs.ExternalSet.{IsExternalSet}
 use Rattle.p21_transcribe_instance.proofs.external.set_ahead.Goals as goal
 
 pub is_external_set-requires : goal.is_external_set-requires
-is_external_set-requires c = subst (λ (es : List EntityId). AreEntities c.args.schema.now (numbers es)) (sym (c.as_slice.ensures.value ∙ c.in_ok-set.ensures)) (rw c.in-Some.is at c.in_ok-found.ensures)
+is_external_set-requires c =
+    subst (λ (es : List EntityId). AreEntities c.args.schema.now (numbers es)) (sym (c.as_slice.ensures.value ∙ c.in_ok-set.ensures)) (rw c.in-Some.is at c.in_ok-found.ensures)
 
 pub returns-in_err-at-clause-sets : goal.returns-in_err-at-clause-sets
 returns-in_err-at-clause-sets c =

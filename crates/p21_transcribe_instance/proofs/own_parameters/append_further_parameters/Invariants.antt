@@ -12,7 +12,7 @@ use Rattle.p21_transcribe_instance.proofs.own_parameters.append_further_paramete
 abbrev pub invariant-loop-index : goal.invariant-loop-index
 invariant-loop-index l = record {
   some : 1 ≤ l.index;
-  takes : TakesPlaces l.schema (numbers l.set) more_tokens with_commas (places_from l.owner.entity.0 1 (l.index - 1)) l.bytes l.rest l.fn.draft l.draft l.fn.needs.items l.needs.items;
-  draft : Continues l.fn.draft l.draft;
-  needs : KeepsNeeds l.fn.needs.items l.needs.items;
+  takes : TakesPlaces l.schema (numbers l.set) more_tokens with_commas (places_from l.owner.entity.0 1 (l.index - 1)) l.bytes l.rest l.fn.taken l.taken;
+  draft : Continues l.fn.taken.draft l.taken.draft;
+  needs : KeepsNeeds l.fn.taken.needs.items l.taken.needs.items;
 }

@@ -12,7 +12,7 @@ use Rattle.p21_values.proofs.Continuing.{continues-same, continues-join}
 
 pub loop-owner-init : goal.loop-owner-init
 loop-owner-init c = record {
-  takes = no-parts c.args.schema.now (numbers c.args.set.now) c.args.bytes.now c.args.draft.now c.args.needs.now.items;
+  takes = no-parts c.args.schema.now (numbers c.args.set.now) c.args.bytes.now c.args.taken.now;
   draft = continues-same _ _ refl;
   needs = needs-same _ _ refl;
 }
@@ -28,14 +28,14 @@ returns-in_err-rest-clause-needs c = none_from _ (needs-join _ _ _ c.loop-owner.
 
 pub loop-owner-preserved : goal.loop-owner-preserved
 loop-owner-preserved c =
-    let goes_on = parts-go_on _ _ _ _ _ _ _ _ _ c.in_ok-rest.ensures.some in
+    let goes_on = parts-go_on _ _ _ _ _ _ _ c.in_ok-rest.ensures.some in
     record {
-      takes = next-part c.args.schema.now (numbers c.args.set.now) c.args.set.now c.loop-owner.owner-index record { 0 = 0 } c.args.bytes.now _ _ _ _ _ _ _ _ c.loop-owner-test.true c.loop-owner.invariant.takes c.in_ok-rest.ensures.some;
+      takes = next-part c.args.schema.now (numbers c.args.set.now) c.args.set.now c.loop-owner.owner-index record { 0 = 0 } c.args.bytes.now _ _ _ _ _ c.loop-owner-test.true c.loop-owner.invariant.takes c.in_ok-rest.ensures.some;
       draft = continues-join _ _ _ c.loop-owner.invariant.draft goes_on.0;
       needs = needs-join _ _ _ c.loop-owner.invariant.needs goes_on.1;
     }
 
 pub returns-clause-some : goal.returns-clause-some
 returns-clause-some c =
-    subst (λ (es : List EntityId). TakesParts c.args.schema.now (numbers c.args.set.now) (numbers es) c.args.bytes.now c.loop-owner.rest.now c.args.draft.now c.loop-owner.draft c.args.needs.now.items c.loop-owner.needs.items)
+    subst (λ (es : List EntityId). TakesParts c.args.schema.now (numbers c.args.set.now) (numbers es) c.args.bytes.now c.loop-owner.rest.now c.args.taken.now c.loop-owner.taken)
     (take_all c.loop-owner.owner-index c.args.set.now (omega (arith, c.loop-owner-test.false))) c.loop-owner.invariant.takes

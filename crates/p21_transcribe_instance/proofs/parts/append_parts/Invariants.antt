@@ -8,7 +8,7 @@ use Rattle.p21_transcribe_instance.proofs.parts.append_parts.Given as goal
 -- the simple records of the entities so far are taken
 abbrev pub invariant-loop-owner : goal.invariant-loop-owner
 invariant-loop-owner l = record {
-  takes : TakesParts l.schema (numbers l.set) (numbers (take l.owner-index l.set)) l.bytes l.rest l.fn.draft l.draft l.fn.needs.items l.needs.items;
-  draft : Continues l.fn.draft l.draft;
-  needs : KeepsNeeds l.fn.needs.items l.needs.items;
+  takes : TakesParts l.schema (numbers l.set) (numbers (take l.owner-index l.set)) l.bytes l.rest l.fn.taken l.taken;
+  draft : Continues l.fn.taken.draft l.taken.draft;
+  needs : KeepsNeeds l.fn.taken.needs.items l.taken.needs.items;
 }

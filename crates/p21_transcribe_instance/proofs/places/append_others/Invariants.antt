@@ -9,7 +9,7 @@ use Rattle.p21_transcribe_instance.proofs.places.append_others.Given as goal
 -- the values of the steps so far are taken
 abbrev pub invariant-loop-step : goal.invariant-loop-step
 invariant-loop-step l = record {
-  takes : TakesSteps l.schema more_tokens with_commas (take l.step-index l.steps) l.bytes l.rest l.fn.draft l.draft l.fn.needs.items l.needs.items;
-  draft : Continues l.fn.draft l.draft;
-  needs : KeepsNeeds l.fn.needs.items l.needs.items;
+  takes : TakesSteps l.schema more_tokens with_commas (take l.step-index l.steps) l.bytes l.rest l.fn.taken l.taken;
+  draft : Continues l.fn.taken.draft l.taken.draft;
+  needs : KeepsNeeds l.fn.taken.needs.items l.taken.needs.items;
 }

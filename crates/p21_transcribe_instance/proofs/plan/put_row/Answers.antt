@@ -6,7 +6,8 @@ use Rattle.p21_transcribe_instance.specs.declared.row.Row.{Row}
 use Rattle.p21_transcribe_instance.proofs.plan.put_row.Goals as goal
 
 pub loop-rows-preserved : goal.loop-rows-preserved
-loop-rows-preserved c = λ s are. subst (λ (rows : List (Option Row)). IsPlanOf s (rows_view rows)) (sym c.in_ok-push.ensures.items) (row_more s c.loop-rows.rows.items (c.loop-rows.invariant s are))
+loop-rows-preserved c =
+    λ s are. subst (λ (rows : List (Option Row)). IsPlanOf s (rows_view rows)) (sym c.in_ok-push.ensures.items) (row_more s c.loop-rows.rows.items (c.loop-rows.invariant s are))
 
 pub returns-in_err-push : goal.returns-in_err-push
 returns-in_err-push c = λ s are has. subst (λ (rows : List (Option Row)). IsPlanOf s (rows_view rows)) (sym c.in_err-push.ensures.items) (c.loop-rows.invariant s are)

@@ -25,7 +25,8 @@ loop-next-preserved c =
     )
 
 pub returns-in_err-behind-2-clause-none : goal.returns-in_err-behind-2-clause-none
-returns-in_err-behind-2-clause-none c = rw c.from_residual-in_err-behind-2.ensures (continues-join _ _ _ (goes-on _ _ _ _ c.loop-next.invariant.1 c.in-Some.ensures.some.1) c.in_err-behind-2.ensures.draft)
+returns-in_err-behind-2-clause-none c =
+    rw c.from_residual-in_err-behind-2.ensures (continues-join _ _ _ (goes-on _ _ _ _ c.loop-next.invariant.1 c.in-Some.ensures.some.1) c.in_err-behind-2.ensures.draft)
 
 pub returns-clause-some : goal.returns-clause-some
 returns-clause-some c = rw c.in_default-append_next_delimiter.ensures.none (reals-end c.args.bytes.now c.args.draft.now c.loop-next.count _ _ c.loop-next.invariant.0)

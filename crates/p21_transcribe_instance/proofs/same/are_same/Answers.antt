@@ -4,7 +4,8 @@ use Rattle.p21_transcribe_instance.proofs.Words.{all-same, more-same, same-numbe
 use Rattle.p21_transcribe_instance.proofs.same.are_same.Goals as goal
 
 pub loop-count-preserved : goal.loop-count-preserved
-loop-count-preserved c = more-same c.args.bytes.now c.args.others.now c.loop-count.count c.loop-count.invariant (sym c.word_at.ensures ∙ ap (to_le_bytes w64) c.if-word_at.false ∙ c.word_at-in-loop-count.ensures)
+loop-count-preserved c =
+    more-same c.args.bytes.now c.args.others.now c.loop-count.count c.loop-count.invariant (sym c.word_at.ensures ∙ ap (to_le_bytes w64) c.if-word_at.false ∙ c.word_at-in-loop-count.ensures)
 
 pub returns : goal.returns
 returns c = λ same.

@@ -30,5 +30,6 @@ loop-index-preserved c = λ before are.
 pub returns : goal.returns
 returns c = λ before are.
     let s = c.args.schema.now in
-    let end : c.loop-index.index ≡ length (attributes_of s c.args.owner.0) = omega (arith, c.attribute_count-count.ensures, c.loop-index-test.false, c.loop-index.auto.index-end) in
+    let end : c.loop-index.index ≡ length (attributes_of s c.args.owner.0) =
+    omega (arith, c.attribute_count-count.ensures, c.loop-index-test.false, c.loop-index.auto.index-end) in
     subst (λ (places : List Place). AreStepsAt s (order s c.args.entity.0) places c.loop-index.steps.items) (ap (λ (x : List Place). before ++ x) (ap (places_from c.args.owner.0 0) end ∙ own-places-are s c.args.owner.0)) (c.loop-index.invariant before are)

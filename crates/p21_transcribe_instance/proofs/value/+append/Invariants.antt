@@ -41,4 +41,5 @@ abbrev pub decreases-append_each-loop-next : goal.decreases-append_each-loop-nex
 decreases-append_each-loop-next l = length l.behind
 
 abbrev pub invariant-append_each-loop-next : goal.invariant-append_each-loop-next
-invariant-append_each-loop-next l = Along l.at.schema.now l.at.base.now l.at.optional l.compared l.at.most l.fn.bytes l.fn.draft l.fn.lengths.items l.fn.needs.items l.count l.behind l.draft l.lengths.items l.needs.items × (l.count + length l.behind ≤ length l.fn.bytes + 1)
+invariant-append_each-loop-next l =
+    Along l.at.schema.now l.at.base.now l.at.optional l.compared l.at.most l.fn.bytes l.fn.lengths.items l.fn.taken l.count l.behind l.lengths.items l.taken × (l.count + length l.behind ≤ length l.fn.bytes + 1)
