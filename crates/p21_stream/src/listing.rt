@@ -124,7 +124,8 @@ fn read_all<R: Read>(
     }
 }
 
-/// Surveys what a reader gives at once, and says how many bytes: 0 at the end alone.
+/// Surveys what a reader gives at once, and says how many bytes: 0 at the end alone. Its seven arguments are what `read_all` has in
+/// its loop, of which this is a round.
 fn read_more<R: Read>(
     surveying: &mut Surveying,
     schema: &Schema,

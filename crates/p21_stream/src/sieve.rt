@@ -84,7 +84,7 @@ impl Sieve {
         }
     }
 
-    /// Takes an instance by its record.
+    /// Takes an instance by its record. It has the arguments of the same call of `Kept`.
     fn take_instance(
         &mut self,
         schema: &Schema,

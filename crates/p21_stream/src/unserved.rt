@@ -22,7 +22,7 @@ pub(crate) fn list_unserved(
     list_each(kept, names, schema, most, kept.waiting(), refusals)
 }
 
-/// Lists those of these references.
+/// Lists those of these references, which are all that wait: so the loop is over a parameter.
 fn list_each(
     kept: &Kept,
     names: &BTreeSet<u64>,

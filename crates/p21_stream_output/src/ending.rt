@@ -13,7 +13,8 @@ use std::alloc::Global;
 
 /// The accepted file of the canonical lines of its header records, each with its line feed, of its data sections in the
 /// order of the source, with no positions yet, and of its instances. Its size is counted already, and so are its statements: the
-/// number is that of the one that was open at the end of the bytes.
+/// number is that of the one that was open at the end of the bytes. What is kept comes field by field, since a struct of another
+/// crate that is taken by value is expensive to prove.
 ///
 /// # Errors
 ///
