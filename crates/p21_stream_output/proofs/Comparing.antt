@@ -4,7 +4,7 @@ use Rattle.std.proofs.lemmas.List.{append_assoc, append_cancel_left, append-nil,
 use Rattle.std.specs.List.{flat_map}
 use Rattle.std.specs.Prelude.{MatchOption}
 use Rattle.p21_stream_output.specs.Compared.{LacksPrefix}
-use Rattle.p21_stream_output.proofs.Putting.{row-more, row-rest}
+use Rattle.p21_stream_output.proofs.Putting.{row-further, row-more, row-rest}
 
 -- ---- one behind the other
 
@@ -30,6 +30,18 @@ none_behind text mid front g h xs k d low is a apart =
     let so_far : LacksPrefix text (flat_map g (map h (take (k + 1) xs))) =
     subst (LacksPrefix text) (ap (λ (l : List ℕ). flat_map g (map h (take k xs)) ++ l) is ∙ sym (row-more g h xs k d low)) (not_second text (flat_map g (map h (take k xs))) front mid a apart) in
     subst (LacksPrefix text) (sym (row-rest g h xs (k + 1))) (not_first text (flat_map g (map h (take (k + 1) xs))) (flat_map g (map h (drop (k + 1) xs))) so_far)
+
+pub further_behind : {X Y : Type 0} (text mid rest : List ℕ) (g : Y → List ℕ) (h : X → Y) (xs : List X) (ys : List Y) (k n : ℕ) → ys ≡ map h (take n (drop k xs)) → text ≡ flat_map g (map h (take k xs)) ++ mid
+    → mid ≡ flat_map g ys ++ rest → text ≡ flat_map g (map h (take (k + n) xs)) ++ rest
+further_behind text mid rest g h xs ys k n are a b =
+    both_behind text (flat_map g (map h (take k xs))) (flat_map g ys) mid rest a b ∙ ap (λ (l : List ℕ). l ++ rest) (sym (row-further g h xs ys k n are))
+
+pub further_lacks : {X Y : Type 0} (text mid : List ℕ) (g : Y → List ℕ) (h : X → Y) (xs : List X) (ys : List Y) (k n : ℕ) → ys ≡ map h (take n (drop k xs)) → text ≡ flat_map g (map h (take k xs)) ++ mid
+    → LacksPrefix mid (flat_map g ys) → LacksPrefix text (flat_map g (map h xs))
+further_lacks text mid g h xs ys k n are a apart =
+    let so_far : LacksPrefix text (flat_map g (map h (take (k + n) xs))) =
+    subst (LacksPrefix text) (sym (row-further g h xs ys k n are)) (not_second text (flat_map g (map h (take k xs))) (flat_map g ys) mid a apart) in
+    subst (LacksPrefix text) (sym (row-rest g h xs (k + n))) (not_first text (flat_map g (map h (take (k + n) xs))) (flat_map g (map h (drop (k + n) xs))) so_far)
 
 pub all_behind : {X Y : Type 0} (text rest : List ℕ) (g : Y → List ℕ) (h : X → Y) (xs : List X) (k : ℕ) → length xs ≤ k → text ≡ flat_map g (map h (take k xs)) ++ rest → text ≡ flat_map g (map h xs) ++ rest
 all_behind {X} {Y} text rest g h xs k above a = subst (λ (ys : List X). text ≡ flat_map g (map h ys) ++ rest) (take_all k xs above) a

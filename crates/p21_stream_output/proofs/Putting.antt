@@ -1,15 +1,12 @@
 -- Texts put one behind the other, and written.
-use Rattle.std.proofs.Common.{◌≡◌, ◌+◌, ◌<◌, ◌≤◌, ℕ, zero, suc, List, [], ◌∷◌, ◌++◌, length, map, take, drop, get_or, Option, Some, None, sym, ap, subst, ◌∙◌, arith}
+use Rattle.std.proofs.Common.{◌≡◌, ◌+◌, ◌<◌, ◌≤◌, ℕ, zero, suc, List, [], ◌∷◌, ◌++◌, length, map, take, drop, get_or, Option, sym, ap, subst, ◌∙◌, arith}
 use Rattle.std.proofs.lemmas.Grind.{flat_map-append}
+use Rattle.std.proofs.Math.Seq.{take-add}
 use Rattle.std.proofs.lemmas.List.{append_assoc, append-nil, length-append, map-append, take_all, take_more, take-append-drop}
-use Rattle.std.proofs.lemmas.Option.{get_or_from_slice_get}
 use Rattle.std.specs.Io.KnownBytes.{Appends}
 use Rattle.std.specs.List.{flat_map, AllByRecursion as Each}
-use Rattle.std.specs.Prelude.{slice_get}
-use Rattle.p21_stream_output.specs.Stored.{text_at}
 use Rattle.p21_stream_io.proofs.TransferLemmas.{appends_more}
 use Rattle.p21_stream_io.specs.Transfer.{AppendsAllBut, AppendsPartOf}
-use Rattle.p21_stream_store.specs.StoredInstance.{StoredInstance}
 
 -- ---- one behind the other
 
@@ -53,6 +50,13 @@ pub row-rest : {X Y : Type 0} (g : Y → List ℕ) (h : X → Y) (xs : List X) (
 row-rest {X} {Y} g h xs n =
     ap (λ (ys : List X). flat_map g (map h ys)) (sym (take-append-drop n xs)) ∙ ap (flat_map g) (map-append h (take n xs) (drop n xs)) ∙ flat_map-append g (map h (take n xs)) (map h (drop n xs))
 
+pub row-further : {X Y : Type 0} (g : Y → List ℕ) (h : X → Y) (xs : List X) (ys : List Y) (k n : ℕ) → ys ≡ map h (take n (drop k xs)) → flat_map g (map h (take (k + n) xs)) ≡ flat_map g (map h (take k xs)) ++ flat_map g ys
+row-further {X} {Y} g h xs ys k n are =
+    ap (λ (zs : List X). flat_map g (map h zs)) (take-add k n xs)
+    ∙ ap (flat_map g) (map-append h (take k xs) (take n (drop k xs)))
+    ∙ flat_map-append g (map h (take k xs)) (map h (take n (drop k xs)))
+    ∙ ap (λ (zs : List Y). flat_map g (map h (take k xs)) ++ flat_map g zs) (sym are)
+
 -- one more text is put
 pub more_put : {X Y : Type 0} (old now new : Option (List ℕ)) (w v u text : List ℕ) (g : Y → List ℕ) (h : X → Y) (xs : List X) (k : ℕ) (d : X) → k < length xs → text ≡ g (h (get_or xs k d)) → AppendsAllBut old now (w ++ flat_map g (map h (take k xs))) v
     → AppendsAllBut now new (v ++ text) u → AppendsAllBut old new (w ++ flat_map g (map h (take (k + 1) xs))) u
@@ -68,6 +72,22 @@ part_put old now new w v text g h xs k d low is a b =
     let so_far : AppendsPartOf old new (w ++ flat_map g (map h (take (k + 1) xs))) =
     subst P (ap (λ (l : List ℕ). flat_map g (map h (take k xs)) ++ l) is ∙ sym (row-more g h xs k d low)) (then_part old now new w (flat_map g (map h (take k xs))) v text a b) in
     subst P (sym (row-rest g h xs (k + 1))) (part_more old new w (flat_map g (map h (take (k + 1) xs))) (flat_map g (map h (drop (k + 1) xs))) so_far)
+
+-- some more texts are put together
+pub further_put : {X Y : Type 0} (old now new : Option (List ℕ)) (w v u : List ℕ) (g : Y → List ℕ) (h : X → Y) (xs : List X) (ys : List Y) (k n : ℕ) → ys ≡ map h (take n (drop k xs)) → AppendsAllBut old now (w ++ flat_map g (map h (take k xs))) v
+    → AppendsAllBut now new (v ++ flat_map g ys) u → AppendsAllBut old new (w ++ flat_map g (map h (take (k + n) xs))) u
+further_put old now new w v u g h xs ys k n are a b =
+    let P : List ℕ → Type 0 = λ l. AppendsAllBut old new (w ++ l) u in
+    subst P (sym (row-further g h xs ys k n are)) (then_all old now new w (flat_map g (map h (take k xs))) v (flat_map g ys) u a b)
+
+-- or only the beginning of them
+pub further_part : {X Y : Type 0} (old now new : Option (List ℕ)) (w v : List ℕ) (g : Y → List ℕ) (h : X → Y) (xs : List X) (ys : List Y) (k n : ℕ) → ys ≡ map h (take n (drop k xs)) → AppendsAllBut old now (w ++ flat_map g (map h (take k xs))) v
+    → AppendsPartOf now new (v ++ flat_map g ys) → AppendsPartOf old new (w ++ flat_map g (map h xs))
+further_part old now new w v g h xs ys k n are a b =
+    let P : List ℕ → Type 0 = λ l. AppendsPartOf old new (w ++ l) in
+    let so_far : AppendsPartOf old new (w ++ flat_map g (map h (take (k + n) xs))) =
+    subst P (sym (row-further g h xs ys k n are)) (then_part old now new w (flat_map g (map h (take k xs))) v (flat_map g ys) a b) in
+    subst P (sym (row-rest g h xs (k + n))) (part_more old new w (flat_map g (map h (take (k + n) xs))) (flat_map g (map h (drop (k + n) xs))) so_far)
 
 -- all texts are put
 pub all_put : {X Y : Type 0} (old now : Option (List ℕ)) (w v : List ℕ) (g : Y → List ℕ) (h : X → Y) (xs : List X) (k : ℕ) → length xs ≤ k → AppendsAllBut old now (w ++ flat_map g (map h (take k xs))) v → AppendsAllBut old now (w ++ flat_map g (map h xs)) v
@@ -91,15 +111,6 @@ part_flushed old now new w t v none a b = record {
 
 pub part_unput : (old new : Option (List ℕ)) (w t : List ℕ) → w ≡ [] → AppendsPartOf old new (w ++ t) → AppendsPartOf old new t
 part_unput old new w t none a = let P : List ℕ → Type 0 = λ l. AppendsPartOf old new (l ++ t) in subst P none a
-
--- ---- instances by their positions
-
-pub text-got : (kept : List StoredInstance) (place : ℕ) (x : StoredInstance) → slice_get kept place ≡ Some x → x.text ≡ text_at kept place
-text-got kept place x got = sym (ap (λ (o : Option StoredInstance). elim o [ Some y ↦ y.text | None ↦ [] ]) got)
-
--- the position stands in a list of positions
-pub text-placed : (kept : List StoredInstance) (instance_positions : List ℕ) (k place : ℕ) (x : StoredInstance) → slice_get instance_positions k ≡ Some place → slice_get kept place ≡ Some x → x.text ≡ text_at kept (get_or instance_positions k 0)
-text-placed kept instance_positions k place x at got = text-got kept place x got ∙ ap (text_at kept) (sym (get_or_from_slice_get instance_positions k place 0 at))
 
 pub each-read : {X : Type 0} (P : X → Type 0) (xs : List X) (k : ℕ) (d : X) → Each P xs → k < length xs → P (get_or xs k d)
 each-read P [] k d each low = absurd (omega (arith, low))

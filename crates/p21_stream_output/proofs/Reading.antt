@@ -4,10 +4,10 @@ use Rattle.std.proofs.lemmas.List.{append_assoc, append-nil, drop_at, drop-appen
 use Rattle.std.specs.List.{flat_map, AllByRecursion as Each}
 use Rattle.p21_stream_output.specs.Output.{Output, WrittenSection, header_text, line_of, lines_of, output_text, section_text, sections_text, written_text}
 use Rattle.p21_stream_output.specs.Reading.{IsFrontOf, behind_line, closed_lines, end_lines, header_lines, joined, line_at, lines_at, rest_at, rest_of, section_lines, start, written_parts}
-use Rattle.p21_stream_output.specs.Stored.{text_at, texts_at, written_section}
+use Rattle.p21_stream_output.specs.Stored.{texts_at, written_section}
 use Rattle.p21_stream_output.specs.declared.accepted.Section.{Section}
 use Rattle.p21_stream_output.proofs.Putting.{each-read}
-use Rattle.p21_stream_store.specs.StoredInstance.{StoredInstance}
+use Rattle.p21_stream_store.specs.StoredInstance.{StoredInstance, text_at}
 
 -- ---- an element and those behind it
 

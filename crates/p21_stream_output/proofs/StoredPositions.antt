@@ -8,11 +8,11 @@ use Rattle.std.specs.Prelude.{filter}
 use Rattle.p21_spec_laws.specs.CompleteFile.{Line}
 use Rattle.p21_spec_laws.specs.OutputLaws.{lines_of}
 use Rattle.p21_spec_laws.specs.Stored.{StoredEntry}
-use Rattle.p21_stream_output.specs.Stored.{text_at, texts_at}
+use Rattle.p21_stream_output.specs.Stored.{texts_at}
 use Rattle.p21_stream_output.specs.Ending.{line_of, stored_of, stored_with}
 use Rattle.p21_stream_output.specs.Filing.{section_at, section_of_membership}
 use Rattle.p21_stream_store.specs.Memberships.{Membership}
-use Rattle.p21_stream_store.specs.StoredInstance.{StoredInstance, name_at}
+use Rattle.p21_stream_store.specs.StoredInstance.{StoredInstance, name_at, text_at}
 
 abbrev stored_in : List Membership → Option StoredInstance → StoredEntry
 stored_in memberships (Some x) = stored_with (slice_get memberships x.membership) x

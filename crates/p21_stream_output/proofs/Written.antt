@@ -11,7 +11,7 @@ use Rattle.std.specs.Prelude.{Contains}
 use Rattle.p21_spec_basics.proofs.Members.{Contains-at, Contains-filter, Contains-found, Contains-mapped, Contains-unmapped, Each-at, Each-of_members}
 use Rattle.p21_stream_output.proofs.Lines.{alone-in_file}
 use Rattle.p21_stream_output.specs.Output.{HasLines, IsLineOf, IsNamed, output_text}
-use Rattle.p21_stream_output.specs.Stored.{output_of, text_at, texts_at, written_section}
+use Rattle.p21_stream_output.specs.Stored.{output_of, texts_at, written_section}
 use Rattle.p21_stream_output.specs.declared.accepted.Section.{Section}
 use Rattle.p21_stream_output.proofs.Rows.{part-filed}
 use Rattle.p21_stream_output.specs.Ending.{AreNamed}
@@ -19,7 +19,7 @@ use Rattle.p21_stream_output.specs.Filing.{HaveMemberships, AreOfSections, IsFil
 use Rattle.p21_stream_output.specs.NamedSections.{AreEmpty, bodies_of, sections_bodies}
 use Rattle.p21_stream_output.specs.declared.named_sections.NamedSection.{NamedSection}
 use Rattle.p21_stream_store.specs.Memberships.{Membership}
-use Rattle.p21_stream_store.specs.StoredInstance.{StoredInstance}
+use Rattle.p21_stream_store.specs.StoredInstance.{StoredInstance, text_at}
 
 same-text : (instances : List StoredInstance) (place : ℕ) (x : StoredInstance) → slice_get instances place ≡ Some x → text_at instances place ≡ x.text
 same-text instances place x at = ap (λ (y : Option StoredInstance). elim y [ Some z ↦ z.text | None ↦ [] ]) at

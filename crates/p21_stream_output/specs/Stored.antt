@@ -1,13 +1,9 @@
 -- What is written, by the positions of the instances that are stored.
 use Rattle.std.specs.List.{AllByRecursion as Each}
-use Rattle.std.specs.Prelude.{◌<◌, ℕ, List, [], Some, None, length, map, slice_get}
+use Rattle.std.specs.Prelude.{◌<◌, ℕ, List, length, map}
 use Rattle.p21_stream_output.specs.declared.accepted.Section.{Section}
 use Rattle.p21_stream_output.specs.Output.{Output, WrittenSection}
-use Rattle.p21_stream_store.specs.StoredInstance.{StoredInstance}
-
--- the text of the instance at a position
-abbrev pub text_at : List StoredInstance → ℕ → List ℕ
-text_at kept place = elim (slice_get kept place) [ Some x ↦ x.text | None ↦ [] ]
+use Rattle.p21_stream_store.specs.StoredInstance.{StoredInstance, text_at}
 
 abbrev pub texts_at : List StoredInstance → List ℕ → List (List ℕ)
 texts_at kept instance_positions = map (text_at kept) instance_positions

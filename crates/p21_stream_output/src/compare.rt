@@ -3,6 +3,7 @@ ghost use Rattle.std.specs.Prelude.{◌≡◌, ◌↔◌, ◌++◌, IsTrue, Matc
 ghost use Rattle.p21_stream_output.specs.Compared.{LacksPrefix};
 ghost use Rattle.p21_stream_output.specs.Output.{header_text, line_of, lines_of, section_text, sections_text, written_text};
 ghost use Rattle.p21_stream_output.specs.Stored.{HavePositions, ArePositions, texts_at, written_section};
+ghost use Rattle.p21_stream_store.specs.Lines.{read_lines};
 
 use crate::accepted::Section;
 use p21_stream_store::{Instances, Numbers};
@@ -102,9 +103,25 @@ fn behind_lines<'a>(
         (λ rest. text.now ≡ lines_of (texts_at instances.now instance_positions.now) ++ rest.now) }
 {
     let mut left = text;
-    for index in 0..instance_positions.len() {
-        let place = instance_positions.get(index);
-        let Some(rest) = behind_line(left, instances.text(place)) else {
+    let mut next = 0;
+    while next < instance_positions.len() {
+        let lines = instances.lines(instance_positions, next);
+        let Some(rest) = behind_texts(left, lines.texts()) else {
+            return None;
+        };
+        left = rest;
+        next += lines.len();
+    }
+    Some(left)
+}
+
+/// The rest behind lines.
+fn behind_texts<'a>(text: &'a [u8], lines: &[&[u8]]) -> Option<&'a [u8]>
+    ensures { MatchOption result (LacksPrefix text.now (lines_of (read_lines lines.now))) (λ rest. text.now ≡ lines_of (read_lines lines.now) ++ rest.now) }
+{
+    let mut left = text;
+    for line in lines {
+        let Some(rest) = behind_line(left, line) else {
             return None;
         };
         left = rest;

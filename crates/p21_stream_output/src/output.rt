@@ -3,6 +3,7 @@ ghost use Rattle.std.specs.Prelude.{◌≡◌, ◌++◌, map, OnErr, OnOk};
 ghost use Rattle.std.specs.Io.KnownBytes.{Appends};
 ghost use Rattle.p21_stream_output.specs.Output.{header_text, line_of, lines_of, section_text, sections_text, written_text};
 ghost use Rattle.p21_stream_output.specs.Stored.{HavePositions, ArePositions, texts_at, written_section};
+ghost use Rattle.p21_stream_store.specs.Lines.{read_lines};
 ghost use Rattle.p21_stream_io.specs.Transfer.{AppendsAllBut, AppendsPartOf};
 ghost use Rattle.p21_stream_io.specs.Watch.{one_call_more};
 
@@ -32,6 +33,26 @@ pub(crate) fn put_line<W: Write>(
     Ok(())
 }
 
+/// Puts lines.
+fn put_texts<W: Write>(
+    waiting: &mut Waiting,
+    writer: &mut Watched<W>,
+    texts: &[&[u8]],
+) -> Result<(), WriteFault>
+    ensures ok { OnOk result (AppendsAllBut (W.contents writer.old.inner) (W.contents writer.new.inner) (waiting.old ++ lines_of (read_lines texts.now)) waiting.new) }
+    ensures err { OnErr result (AppendsPartOf (W.contents writer.old.inner) (W.contents writer.new.inner) (waiting.old ++ lines_of (read_lines texts.now))) }
+
+    ensures written { OnOk result (writer.new.failures ≡ writer.old.failures) }
+    ensures failed { OnErr result (writer.new.failures ≡ one_call_more writer.old.failures) }
+{
+    for text in texts {
+        let Ok(()) = put_line(waiting, writer, text) else {
+            return Err(WriteFault);
+        };
+    }
+    Ok(())
+}
+
 /// Puts the lines of instances.
 fn put_lines<W: Write>(
     waiting: &mut Waiting,
@@ -46,11 +67,13 @@ fn put_lines<W: Write>(
     ensures written { OnOk result (writer.new.failures ≡ writer.old.failures) }
     ensures failed { OnErr result (writer.new.failures ≡ one_call_more writer.old.failures) }
 {
-    for index in 0..instance_positions.len() {
-        let place = instance_positions.get(index);
-        let Ok(()) = put_line(waiting, writer, instances.text(place)) else {
+    let mut next = 0;
+    while next < instance_positions.len() {
+        let lines = instances.lines(instance_positions, next);
+        let Ok(()) = put_texts(waiting, writer, lines.texts()) else {
             return Err(WriteFault);
         };
+        next += lines.len();
     }
     Ok(())
 }

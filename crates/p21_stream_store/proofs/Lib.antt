@@ -1,6 +1,7 @@
 mod BlockLemmas
 mod InstanceLemmas
 mod LateLemmas
+mod LineLemmas
 mod StoredTextLemmas
 mod NameLemmas
 mod NumberLemmas

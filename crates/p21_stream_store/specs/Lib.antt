@@ -3,6 +3,7 @@ pub mod Texts
 pub mod Blocks
 pub mod NamedLines
 pub mod StoredInstance
+pub mod Lines
 pub mod Positions
 pub mod Noted
 pub mod NamedMemberships

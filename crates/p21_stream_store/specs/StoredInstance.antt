@@ -24,3 +24,7 @@ instance_names kept = map (λ (x : StoredInstance). x.name) kept
 -- the name of the instance at a position
 abbrev pub name_at : List StoredInstance → ℕ → ℕ
 name_at kept place = elim (slice_get kept place) [ None ↦ 0 | Some x ↦ x.name ]
+
+-- the text of the instance at a position
+abbrev pub text_at : List StoredInstance → ℕ → List ℕ
+text_at kept place = elim (slice_get kept place) [ Some x ↦ x.text | None ↦ [] ]

@@ -5,6 +5,7 @@
 mod entity_sets;
 mod instances;
 mod late;
+mod lines;
 mod memberships;
 mod named_lines;
 mod named_memberships;
@@ -24,6 +25,7 @@ mod widths;
 
 pub use entity_sets::EntitySets;
 pub use instances::Instances;
+pub use lines::Lines;
 pub use memberships::Memberships;
 pub use named_memberships::NamedMemberships;
 pub use numbers::Numbers;

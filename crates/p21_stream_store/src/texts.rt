@@ -1,6 +1,6 @@
 //! Texts by number. They lie in blocks that don't move when more come.
 ghost use Rattle.std.specs.Prelude.{◌≡◌, ◌+◌, ◌*◌, ◌<◌, ◌≤◌, ◌^◌, ℕ, [], ◌∷◌, ◌++◌, length, slice_get, vec_capacity, vec_len, IfOk, IfSome, OnErr, OnOk, MatchBool, Some, is_some, true};
-ghost use Rattle.p21_stream_store.specs.Blocks.{AreFirsts, block_texts};
+ghost use Rattle.p21_stream_store.specs.Blocks.{AreFirsts, block_texts, first_at};
 ghost use Rattle.p21_stream_store.specs.Texts.{AreStartsFrom, texts_of};
 
 use crate::room::{add, make_room};
@@ -143,8 +143,7 @@ fn text_in(full: &[FullBlock], index: usize, end: usize) -> &[u8]
     requires index { index < end }
     ensures { slice_get (block_texts full.now) index ≡ Some result.now }
 {
-    let mut low = 0;
-    let mut high = full.len();
+    let (mut low, mut high) = search_bounds(full, index, end);
     while high - low > 1 {
         let middle = low + (high - low) / 2;
         if full[middle].first <= index {
@@ -155,6 +154,28 @@ fn text_in(full: &[FullBlock], index: usize, end: usize) -> &[u8]
     }
     let found = &full[low];
     found.block.get(index - found.first)
+}
+
+/// Two indices of blocks: a text stands in the block of the first or behind it, and in front of that of the second. Blocks have
+/// about as many texts each, so that mostly the block is guessed.
+fn search_bounds(full: &[FullBlock], index: usize, end: usize) -> (usize, usize)
+    requires firsts { AreFirsts 0 full.now end }
+    requires index { index < end }
+    ensures order { result.0 < result.1 }
+    ensures within { result.1 ≤ length full.now }
+    ensures low { first_at full.now end result.0 ≤ index }
+    ensures high { index < first_at full.now end result.1 }
+{
+    let count = full.len();
+    let guess = (index.saturating_mul(count) / end).min(count - 1);
+    if full[guess].first > index {
+        return (0, guess);
+    }
+    let next = guess + 1;
+    if next < count && full[next].first <= index {
+        return (next, count);
+    }
+    (guess, next)
 }
 
 /// Texts by number, in the order in which they came. They don't move when more come.

@@ -2,7 +2,8 @@ use Rattle.std.proofs.Common.{◌∷◌, ◌++◌, [], codes, sym, ap, ◌∙◌
 use Rattle.std.proofs.lemmas.List.{append_assoc, length-map}
 use Rattle.p21_stream_output.proofs.Reading.{closed-at, closed-last}
 use Rattle.p21_stream_output.specs.Output.{line_of}
-use Rattle.p21_stream_output.specs.Stored.{text_at, texts_at}
+use Rattle.p21_stream_output.specs.Stored.{texts_at}
+use Rattle.p21_stream_store.specs.StoredInstance.{text_at}
 use Rattle.p21_stream_output.proofs.cursor.section_line.Goals as goal
 
 pub returns-then-line-len : goal.returns-then-line-len

@@ -1,10 +1,10 @@
 use Rattle.std.proofs.Common.{ap, arith, ◌∙◌}
-use Rattle.p21_stream_store.proofs.BlockLemmas.{first_at-read, found, search_starts}
+use Rattle.p21_stream_store.proofs.BlockLemmas.{first_at-read, found}
 use Rattle.p21_stream_store.specs.declared.texts.FullBlock.{FullBlock}
 use Rattle.p21_stream_store.proofs.texts.text_in.Goals as goal
 
 pub loop-high-init : goal.loop-high-init
-loop-high-init c = search_starts _ _ _ c.requires.firsts c.requires.index
+loop-high-init c = (c.search_bounds-low.ensures.order, c.search_bounds-low.ensures.within, c.search_bounds-low.ensures.low, c.search_bounds-low.ensures.high)
 
 pub loop-high-preserved-then-full-middle : goal.loop-high-preserved-then-full-middle
 loop-high-preserved-then-full-middle c =

@@ -1,4 +1,4 @@
-use Rattle.std.proofs.Common.{◌≡◌, [], ℕ, List, Option, None, Some, subst, sym, ◌∙◌}
+use Rattle.std.proofs.Common.{◌≡◌, [], ℕ, List, subst, sym, ◌∙◌}
 use Rattle.p21_stream_store.proofs.NamedMembershipLemmas.{found-noted, found-nowhere, some-other}
 use Rattle.p21_stream_store.specs.Positions.{position_marked}
 use Rattle.p21_stream_store.proofs.named_memberships.NamedMemberships.membership_of.Goals as goal

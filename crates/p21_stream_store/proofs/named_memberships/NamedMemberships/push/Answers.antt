@@ -1,4 +1,4 @@
-use Rattle.std.proofs.Common.{◌≡◌, ◌∷◌, ◌++◌, ◌∙◌, ap, length, List, ℕ, OnErr, OnOk, Result, Ok, Err, subst, sym}
+use Rattle.std.proofs.Common.{◌∙◌}
 use Rattle.p21_stream_store.proofs.NamedMembershipLemmas.{all-stay, count-stays, no-other, one-noted, one-noted_count, other-added, other-refused, same-marks}
 use Rattle.p21_stream_store.proofs.named_memberships.NamedMemberships.push.Goals as goal
 
