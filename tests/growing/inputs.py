@@ -364,6 +364,13 @@ def deep_attributes(n, folder):
     return schema(folder, ["ENTITY e; " + names + " : OPTIONAL " + "LIST OF " * 32 + "REAL; END_ENTITY;\n"])
 
 
+def deep_redeclared(n, folder):
+    deep = " : OPTIONAL " + "LIST OF " * 32 + "REAL; END_ENTITY;\n"
+    names = ",".join("a%d" % k for k in range(n))
+    again = ",".join("SELF\\b.a%d" % k for k in range(n))
+    return schema(folder, ["ENTITY b; " + names + deep, "ENTITY e SUBTYPE OF (b); " + again + deep])
+
+
 def deep_attributes_in_use(n, folder):
     names = ",".join("a%d" % k for k in range(n))
     lower = ("ENTITY e%d SUBTYPE OF (b); END_ENTITY;\n" % k for k in range(n))

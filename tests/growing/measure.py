@@ -89,7 +89,7 @@ ROWS = [
     *(Row(name, 50, ENTITIES // 3) for name in ("wide_subtypes", "redeclared_fan", "one_redeclared", "redeclared_by_many")),
     Row("wide_subtypes_behind_their_own", 50, ENTITIES // 4),
     *(Row(name, 50, ENTITIES // 3) for name in ("redeclared_of_many", "owners_by_a_lower_name", "owners_by_a_lower_name_each")),
-    *(Row(name, 200, 400_000) for name in ("all_redeclared", "all_derived", "deep_attributes")),
+    *(Row(name, 200, 400_000) for name in ("all_redeclared", "all_derived", "deep_attributes", "deep_redeclared")),
     Row("oneof_lists_above_many", 50, ENTITIES // 17),
     Row("deep_attributes_in_use", 20, ENTITIES // 2),
     *(Row(name, 100, ENTITIES // 2) for name in ("selects_of_a_wide_one", "chain_of_a_wide_select", "ladder_of_selects")),
@@ -111,9 +111,8 @@ OPEN = {
     "large_sets_in_turn": Open(1.9, 0.2, 5.11, "2.0 s, 33 MB"),
     "lists_of_lists": Open(0.9, 1.1, 1.79, "0.3 s, 86 MB"),
     "lists_in_lists": Open(1.1, 0.7, 1.60, "0.4 s, 55 MB"),
-    "deep_attributes": Open(2.2, 4.9, 0.71, "0.4 s, 175 MB"),
     "sets_32_deep": Open(1.4, 0.7, 0.86, "0.4 s, 31 MB"),
-    "attributes_one_by_one": Open(0.7, 1.1, 6.55, "1.0 s, 316 MB"),
+    "attributes_one_by_one": Open(0.7, 1.1, 6.55, "1.7 s, 328 MB"),
 }
 
 

@@ -1,10 +1,15 @@
 -- Explicit redeclarations, one by one.
 use Rattle.std.specs.Prelude.{◌≡◌, ℕ, ◌+◌, ◌<◌, Bool, List, [], ◌∷◌, ◌++◌, length, map, take, drop, refl}
-use Rattle.std.proofs.Common.{ap, sym, ◌∙◌, get_or, append_assoc}
+use Rattle.std.specs.List.{AllZip}
+use Rattle.std.proofs.Common.{arith, ap, sym, ◌∙◌, get_or, append_assoc}
 use Rattle.std.proofs.lemmas.List.{append-nil, map-append}
+use Rattle.p21_spec_schema.specs.Schema as pure
+use Rattle.p21_spec_schema.specs.Schema.{Schema, TypeUse}
+use Rattle.p21_express_outline.proofs.Adding.{drop-at}
 use Rattle.p21_express_outline.proofs.Finding.{split-at}
 use Rattle.p21_express.specs.Explicit.{redeclared_by}
-use Rattle.p21_express_outline.specs.Outline.{digest_redeclared_explicit, digest_redeclared_names}
+use Rattle.p21_express_outline.specs.Outline.{Named, DigestTypeIs, digest_redeclared_explicit, digest_redeclared_names}
+use Rattle.p21_express_outline.specs.Redeclarations.{DigestRedeclaredIs}
 use Rattle.p21_express_syntax.specs.Digest.{TypeDigest, AttributesDigest}
 use Rattle.p21_express_syntax.specs.Views.{attributes_view}
 use Rattle.p21_express_syntax.specs.declared.attributes.AttributeName.{AttributeName}
@@ -27,6 +32,21 @@ pub by-split : (x : AttributesDigest) (names : List AttributeName) (k : ℕ) (na
 by-split x names k name below is =
     ap (redeclared_by x) (split-at names k name below is).1 ∙ by-append x (take k names) (name ∷ [] ++ drop (k + 1) names)
     ∙ ap (λ zs. redeclared_by x (take k names) ++ zs) (by-append x (name ∷ []) (drop (k + 1) names))
+
+-- the redeclared ones among the names that are left, by the first of these
+pub redeclared-at : (xs : List AttributeName) (k : ℕ) (x : AttributeName) → k < length xs → x ≡ get_or xs k x → digest_redeclared_names (drop k xs) ≡ digest_redeclared_names (x ∷ []) ++ digest_redeclared_names (drop (k + 1) xs)
+redeclared-at xs k x below is = ap digest_redeclared_names (drop-at xs k x below is) ∙ names-append (x ∷ []) (drop (k + 1) xs)
+
+-- there are none of a type that is none, if there are any
+pub by-none : (s : Schema) (n : Named) (e : ℕ) (kept : TypeDigest) (optional : Bool) (names : List (List ℕ × List ℕ)) → 0 < length names → ((type : TypeUse) → DigestTypeIs n kept type → ⊥)
+    → (ys : List pure.Redeclared) → AllZip (DigestRedeclaredIs s n e) (map (λ name. (name, optional, kept)) names) ys → ⊥
+by-none s n e kept optional [] some none ys all = omega (arith, some)
+by-none s n e kept optional (name ∷ names) some none [] all = all
+by-none s n e kept optional (name ∷ names) some none (y ∷ ys) all = none y.type all.0.2
+
+pub by-empty : (s : Schema) (n : Named) (e : ℕ) (kept : TypeDigest) (optional : Bool) (names : List (List ℕ × List ℕ)) → (0 < length names → ⊥) → AllZip (DigestRedeclaredIs s n e) (map (λ name. (name, optional, kept)) names) []
+by-empty s n e kept optional [] none = tt
+by-empty s n e kept optional (name ∷ names) none = absurd (none (omega arith))
 
 abbrev redeclared_in : List ExplicitAttributes → List ((List ℕ × List ℕ) × Bool × TypeDigest)
 redeclared_in explicit = digest_redeclared_explicit (map attributes_view explicit)

@@ -1,23 +1,25 @@
-ghost use Rattle.std.specs.Prelude.{[], ◌∷◌, map};
+ghost use Rattle.std.specs.Prelude.{[], ◌∷◌, ◌<◌, ◌↔◌, length, map, IsTrue};
+ghost use Rattle.std.specs.Arc.{arc_value};
 ghost use Rattle.p21_spec_schema.specs.Redeclaration.{RedeclaresPlace};
 ghost use Rattle.p21_express_outline.specs.Finding.{AddsEach, Finds, FindsEach};
 ghost use Rattle.p21_express_outline.specs.Known.{AreFew, names_of};
 ghost use Rattle.p21_express.specs.AttributeNames.{AreNamesOf};
 ghost use Rattle.p21_express.specs.Explicit.{redeclared_by};
-ghost use Rattle.p21_express_outline.specs.Outline.{digest_redeclared_explicit};
+ghost use Rattle.p21_express_outline.specs.Outline.{DigestTypeIs, digest_redeclared_explicit, digest_redeclared_names};
 ghost use Rattle.p21_express_outline.specs.Redeclarations.{DigestRedeclaredIs};
 ghost use Rattle.p21_express_syntax.specs.Views.{attributes_view, type_view};
 ghost use Rattle.p21_express_graph.specs.SchemaContents.{redeclared as redeclared_view};
 ghost use Rattle.p21_express_graph.specs.Resolved.{IsEntity};
-ghost use Rattle.p21_express_graph.specs.Meaning.{place as place_of};
+ghost use Rattle.p21_express_graph.specs.Meaning.{place as place_of, type_use as type_use_of};
 
 use crate::attribute_names::AttributeNames;
 use crate::lookups::{RedeclarationTarget, redeclared_place};
-use p21_express_graph::{EntityId, Place, Redeclared};
+use p21_express_graph::{EntityId, Place, Redeclared, TypeUse};
 use p21_express_outline::{KnownNames, SchemaFault, resolve_type};
 use p21_express_syntax::{AttributeName, ExplicitAttributes};
 use p21_express_tables::Schema;
 use std::alloc::Global;
+use std::sync::Arc;
 
 /// An entity that redeclares: its schema, in which nothing is redeclared yet, and the names that the text declares.
 #[derive(Drop)]
@@ -47,16 +49,29 @@ fn named_place(
     }
 }
 
-/// A place that is redeclared as an explicit attribute.
+/// Whether an attribute is redeclared.
+fn has_redeclared(names: &[AttributeName]) -> bool
+    ensures { IsTrue result ↔ 0 < length (digest_redeclared_names names.now) }
+{
+    for name in names {
+        match name {
+            AttributeName::Own(_name) => {}
+            AttributeName::Redeclared { .. } => return true,
+        }
+    }
+    false
+}
+
+/// A place that is redeclared as an explicit attribute of a type.
 fn redeclared_as(
-    alloc: Global,
     redeclarer: &Redeclarer<'_>,
     supertype: &[u8],
     name: &[u8],
     explicit: &ExplicitAttributes,
+    type_use: &Arc<TypeUse, Global>,
 ) -> Result<Redeclared, SchemaFault>
     requires names { AreNamesOf redeclarer.now.schema.now redeclarer.now.names.now }
-    requires few { AreFew redeclarer.now.known.now }
+    requires typed { DigestTypeIs (names_of redeclarer.now.known.now) (type_view explicit.now.data_type) (type_use_of (arc_value type_use.now)) }
     requires entity { IsEntity redeclarer.now.schema.now redeclarer.now.entity.0 }
     ensures { Finds redeclared_view (DigestRedeclaredIs redeclarer.now.schema.now (names_of redeclarer.now.known.now) redeclarer.now.entity.0 ((supertype.now, name.now), explicit.now.optional, type_view explicit.now.data_type)) result }
 {
@@ -67,24 +82,23 @@ fn redeclared_as(
         supertype,
         name,
     )?;
-    let type_use = resolve_type(alloc, redeclarer.known, &explicit.data_type)?;
     Ok(Redeclared {
         place,
         optional: explicit.optional,
-        type_use,
+        type_use: Arc::try_clone(type_use)?,
     })
 }
 
-/// Adds an attribute, if it is redeclared.
+/// Adds an attribute of a type, if it is redeclared.
 fn add_redeclared(
-    alloc: Global,
     redeclarer: &Redeclarer<'_>,
     name: &AttributeName,
     explicit: &ExplicitAttributes,
+    type_use: &Arc<TypeUse, Global>,
     out: &mut Vec<Redeclared>,
 ) -> Result<(), SchemaFault>
     requires names { AreNamesOf redeclarer.now.schema.now redeclarer.now.names.now }
-    requires few { AreFew redeclarer.now.known.now }
+    requires typed { DigestTypeIs (names_of redeclarer.now.known.now) (type_view explicit.now.data_type) (type_use_of (arc_value type_use.now)) }
     requires entity { IsEntity redeclarer.now.schema.now redeclarer.now.entity.0 }
     ensures { AddsEach redeclared_view (DigestRedeclaredIs redeclarer.now.schema.now (names_of redeclarer.now.known.now) redeclarer.now.entity.0) (redeclared_by (attributes_view explicit.now) (name.now ∷ [])) result out.old out.new }
 {
@@ -95,11 +109,11 @@ fn add_redeclared(
             name,
         } => {
             let redeclared = redeclared_as(
-                alloc,
                 redeclarer,
                 supertype.bytes(),
                 name.bytes(),
                 explicit,
+                type_use,
             )?;
             out.push(redeclared)?;
             Ok(())
@@ -107,7 +121,26 @@ fn add_redeclared(
     }
 }
 
-/// Adds the redeclared ones of explicit attributes of one type.
+/// Adds the redeclared ones of explicit attributes, which share a type.
+fn add_sharing(
+    redeclarer: &Redeclarer<'_>,
+    explicit: &ExplicitAttributes,
+    type_use: &Arc<TypeUse, Global>,
+    out: &mut Vec<Redeclared>,
+) -> Result<(), SchemaFault>
+    requires names { AreNamesOf redeclarer.now.schema.now redeclarer.now.names.now }
+    requires typed { DigestTypeIs (names_of redeclarer.now.known.now) (type_view explicit.now.data_type) (type_use_of (arc_value type_use.now)) }
+    requires entity { IsEntity redeclarer.now.schema.now redeclarer.now.entity.0 }
+    ensures { AddsEach redeclared_view (DigestRedeclaredIs redeclarer.now.schema.now (names_of redeclarer.now.known.now) redeclarer.now.entity.0) (redeclared_by (attributes_view explicit.now) explicit.now.names.items) result out.old out.new }
+{
+    for name in &explicit.names {
+        let name: &AttributeName = name;
+        add_redeclared(redeclarer, name, explicit, type_use, out)?;
+    }
+    Ok(())
+}
+
+/// Adds the redeclared ones of explicit attributes of one type. Where none is redeclared, the type isn't resolved.
 fn add_all_redeclared(
     alloc: Global,
     redeclarer: &Redeclarer<'_>,
@@ -119,11 +152,12 @@ fn add_all_redeclared(
     requires entity { IsEntity redeclarer.now.schema.now redeclarer.now.entity.0 }
     ensures { AddsEach redeclared_view (DigestRedeclaredIs redeclarer.now.schema.now (names_of redeclarer.now.known.now) redeclarer.now.entity.0) (redeclared_by (attributes_view explicit.now) explicit.now.names.items) result out.old out.new }
 {
-    for name in &explicit.names {
-        let name: &AttributeName = name;
-        add_redeclared(alloc, redeclarer, name, explicit, out)?;
+    if !has_redeclared(&explicit.names) {
+        return Ok(());
     }
-    Ok(())
+    let type_use = resolve_type(alloc, redeclarer.known, &explicit.data_type)?;
+    let shared = Arc::new(alloc, type_use)?;
+    add_sharing(redeclarer, explicit, &shared, out)
 }
 
 /// The places that an entity redeclares as explicit attributes.

@@ -1,6 +1,7 @@
 -- The schema that is made of parts. A contract speaks of the schema of a `Schema` by its model: where `schema : &Schema`,
 -- `schema.now` is that schema of the definitions.
 use Rattle.std.specs.Prelude.{◌≡◌, map}
+use Rattle.std.specs.Arc.{arc_value}
 use Rattle.p21_spec_schema.specs.Schema as pure
 use Rattle.p21_express_graph.specs.Meaning.{place, type_use, kind}
 use Rattle.p21_express_graph.specs.declared.schema_contents.Attribute.{Attribute}
@@ -10,10 +11,10 @@ use Rattle.p21_express_graph.specs.declared.schema_contents.Defined.{Defined}
 use Rattle.p21_express_graph.specs.declared.schema_contents.SchemaContents.{SchemaContents}
 
 abbrev pub attribute : Attribute → pure.Attribute
-attribute a = record { name = a.name; optional = a.optional; type = type_use a.type_use }
+attribute a = record { name = a.name; optional = a.optional; type = type_use (arc_value a.type_use) }
 
 abbrev pub redeclared : Redeclared → pure.Redeclared
-redeclared r = record { place = place r.place; optional = r.optional; type = type_use r.type_use }
+redeclared r = record { place = place r.place; optional = r.optional; type = type_use (arc_value r.type_use) }
 
 abbrev pub entity : Entity → pure.Entity
 entity x = record {

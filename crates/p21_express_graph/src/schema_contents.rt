@@ -3,21 +3,24 @@ use crate::names::Names;
 use crate::number::{EntityId, Place};
 use crate::type_use::TypeUse;
 use p21_values::Word;
+use std::alloc::Global;
+use std::sync::Arc;
 
-/// An explicit attribute (ISO 10303-11, Explicit attribute).
+/// An explicit attribute (ISO 10303-11, Explicit attribute). Those of one declaration share its type.
 #[derive(Debug, Drop)]
 pub struct Attribute {
     pub name: Word,
     pub optional: bool,
-    pub type_use: TypeUse,
+    pub type_use: Arc<TypeUse, Global>,
 }
 
-/// A place that is redeclared as an explicit attribute (ISO 10303-11, Attribute redeclaration).
+/// A place that is redeclared as an explicit attribute (ISO 10303-11, Attribute redeclaration). Those of one declaration
+/// share its type.
 #[derive(Debug, Drop)]
 pub struct Redeclared {
     pub place: Place,
     pub optional: bool,
-    pub type_use: TypeUse,
+    pub type_use: Arc<TypeUse, Global>,
 }
 
 /// An entity: its direct supertypes as listed, its own explicit attributes, and the places that it redeclares as explicit

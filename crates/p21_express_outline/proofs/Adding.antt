@@ -12,13 +12,17 @@ use Rattle.p21_express_outline.specs.Finding.{RefusalShows}
 use Rattle.p21_express_outline.specs.declared.fault.SchemaFault.{SchemaFault}
 use Rattle.p21_express_outline.specs.Known.{AreOthers, KnowsNames, names_of}
 use Rattle.p21_express_outline.specs.declared.names.KnownNames.{KnownNames}
+use Rattle.p21_express_outline.specs.Attributes.{attribute_with, own_with}
 use Rattle.p21_express_outline.specs.Outline.{Named, digest_names, digest_own_names}
 use Rattle.p21_express_syntax.specs.Views.{attributes_view, defined_view, entity_view, schema_view}
 use Rattle.p21_express_syntax.specs.declared.schema.Declarations.{Declarations}
 use Rattle.p21_express_outline.proofs.Zips.{map-twice}
 use Rattle.p21_express_syntax.specs.declared.attributes.ExplicitAttributes.{ExplicitAttributes}
 use Rattle.p21_express_syntax.specs.declared.defined_type.DefinedType.{DefinedType}
+use Rattle.p21_spec_schema.specs.Schema.{TypeUse}
 use Rattle.p21_express_graph.specs.Rising.{texts_of}
+use Rattle.p21_express_graph.specs.SchemaContents.{attribute}
+use Rattle.p21_express_graph.specs.declared.schema_contents.Attribute as code
 use Rattle.p21_express_graph.proofs.Lookups.{take-snoc}
 use Rattle.p21_express_syntax.specs.declared.attributes.AttributeName.{AttributeName}
 use Rattle.p21_express_syntax.specs.declared.attributes.AttributeName.TheVariants.{Own, Redeclared}
@@ -42,8 +46,8 @@ drop-next {X} (x ∷ xs) (suc k) d below =
     let next : suc k + 1 ≡ suc (k + 1) = omega arith in
     let P : ℕ → Type 0 = λ j. drop k xs ≡ get_or xs k d ∷ drop j (x ∷ xs) in subst P (sym next) (drop-next xs k d (omega (arith, below)))
 
--- names behind those that are there, and what is left of all
-pub adding-more : (now left all some new rest : List (List ℕ)) → now ++ left ≡ all → left ≡ some ++ rest → new ≡ now ++ some → new ++ rest ≡ all
+-- some behind those that are there, and what is left of all
+pub adding-more : {X : Type 0} (now left all some new rest : List X) → now ++ left ≡ all → left ≡ some ++ rest → new ≡ now ++ some → new ++ rest ≡ all
 adding-more now left all some new rest joined left_is new_is = ap (λ ns. ns ++ rest) new_is ∙ append_assoc now some rest ∙ ap (λ ns. now ++ ns) (sym left_is) ∙ joined
 
 -- the text of a word more
@@ -65,6 +69,19 @@ own-first (Redeclared entity name) xs = refl
 
 pub drop-at : {X : Type 0} (xs : List X) (k : ℕ) (x : X) → k < length xs → x ≡ get_or xs k x → drop k xs ≡ x ∷ drop (k + 1) xs
 drop-at xs k x below is = drop-next xs k x below ∙ ap (λ y. y ∷ drop (k + 1) xs) (sym is)
+
+-- the new ones among the names that are left, by the first of these
+pub own-at : (xs : List AttributeName) (k : ℕ) (x : AttributeName) → k < length xs → x ≡ get_or xs k x → digest_own_names (drop k xs) ≡ digest_own_names (x ∷ []) ++ digest_own_names (drop (k + 1) xs)
+own-at xs k x below is = ap digest_own_names (drop-at xs k x below is) ∙ own-first x (drop (k + 1) xs)
+
+-- ---- new attributes that share a type
+
+pub own_with-at : (optional : Bool) (type : TypeUse) (xs : List AttributeName) (k : ℕ) (x : AttributeName) → k < length xs → x ≡ get_or xs k x → own_with optional type (drop k xs) ≡ own_with optional type (x ∷ []) ++ own_with optional type (drop (k + 1) xs)
+own_with-at optional type xs k x below is = ap (map (attribute_with optional type)) (own-at xs k x below is) ∙ map-append (attribute_with optional type) (digest_own_names (x ∷ [])) (digest_own_names (drop (k + 1) xs))
+
+pub own_with-one : (optional : Bool) (type : TypeUse) (old new : List code.Attribute) (a : code.Attribute) (x : AttributeName) (name : List ℕ) → new ≡ old ++ a ∷ [] → attribute a ≡ attribute_with optional type name → x ≡ Own name → map attribute new ≡ map attribute old ++ own_with optional type (x ∷ [])
+own_with-one optional type old new a x name new_is is own =
+    ap (map attribute) new_is ∙ map-append attribute old (a ∷ []) ∙ ap (λ y. map attribute old ++ y ∷ []) is ∙ ap (λ z. map attribute old ++ own_with optional type (z ∷ [])) (sym own)
 
 -- ---- several lists of names
 

@@ -8,15 +8,14 @@ use Rattle.p21_express_outline.specs.Finding.{RefusalShows, Finds, FindsEach, Ad
 use Rattle.p21_express_outline.specs.declared.fault.SchemaFault.{SchemaFault}
 use Rattle.p21_express_outline.proofs.Zips.{AllZip-mapped, AllZip-unmapped}
 use Rattle.p21_express_outline.proofs.Adding.{drop-at}
-use Rattle.p21_express_outline.specs.Outline.{digest_one_of_lists, digest_own_explicit, digest_own_names, one_of_list}
+use Rattle.p21_express_outline.specs.Outline.{Named, DigestAttributeIs, DigestTypeIs, digest_one_of_lists, digest_own_explicit, one_of_list}
 use Rattle.p21_express_graph.proofs.Lookups.{take-snoc}
-use Rattle.p21_express_outline.specs.Attributes.{own_of}
-use Rattle.p21_express_syntax.specs.Digest.{TypeDigest, AttributesDigest}
+use Rattle.p21_express_outline.specs.Attributes.{attribute_with, own_of}
+use Rattle.p21_express_syntax.specs.Digest.{TypeDigest}
+use Rattle.p21_spec_schema.specs.Schema.{Attribute, TypeUse}
 use Rattle.p21_express_syntax.specs.Views.{attributes_view, entity_view, some_list}
 use Rattle.p21_express_syntax.specs.declared.entity.Entity.{Entity}
-use Rattle.p21_express_syntax.specs.declared.attributes.AttributeName.{AttributeName}
 use Rattle.p21_express_syntax.specs.declared.attributes.ExplicitAttributes.{ExplicitAttributes}
-use Rattle.p21_express_outline.proofs.OneOutline.{own_names-append}
 
 pub AllZip-append : {X Y : Type 0} (R : X → Y → Type 0) (xs zs : List X) (ys ws : List Y) → AllZip R xs ys → AllZip R zs ws → AllZip R (xs ++ zs) (ys ++ ws)
 AllZip-append R [] zs [] ws all all_ = all_
@@ -109,16 +108,20 @@ push-one {A} {B} {X} view R x all old new y new_is holds all_is =
 
 -- ---- new attributes
 
-own_of-append : (x : AttributesDigest) (xs ys : List AttributeName) → own_of x (xs ++ ys) ≡ own_of x xs ++ own_of x ys
-own_of-append x xs ys = ap (map (λ name. (name, x.optional, x.type))) (own_names-append xs ys) ∙ map-append (λ name. (name, x.optional, x.type)) (digest_own_names xs) (digest_own_names ys)
+-- those that share a type are those of the digest, if the type is its type
+pub own-are : (n : Named) (kept : TypeDigest) (optional : Bool) (type : TypeUse) (names : List (List ℕ)) → DigestTypeIs n kept type → AllZip (DigestAttributeIs n) (map (λ name. (name, optional, kept)) names) (map (attribute_with optional type) names)
+own-are n kept optional type [] is = tt
+own-are n kept optional type (name ∷ names) is = ((refl, refl, is), own-are n kept optional type names is)
 
-pub own_of-taken : (x : AttributesDigest) (names : List AttributeName) (k : ℕ) (name : AttributeName) → k < length names → name ≡ get_or names k name → own_of x (take (k + 1) names) ≡ own_of x (take k names) ++ own_of x (name ∷ [])
-own_of-taken x names k name below is = ap (own_of x) (split-at names k name below is).0 ∙ own_of-append x (take k names) (name ∷ [])
+-- there are none of a type that is none, if there are any
+pub own-none : (n : Named) (kept : TypeDigest) (optional : Bool) (names : List (List ℕ)) → 0 < length names → ((type : TypeUse) → DigestTypeIs n kept type → ⊥) → (ys : List Attribute) → AllZip (DigestAttributeIs n) (map (λ name. (name, optional, kept)) names) ys → ⊥
+own-none n kept optional [] some none ys all = omega (arith, some)
+own-none n kept optional (name ∷ names) some none [] all = all
+own-none n kept optional (name ∷ names) some none (y ∷ ys) all = none y.type all.0.2
 
-pub own_of-split : (x : AttributesDigest) (names : List AttributeName) (k : ℕ) (name : AttributeName) → k < length names → name ≡ get_or names k name → own_of x names ≡ own_of x (take k names) ++ (own_of x (name ∷ []) ++ own_of x (drop (k + 1) names))
-own_of-split x names k name below is =
-    ap (own_of x) (split-at names k name below is).1 ∙ own_of-append x (take k names) (name ∷ [] ++ drop (k + 1) names)
-    ∙ ap (λ zs. own_of x (take k names) ++ zs) (own_of-append x (name ∷ []) (drop (k + 1) names))
+pub own-empty : (n : Named) (kept : TypeDigest) (optional : Bool) (names : List (List ℕ)) → (0 < length names → ⊥) → AllZip (DigestAttributeIs n) (map (λ name. (name, optional, kept)) names) []
+own-empty n kept optional [] none = tt
+own-empty n kept optional (name ∷ names) none = absurd (none (omega arith))
 
 abbrev own_in : List ExplicitAttributes → List (List ℕ × Bool × TypeDigest)
 own_in explicit = digest_own_explicit (map attributes_view explicit)

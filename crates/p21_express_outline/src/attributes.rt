@@ -1,67 +1,91 @@
-ghost use Rattle.std.specs.Prelude.{[], ◌∷◌, map};
-ghost use Rattle.p21_express_outline.specs.Finding.{AddsEach, Finds, FindsEach};
+ghost use Rattle.std.specs.Prelude.{[], ◌∷◌, ◌++◌, ◌≡◌, ◌<◌, ◌↔◌, length, map, IfOk, IsTrue, OnOk};
+ghost use Rattle.std.specs.Arc.{arc_value};
+ghost use Rattle.p21_express_outline.specs.Finding.{AddsEach, FindsEach};
 ghost use Rattle.p21_express_outline.specs.Known.{AreFew, names_of};
-ghost use Rattle.p21_express_outline.specs.Outline.{DigestAttributeIs, digest_own_explicit};
-ghost use Rattle.p21_express_outline.specs.Attributes.{own_of};
-ghost use Rattle.p21_express_syntax.specs.Views.{attributes_view, type_view};
+ghost use Rattle.p21_express_outline.specs.Outline.{DigestAttributeIs, digest_own_explicit, digest_own_names};
+ghost use Rattle.p21_express_outline.specs.Attributes.{attribute_with, own_of, own_with};
+ghost use Rattle.p21_express_syntax.specs.Views.{attributes_view};
+ghost use Rattle.p21_express_graph.specs.Meaning.{type_use as type_use_of};
 ghost use Rattle.p21_express_graph.specs.SchemaContents.{attribute as attribute_of};
 
 use crate::fault::SchemaFault;
 use crate::lists::copied;
 use crate::names::KnownNames;
 use crate::types::resolve_type;
-use p21_express_graph::Attribute;
-use p21_express_syntax::{AttributeName, DataType, ExplicitAttributes};
-use p21_values::Word;
+use p21_express_graph::{Attribute, TypeUse};
+use p21_express_syntax::{AttributeName, ExplicitAttributes};
+use p21_values::{NoMemory, Word};
 use std::alloc::Global;
+use std::sync::Arc;
 
-/// A new attribute.
+/// Whether an attribute is new.
+fn has_own(names: &[AttributeName]) -> bool
+    ensures { IsTrue result ↔ 0 < length (digest_own_names names.now) }
+{
+    for name in names {
+        match name {
+            AttributeName::Own(_name) => return true,
+            AttributeName::Redeclared { .. } => {}
+        }
+    }
+    false
+}
+
+/// A new attribute of a type.
 fn own_attribute(
     alloc: Global,
-    known: &KnownNames,
     name: &Word,
     optional: bool,
-    data_type: &DataType,
-) -> Result<Attribute, SchemaFault>
-    requires { AreFew known.now }
-    ensures { Finds attribute_of (DigestAttributeIs (names_of known.now) (name.now, optional, type_view data_type.now)) result }
+    type_use: &Arc<TypeUse, Global>,
+) -> Result<Attribute, NoMemory>
+    ensures { IfOk result (λ attribute. attribute_of attribute ≡ attribute_with optional (type_use_of (arc_value type_use.now)) name.now) }
 {
-    let type_use = resolve_type(alloc, known, data_type)?;
+    let name = copied(alloc, name)?;
+    let type_use = Arc::try_clone(type_use)?;
     Ok(Attribute {
-        name: copied(alloc, name)?,
+        name,
         optional,
         type_use,
     })
 }
 
-/// Adds an attribute, if it is a new one.
+/// Adds an attribute of a type, if it is a new one.
 fn add_attribute(
     alloc: Global,
-    known: &KnownNames,
     name: &AttributeName,
-    explicit: &ExplicitAttributes,
+    optional: bool,
+    type_use: &Arc<TypeUse, Global>,
     out: &mut Vec<Attribute>,
-) -> Result<(), SchemaFault>
-    requires { AreFew known.now }
-    ensures { AddsEach attribute_of (DigestAttributeIs (names_of known.now)) (own_of (attributes_view explicit.now) (name.now ∷ [])) result out.old out.new }
+) -> Result<(), NoMemory>
+    ensures { OnOk result (map attribute_of out.new.items ≡ map attribute_of out.old.items ++ own_with optional (type_use_of (arc_value type_use.now)) (name.now ∷ [])) }
 {
     match name {
         AttributeName::Own(name) => {
-            let attribute = own_attribute(
-                alloc,
-                known,
-                name,
-                explicit.optional,
-                &explicit.data_type,
-            )?;
-            out.push(attribute)?;
+            out.push(own_attribute(alloc, name, optional, type_use)?)?;
             Ok(())
         }
         AttributeName::Redeclared { .. } => Ok(()),
     }
 }
 
-/// Adds the new ones of explicit attributes of one type.
+/// Adds the new ones of attributes, which share a type.
+fn add_sharing(
+    alloc: Global,
+    names: &[AttributeName],
+    optional: bool,
+    type_use: &Arc<TypeUse, Global>,
+    out: &mut Vec<Attribute>,
+) -> Result<(), NoMemory>
+    ensures { OnOk result (map attribute_of out.new.items ≡ map attribute_of out.old.items ++ own_with optional (type_use_of (arc_value type_use.now)) names.now) }
+{
+    for name in names {
+        let name: &AttributeName = name;
+        add_attribute(alloc, name, optional, type_use, out)?;
+    }
+    Ok(())
+}
+
+/// Adds the new ones of explicit attributes of one type. Where none is new, the type isn't resolved.
 fn add_attributes(
     alloc: Global,
     known: &KnownNames,
@@ -71,10 +95,12 @@ fn add_attributes(
     requires { AreFew known.now }
     ensures { AddsEach attribute_of (DigestAttributeIs (names_of known.now)) (own_of (attributes_view explicit.now) explicit.now.names.items) result out.old out.new }
 {
-    for name in &explicit.names {
-        let name: &AttributeName = name;
-        add_attribute(alloc, known, name, explicit, out)?;
+    if !has_own(&explicit.names) {
+        return Ok(());
     }
+    let type_use = resolve_type(alloc, known, &explicit.data_type)?;
+    let shared = Arc::new(alloc, type_use)?;
+    add_sharing(alloc, &explicit.names, explicit.optional, &shared, out)?;
     Ok(())
 }
 

@@ -1,30 +1,36 @@
-use Rattle.std.specs.Prelude.{[], ◌∷◌, take, drop, ◌+◌, ◌≡◌, List, ◌++◌, map, ℕ, Bool}
-use Rattle.std.specs.List.{AllZip}
-use Rattle.std.proofs.Common.{sym, subst}
-use Rattle.p21_spec_schema.specs.Schema.{Redeclared}
-use Rattle.p21_express_outline.specs.Known.{names_of}
+use Rattle.std.specs.Prelude.{◌≡◌, [], map, true, false}
+use Rattle.std.specs.Arc.{arc_value}
+use Rattle.std.proofs.Common.{sym, subst, ◌∙◌}
+use Rattle.std.proofs.lemmas.List.{append-nil}
 use Rattle.p21_express.specs.Explicit.{redeclared_by}
+use Rattle.p21_express_outline.specs.Known.{names_of}
+use Rattle.p21_express_outline.specs.Outline.{DigestTypeIs, digest_redeclared_names}
 use Rattle.p21_express_outline.specs.Redeclarations.{DigestRedeclaredIs}
-use Rattle.p21_express_syntax.specs.Digest.{TypeDigest}
-use Rattle.p21_express_syntax.specs.Views.{attributes_view}
+use Rattle.p21_express_syntax.specs.Views.{attributes_view, type_view}
+use Rattle.p21_express_graph.specs.declared.type_use.TypeUse.{TypeUse}
+use Rattle.p21_express_graph.specs.Meaning.{type_use}
 use Rattle.p21_express_graph.specs.SchemaContents.{redeclared}
-use Rattle.p21_express_outline.proofs.Finding.{adds-refused, adds-more}
-use Rattle.p21_express.proofs.Explicit.{by-split, by-taken}
+use Rattle.p21_express_outline.proofs.Finding.{adds-refused}
+use Rattle.p21_express.proofs.Explicit.{by-empty, by-none}
 use Rattle.p21_express.proofs.redeclared.add_all_redeclared.Goals as goal
 
-pub returns-in_err-add_redeclared : goal.returns-in_err-add_redeclared
-returns-in_err-add_redeclared c =
-    let x = attributes_view c.args.explicit.now in
-    let names = c.args.explicit.now.names.items in
-    adds-refused redeclared (DigestRedeclaredIs c.args.redeclarer.now.schema.now (names_of c.args.redeclarer.now.known.now) c.args.redeclarer.now.entity.0) (redeclared_by x names) (redeclared_by x (take c.loop-name.name-index names)) (redeclared_by x (c.name-item.result ∷ [])) (redeclared_by x (drop (c.loop-name.name-index + 1) names))
-    c.in_err-add_redeclared.field-0.0 c.from_residual.result c.args.out.now c.add_redeclared.new.out c.from_residual.ensures.0 c.from_residual.ensures.1
-    (by-split x names c.loop-name.name-index c.name-item.result (rw c.deref-name-items.ensures.value at c.loop-name-test.true) (rw c.deref-name-items.ensures.value at c.name-item.is)) c.in_err-add_redeclared.ensures
+pub returns-then-not-has_redeclared : goal.returns-then-not-has_redeclared
+returns-then-not-has_redeclared c =
+    let x = c.args.explicit.now in
+    let r = c.args.redeclarer.now in
+    let tells = rw c.deref.ensures.value at c.has_redeclared.ensures in
+    ([], sym (append-nil (map redeclared c.args.out.now.items)), by-empty r.schema.now (names_of r.known.now) r.entity.0 (type_view x.data_type) x.optional (digest_redeclared_names x.names.items) (λ some. let t : true ≡ false = sym (tells.1 some) ∙ c.if-not-has_redeclared.true in cc))
 
-pub loop-name-preserved : goal.loop-name-preserved
-loop-name-preserved c =
-    let x = attributes_view c.args.explicit.now in
-    let names = c.args.explicit.now.names.items in
-    let Is = DigestRedeclaredIs c.args.redeclarer.now.schema.now (names_of c.args.redeclarer.now.known.now) c.args.redeclarer.now.entity.0 in
-    let P : List ((List ℕ × List ℕ) × Bool × TypeDigest) → Type 0 = λ zs. (ys : List Redeclared) × (map redeclared c.add_redeclared.new.out.items ≡ map redeclared c.args.out.now.items ++ ys) × AllZip Is zs ys in
-    subst P (sym (by-taken x names c.loop-name.name-index c.name-item.result (rw c.deref-name-items.ensures.value at c.loop-name-test.true) (rw c.deref-name-items.ensures.value at c.name-item.is)))
-    (adds-more redeclared Is (redeclared_by x (take c.loop-name.name-index names)) (redeclared_by x (c.name-item.result ∷ [])) c.args.out.now.items c.loop-name.out.items c.add_redeclared.new.out.items c.loop-name.invariant c.in_ok-add_redeclared.ensures)
+pub returns-in_err-type_use : goal.returns-in_err-type_use
+returns-in_err-type_use c =
+    let x = c.args.explicit.now in
+    let r = c.args.redeclarer.now in
+    let tells = rw c.deref.ensures.value at c.has_redeclared.ensures in
+    let all = redeclared_by (attributes_view x) x.names.items in
+    adds-refused redeclared (DigestRedeclaredIs r.schema.now (names_of r.known.now) r.entity.0) all [] all [] c.in_err-type_use.field-0.0 c.from_residual.result c.args.out.now c.args.out.now c.from_residual.ensures.0 c.from_residual.ensures.1 (sym (append-nil all))
+    (λ other. by-none r.schema.now (names_of r.known.now) r.entity.0 (type_view x.data_type) x.optional (digest_redeclared_names x.names.items) (tells.0 c.if-not-has_redeclared.false) (c.in_err-type_use.ensures other))
+
+pub add_sharing-requires-clause-typed : goal.add_sharing-requires-clause-typed
+add_sharing-requires-clause-typed c =
+    let P : TypeUse → Type 0 = λ t. DigestTypeIs (names_of c.args.redeclarer.now.known.now) (type_view c.args.explicit.now.data_type) (type_use t) in
+    subst P (sym c.in_ok-shared.ensures.ok) c.in_ok-type_use.ensures

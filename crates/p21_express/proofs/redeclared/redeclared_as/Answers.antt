@@ -1,6 +1,5 @@
 use Rattle.p21_spec_schema.specs.Redeclaration.{RedeclaresPlace}
 use Rattle.p21_express_outline.specs.Known.{names_of}
-use Rattle.p21_express_outline.specs.Outline.{DigestTypeIs}
 use Rattle.p21_express_outline.specs.Redeclarations.{DigestRedeclaredIs}
 use Rattle.p21_express_syntax.specs.Views.{type_view}
 use Rattle.p21_express_graph.specs.SchemaContents.{redeclared}
@@ -11,8 +10,3 @@ pub returns-in_err-place : goal.returns-in_err-place
 returns-in_err-place c =
     find-refused redeclared (DigestRedeclaredIs c.args.redeclarer.now.schema.now (names_of c.args.redeclarer.now.known.now) c.args.redeclarer.now.entity.0 ((c.args.supertype.now, c.args.name.now), c.args.explicit.now.optional, type_view c.args.explicit.now.data_type))
     (RedeclaresPlace c.args.redeclarer.now.schema.now c.args.redeclarer.now.entity.0 c.args.supertype.now c.args.name.now) c.in_err-place.field-0.0 c.from_residual.result c.from_residual.ensures.0 c.from_residual.ensures.1 (λ y h. (y.place, h.0)) c.in_err-place.ensures
-
-pub returns-in_err-type_use : goal.returns-in_err-type_use
-returns-in_err-type_use c =
-    find-refused redeclared (DigestRedeclaredIs c.args.redeclarer.now.schema.now (names_of c.args.redeclarer.now.known.now) c.args.redeclarer.now.entity.0 ((c.args.supertype.now, c.args.name.now), c.args.explicit.now.optional, type_view c.args.explicit.now.data_type))
-    (DigestTypeIs (names_of c.args.redeclarer.now.known.now) (type_view c.args.explicit.now.data_type)) c.in_err-type_use.field-0.0 c.from_residual-in_err-type_use.result c.from_residual-in_err-type_use.ensures.0 c.from_residual-in_err-type_use.ensures.1 (λ y h. (y.type, h.2)) c.in_err-type_use.ensures

@@ -1,28 +1,36 @@
-use Rattle.std.specs.Prelude.{[], ◌∷◌, take, drop, ◌+◌, ◌≡◌, List, ◌++◌, map, ℕ, Bool}
-use Rattle.std.specs.List.{AllZip}
-use Rattle.std.proofs.Common.{sym, subst}
-use Rattle.p21_spec_schema.specs.Schema.{Attribute}
-use Rattle.p21_express_outline.specs.Attributes.{own_of}
+use Rattle.std.specs.Prelude.{◌≡◌, [], map, true, false}
+use Rattle.std.specs.Arc.{arc_value}
+use Rattle.std.proofs.Common.{sym, subst, ◌∙◌}
+use Rattle.std.proofs.lemmas.List.{append-nil}
+use Rattle.p21_express_outline.specs.Attributes.{own_of, own_with}
 use Rattle.p21_express_outline.specs.Known.{names_of}
-use Rattle.p21_express_outline.specs.Outline.{DigestAttributeIs}
-use Rattle.p21_express_syntax.specs.Digest.{TypeDigest}
-use Rattle.p21_express_syntax.specs.Views.{attributes_view}
+use Rattle.p21_express_outline.specs.Outline.{DigestAttributeIs, DigestTypeIs, digest_own_names}
+use Rattle.p21_express_syntax.specs.Views.{attributes_view, type_view}
+use Rattle.p21_express_graph.specs.declared.type_use.TypeUse.{TypeUse}
+use Rattle.p21_express_graph.specs.Meaning.{type_use}
 use Rattle.p21_express_graph.specs.SchemaContents.{attribute}
-use Rattle.p21_express_outline.proofs.Finding.{adds-refused, adds-more, own_of-split, own_of-taken}
+use Rattle.p21_express_outline.proofs.Finding.{adds-refused, own-are, own-empty, own-none}
 use Rattle.p21_express_outline.proofs.attributes.add_attributes.Goals as goal
 
-pub returns-in_err-add_attribute : goal.returns-in_err-add_attribute
-returns-in_err-add_attribute c =
-    let x = attributes_view c.args.explicit.now in
-    let names = c.args.explicit.now.names.items in
-    adds-refused attribute (DigestAttributeIs (names_of c.args.known.now)) (own_of x names) (own_of x (take c.loop-name.name-index names)) (own_of x (c.name-item.result ∷ [])) (own_of x (drop (c.loop-name.name-index + 1) names))
-    c.in_err-add_attribute.field-0.0 c.from_residual.result c.args.out.now c.add_attribute.new.out c.from_residual.ensures.0 c.from_residual.ensures.1
-    (own_of-split x names c.loop-name.name-index c.name-item.result (rw c.deref-name-items.ensures.value at c.loop-name-test.true) (rw c.deref-name-items.ensures.value at c.name-item.is)) c.in_err-add_attribute.ensures
+pub returns-then-not-has_own : goal.returns-then-not-has_own
+returns-then-not-has_own c =
+    let x = c.args.explicit.now in
+    let tells = rw c.deref.ensures.value at c.has_own.ensures in
+    ([], sym (append-nil (map attribute c.args.out.now.items)), own-empty (names_of c.args.known.now) (type_view x.data_type) x.optional (digest_own_names x.names.items) (λ some. let t : true ≡ false = sym (tells.1 some) ∙ c.if-not-has_own.true in cc))
 
-pub loop-name-preserved : goal.loop-name-preserved
-loop-name-preserved c =
-    let x = attributes_view c.args.explicit.now in
-    let names = c.args.explicit.now.names.items in
-    let P : List (List ℕ × Bool × TypeDigest) → Type 0 = λ zs. (ys : List Attribute) × (map attribute c.add_attribute.new.out.items ≡ map attribute c.args.out.now.items ++ ys) × AllZip (DigestAttributeIs (names_of c.args.known.now)) zs ys in
-    subst P (sym (own_of-taken x names c.loop-name.name-index c.name-item.result (rw c.deref-name-items.ensures.value at c.loop-name-test.true) (rw c.deref-name-items.ensures.value at c.name-item.is)))
-    (adds-more attribute (DigestAttributeIs (names_of c.args.known.now)) (own_of x (take c.loop-name.name-index names)) (own_of x (c.name-item.result ∷ [])) c.args.out.now.items c.loop-name.out.items c.add_attribute.new.out.items c.loop-name.invariant c.in_ok-add_attribute.ensures)
+pub returns-in_err-type_use : goal.returns-in_err-type_use
+returns-in_err-type_use c =
+    let x = c.args.explicit.now in
+    let tells = rw c.deref.ensures.value at c.has_own.ensures in
+    let all = own_of (attributes_view x) x.names.items in
+    adds-refused attribute (DigestAttributeIs (names_of c.args.known.now)) all [] all [] c.in_err-type_use.field-0.0 c.from_residual.result c.args.out.now c.args.out.now c.from_residual.ensures.0 c.from_residual.ensures.1 (sym (append-nil all))
+    (λ other. own-none (names_of c.args.known.now) (type_view x.data_type) x.optional (digest_own_names x.names.items) (tells.0 c.if-not-has_own.false) (c.in_err-type_use.ensures other))
+
+pub returns : goal.returns
+returns c =
+    let x = c.args.explicit.now in
+    let n = names_of c.args.known.now in
+    let type = type_use (arc_value c.in_ok-shared.shared) in
+    let P : TypeUse → Type 0 = λ t. DigestTypeIs n (type_view x.data_type) (type_use t) in
+    let is = subst P (sym c.in_ok-shared.ensures.ok) c.in_ok-type_use.ensures in
+    (own_with x.optional type x.names.items, rw c.deref-2.ensures.value at c.in_ok-add_sharing.ensures, own-are n (type_view x.data_type) x.optional type (digest_own_names x.names.items) is)

@@ -1,5 +1,5 @@
-use Rattle.std.proofs.Common.{◌≡◌, ap, subst, inl}
-use Rattle.p21_express_graph.specs.Meaning.{place}
+use Rattle.std.proofs.Common.{◌≡◌, ap, sym, ◌∙◌, subst, inl}
+use Rattle.p21_express_graph.specs.Meaning.{place, type_use}
 use Rattle.p21_express_graph.specs.SchemaContents.{redeclared}
 use Rattle.p21_express_tables.specs.Decisions.{IsDecision}
 use Rattle.p21_express_tables.specs.declared.place_types.Decision.{Decision}
@@ -11,4 +11,4 @@ returns-in-Redeclared c entities is =
     let P : Decision → Type 0 = λ d. IsDecision c.args.self.now entities (place c.args.place) d in
     let (stored, (r, stands, decides)) = subst P c.in-Redeclared.is is in
     let same : r ≡ redeclared c.redeclared_at-redeclared.result.now = redeclared-one c.args.self.now c.in-Redeclared.entity.0 c.in-Redeclared.at r (redeclared c.redeclared_at-redeclared.result.now) stands c.redeclared_at-redeclared.ensures in
-    (stored, inl (r, decides, ap (λ x. x.optional) same, ap (λ x. x.type) same))
+    (stored, inl (r, decides, ap (λ x. x.optional) same, ap (λ x. x.type) same ∙ ap type_use (sym c.deref-in-Redeclared.ensures)))

@@ -6,7 +6,7 @@ use Rattle.p21_express.specs.Explicit.{redeclared_by}
 use Rattle.p21_express_outline.specs.Redeclarations.{DigestRedeclaredIs}
 use Rattle.p21_express_syntax.specs.Views.{attributes_view}
 use Rattle.p21_express_graph.specs.SchemaContents.{redeclared}
-use Rattle.p21_express.proofs.redeclared.add_all_redeclared.Given as goal
+use Rattle.p21_express.proofs.redeclared.add_sharing.Given as goal
 
 -- those so far are added
 abbrev pub invariant-loop-name : goal.invariant-loop-name
