@@ -1,5 +1,5 @@
 -- A token at the front in its canonical spelling, whose bytes are appended.
-use Rattle.std.proofs.Common.{◌≡◌, ℕ, ◌≤◌, List, ◌++◌, length, length-append, take, drop, ap, sym, subst, ◌∙◌, arith}
+use Rattle.std.proofs.Common.{◌≡◌, ℕ, List, ◌++◌, length, length-append, take, drop, ap, sym, subst, ◌∙◌, arith}
 use Rattle.std.proofs.Math.Seq.{take-append_seam, drop-append_seam}
 use Rattle.p21_spec_exchange.specs.Spelling.{spelling}
 use Rattle.p21_spec_exchange.specs.Token.{Token, IsFollowed, Spells}

@@ -1,5 +1,5 @@
 -- Names of instances with no zero in front.
-use Rattle.std.proofs.Common.{◌≡◌, ◌≢◌, ℕ, zero, suc, ◌+◌, ◌^◌, ◌<◌, ◌≤◌, List, [], ◌∷◌, ◌++◌, length, take, get_or, ap, sym, subst, ◌∙◌, arith}
+use Rattle.std.proofs.Common.{◌≡◌, ◌≢◌, ℕ, zero, suc, ◌-◌, ◌^◌, ◌<◌, ◌≤◌, List, [], ◌∷◌, ◌++◌, length, length-append, take, get_or, ap, sym, subst, ◌∙◌, arith}
 use Rattle.std.proofs.lemmas.List.{take_all}
 use Rattle.p21_spec_basics.proofs.PlainDigits.{ArePlain, plain_digits-number}
 use Rattle.p21_spec_basics.specs.Digits.{AllDigits, number}
@@ -29,11 +29,11 @@ followed-name : (n : ℕ) (spelling rest : List ℕ) → NoDigitFirst rest → I
 followed-name n spelling [] h = tt
 followed-name n spelling (byte ∷ rest) h = h
 
-pub name-at_front : (bytes digits rest : List ℕ) → IsNameAt bytes digits rest → number digits < 2 ^ 64 → (1 < length digits → get_or digits 0 0 ≢ 48) → IsCanonicalLeadingToken bytes (length digits + 1) (name (number digits))
+pub name-at_front : (bytes digits rest : List ℕ) → IsNameAt bytes digits rest → number digits < 2 ^ 64 → (1 < length digits → get_or digits 0 0 ≢ 48) → IsCanonicalLeadingToken bytes (length bytes - length rest) (name (number digits))
 name-at_front bytes digits rest x small first =
     let value = number digits in
     let own : 35 ∷ digits ≡ spelling (name value) = ap (λ (ds : List ℕ). 35 ∷ ds) (sym (plain_digits-number digits (plain digits x.are_digits x.some_digits first))) in
-    let more : length digits + 1 ≡ suc (length digits) = omega arith in
-    scanned bytes rest (length digits + 1) (name value)
+    let count : length bytes - length rest ≡ suc (length digits) = omega (arith, ap (λ (b : List ℕ). length b) x.bytes_are, length-append digits rest) in
+    scanned bytes rest (length bytes - length rest) (name value)
     (record { bytes_are = x.bytes_are ∙ ap (λ (s : List ℕ). s ++ rest) own; spells = subst (λ (s : List ℕ). SpellsName s value) own (name-spells bytes digits rest x small); followed = followed-name value (spelling (name value)) rest x.ends })
-    (more ∙ ap (λ (s : List ℕ). length s) own)
+    (count ∙ ap (λ (s : List ℕ). length s) own)

@@ -23,11 +23,10 @@ pub fn append_name(bytes: &[u8], draft: &mut Draft) -> Option<(usize, u64)>
 fn leading_name(bytes: &[u8]) -> Option<(usize, u64)>
     ensures { IfSome result (λ front. IsCanonicalLeadingToken bytes.now front.0 (name front.1)) }
 {
-    let (digits, _rest) = scan_name(bytes)?;
-    let count = digits.len();
-    if count > 1 && digits[0] == b'0' {
+    let (digits, rest) = scan_name(bytes)?;
+    if digits.len() > 1 && digits[0] == b'0' {
         return None;
     }
     let number = name_number(digits)?;
-    Some((count + 1, number))
+    Some((bytes.len() - rest.len(), number))
 }
