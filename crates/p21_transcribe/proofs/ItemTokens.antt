@@ -1,8 +1,7 @@
 -- Enumeration items.
-use Rattle.std.proofs.Common.{◌≡◌, ℕ, ◌+◌, ◌≤◌, List, [], ◌∷◌, ◌++◌, length, length-append, get_or, refl, ap, subst, ◌∙◌, arith}
+use Rattle.std.proofs.Common.{◌≡◌, ℕ, ◌+◌, ◌≤◌, List, [], ◌∷◌, ◌++◌, length, length-append, get_or, refl, arith}
 use Rattle.p21_spec_exchange.specs.Keyword.{IsUpper}
 use Rattle.p21_spec_exchange.specs.Token.{IsFollowed, item}
-use Rattle.p21_scan.specs.Word.{IsTokenAt}
 use Rattle.p21_transcribe.proofs.LeadingTokens.{scanned}
 use Rattle.p21_transcribe.specs.LeadingToken.{IsCanonicalLeadingToken}
 

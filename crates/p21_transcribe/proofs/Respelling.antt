@@ -13,8 +13,10 @@ use Rattle.p21_spec_basics.proofs.HexDigits.{length-hex_digits}
 use Rattle.p21_spec_basics.specs.Digits.{hex_digits}
 use Rattle.p21_scan.proofs.Numbers.{front_take}
 use Rattle.p21_scan.specs.Hex.{IsGroupAt}
-use Rattle.p21_scan.specs.Text.{IsLatinAt, IsUnitAt, by_digits, by_page}
-use Rattle.p21_spec_exchange.specs.Text.{StringUnit, alphabet_a, arbitrary, extended2, extended4, page, IsStringUnit, unit_bytes, unit_characters, utf16_groups, end_extended, Encodes}
+use Rattle.p21_scan.specs.Text.{IsDirectiveAt, IsLatinAt, IsUnitAt, by_digits, by_page}
+use Rattle.p21_scan.specs.declared.text.Directive.{Directive}
+use Rattle.p21_scan.specs.declared.text.Directive.TheVariants.{Doubled, Latin, Alphabet, Extended2, Extended4}
+use Rattle.p21_spec_exchange.specs.Text.{StringUnit, alphabet_a, arbitrary, doubled, extended2, extended4, page, IsStringUnit, unit_bytes, unit_characters, utf16_groups, end_extended, Encodes}
 use Rattle.p21_spec_exchange.specs.Token.{text}
 use Rattle.p21_tokens_automaton.proofs.Fits.{ModeFits, NameFits, StepFits}
 use Rattle.p21_tokens_automaton.proofs.TextFits.{TextFits}
@@ -95,24 +97,26 @@ more_groups width bytes behind count size character old middle new some a scalar
 
 -- one group or more, and the end of their directive
 pub extended_groups : (width : ℕ) (bytes behind : List ℕ) (count size : ℕ) (old new : List ℕ) → Respells (AreGroups width) bytes count size old new → take (length bytes - count) (drop count bytes) ≡ end_extended ++ behind → 0 < size
-    → Respells (AreExtended width) bytes (count + 4) size old new
+    → Respells (AreExtended width) bytes (length bytes - length behind) size old new
 extended_groups width bytes behind count size old new r ends some =
     let size_is = r.size_is in
     let within = r.within in
     let end : drop count bytes ≡ end_extended ++ behind = sym (rest_is bytes count) ∙ ends in
+    let whole : length bytes - length behind ≡ count + 4 = omega (arith, within, ap length end, length-drop count bytes) in
     record {
       characters = r.characters;
       size_is = r.size_is;
-      fewer = omega (arith, r.fewer);
-      within = omega (arith, ap length end, length-drop count bytes);
-      stand_for = record { front = take count bytes; groups = r.stand_for; some = omega (arith, size_is); bytes_are = take-add count 4 bytes ∙ ap (λ (x : List ℕ). take count bytes ++ take 4 x) end };
+      fewer = omega (arith, r.fewer, whole);
+      within = omega arith;
+      stand_for = record { front = take count bytes; groups = r.stand_for; some = omega (arith, size_is); bytes_are = ap (λ (n : ℕ). take n bytes) whole ∙ (take-add count 4 bytes ∙ ap (λ (x : List ℕ). take count bytes ++ take 4 x) end) };
       appended = r.appended;
     }
 
 -- ---- directives
 
-four_more : (a b c d : ℕ) (bytes groups : List ℕ) (count : ℕ) → bytes ≡ a ∷ b ∷ c ∷ d ∷ groups → take (count + 4) bytes ≡ a ∷ b ∷ c ∷ d ∷ take count groups
-four_more a b c d bytes groups count e = ap₂ (λ (n : ℕ) (x : List ℕ). take n x) (let more : count + 4 ≡ suc (suc (suc (suc count))) = omega arith in more) e
+four_more : (a b c d : ℕ) (bytes groups : List ℕ) (count : ℕ) → bytes ≡ a ∷ b ∷ c ∷ d ∷ groups → take (length bytes - length groups + count) bytes ≡ a ∷ b ∷ c ∷ d ∷ take count groups
+four_more a b c d bytes groups count e =
+    ap₂ (λ (n : ℕ) (x : List ℕ). take n x) (let more : length bytes - length groups + count ≡ suc (suc (suc (suc count))) = omega (arith, ap length e) in more) e
 
 -- what a unit alone stands for
 one-unit : (bytes characters : List ℕ) (unit : StringUnit) → IsStringUnit unit → bytes ≡ unit_bytes unit → characters ≡ unit_characters unit → Encodes bytes characters
@@ -126,7 +130,7 @@ in-utf16 (c ∷ cs) small = ap₂ (λ (x y : List ℕ). x ++ y) (alone c small.0
     alone c h = let low : nat_lt c 0x1_0000 ≡ true = grind (arith, nat_tests) in rw low (sym (append-nil (hex_digits 4 c)))
 
 module _ (bytes groups : List ℕ) (count size : ℕ) (old new : List ℕ) where
-  pub extended2_respelled : bytes ≡ 92 ∷ 88 ∷ 50 ∷ 92 ∷ groups → Respells (AreExtended 4) groups count size old new → Respells Encodes bytes (count + 4) size old new
+  pub extended2_respelled : bytes ≡ 92 ∷ 88 ∷ 50 ∷ 92 ∷ groups → Respells (AreExtended 4) groups count size old new → Respells Encodes bytes (length bytes - length groups + count) size old new
   extended2_respelled begins r =
       let e = r.stand_for in
       record {
@@ -135,12 +139,12 @@ module _ (bytes groups : List ℕ) (count size : ℕ) (old new : List ℕ) where
         fewer = omega (arith, r.fewer);
         within = omega (arith, r.within, ap length begins);
         stand_for =
-            one-unit (take (count + 4) bytes) r.characters (extended2 r.characters) (e.some, e.groups.scalars)
+            one-unit (take (length bytes - length groups + count) bytes) r.characters (extended2 r.characters) (e.some, e.groups.scalars)
             (four_more 92 88 50 92 bytes groups count begins ∙ ap (λ (x : List ℕ). 92 ∷ 88 ∷ 50 ∷ 92 ∷ x) (e.bytes_are ∙ ap (λ (x : List ℕ). x ++ end_extended) (e.groups.bytes_are ∙ in-utf16 r.characters e.groups.small))) refl;
         appended = r.appended;
       }
 
-  pub extended4_respelled : bytes ≡ 92 ∷ 88 ∷ 52 ∷ 92 ∷ groups → Respells (AreExtended 8) groups count size old new → Respells Encodes bytes (count + 4) size old new
+  pub extended4_respelled : bytes ≡ 92 ∷ 88 ∷ 52 ∷ 92 ∷ groups → Respells (AreExtended 8) groups count size old new → Respells Encodes bytes (length bytes - length groups + count) size old new
   extended4_respelled begins r =
       let e = r.stand_for in
       record {
@@ -149,7 +153,7 @@ module _ (bytes groups : List ℕ) (count size : ℕ) (old new : List ℕ) where
         fewer = omega (arith, r.fewer);
         within = omega (arith, r.within, ap length begins);
         stand_for =
-            one-unit (take (count + 4) bytes) r.characters (extended4 r.characters) (e.some, e.groups.scalars)
+            one-unit (take (length bytes - length groups + count) bytes) r.characters (extended4 r.characters) (e.some, e.groups.scalars)
             (four_more 92 88 52 92 bytes groups count begins ∙ ap (λ (x : List ℕ). 92 ∷ 88 ∷ 52 ∷ 92 ∷ x) (e.bytes_are ∙ ap (λ (x : List ℕ). x ++ end_extended) e.groups.bytes_are)) refl;
         appended = r.appended;
       }
@@ -173,18 +177,28 @@ pub latin_respelled : (bytes behind : List ℕ) (character : ℕ) (old new : Lis
 latin_respelled bytes behind character old new (by_page byte is x) e = one-character bytes behind (page byte) character old new x (ap (λ (c : ℕ). c ∷ []) (sym is)) (omega arith) e
 latin_respelled bytes behind character old new (by_digits x) e = one-character bytes behind (arbitrary character) character old new x refl (omega arith) e
 
+unit-shorter : (bytes behind : List ℕ) (unit : StringUnit) → IsUnitAt bytes unit behind → length behind ≤ length bytes
+unit-shorter bytes behind unit x = omega (arith, ap length x.bytes_are ∙ length-append (unit_bytes unit) behind)
+
 pub latin_shorter : (bytes behind : List ℕ) (character : ℕ) → IsLatinAt bytes character behind → length behind ≤ length bytes
-latin_shorter bytes behind character (by_page byte is x) = omega (arith, ap length x.bytes_are ∙ length-append (unit_bytes (page byte)) behind)
-latin_shorter bytes behind character (by_digits x) = omega (arith, ap length x.bytes_are ∙ length-append (unit_bytes (arbitrary character)) behind)
+latin_shorter bytes behind character (by_page byte is x) = unit-shorter bytes behind (page byte) x
+latin_shorter bytes behind character (by_digits x) = unit-shorter bytes behind (arbitrary character) x
+
+pub directive_shorter : (bytes behind : List ℕ) (directive : Directive) → IsDirectiveAt bytes directive behind → length behind ≤ length bytes
+directive_shorter bytes behind (Doubled byte) x = unit-shorter bytes behind (doubled byte) x
+directive_shorter bytes behind (Latin character) x = latin_shorter bytes behind character x
+directive_shorter bytes behind Alphabet x = unit-shorter bytes behind alphabet_a x
+directive_shorter bytes behind Extended2 x = omega (arith, ap length x)
+directive_shorter bytes behind Extended4 x = omega (arith, ap length x)
 
 -- `\PA\`
-pub alphabet_respelled : (bytes behind old : List ℕ) → IsUnitAt bytes alphabet_a behind → Respells Encodes bytes 4 0 old old
+pub alphabet_respelled : (bytes behind old : List ℕ) → IsUnitAt bytes alphabet_a behind → Respells Encodes bytes (length bytes - length behind) 0 old old
 alphabet_respelled bytes behind old x = record {
   characters = [];
   size_is = refl;
   fewer = omega arith;
-  within = let l = ap (λ (y : List ℕ). length y) x.bytes_are in omega arith;
-  stand_for = one-unit (take 4 bytes) [] alphabet_a tt (ap (λ (y : List ℕ). take 4 y) x.bytes_are) refl;
+  within = omega arith;
+  stand_for = one-unit (take (length bytes - length behind) bytes) [] alphabet_a tt (front_take bytes (unit_bytes alphabet_a) behind x.bytes_are) refl;
   appended = sym (append-nil old);
 }
 

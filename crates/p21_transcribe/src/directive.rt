@@ -11,22 +11,23 @@ use crate::groups::append_extended;
 use p21_scan::{Directive, scan_directive};
 
 /// Appends what the directive at the front stands for: how many bytes it has, and how many characters.
-#[tactic(auto, using(crate::proofs::Respelling::extended2_respelled, crate::proofs::Respelling::extended4_respelled))]
+#[tactic(auto, using(crate::proofs::Respelling::directive_shorter, crate::proofs::Respelling::extended2_respelled, crate::proofs::Respelling::extended4_respelled))]
 pub(crate) fn append_directive(rest: &[u8], draft: &mut Draft) -> Option<(usize, usize)>
     ensures some { IfSome result (λ front. Respells Encodes rest.now front.0 front.1 draft.old draft.new) }
     ensures none { IfNone result (Continues draft.old draft.new) }
 {
     let (directive, behind) = scan_directive(rest)?;
+    let size = rest.len() - behind.len();
     match directive {
         Directive::Latin(code) => append_latin(rest, code, behind, draft),
-        Directive::Alphabet => Some((4, 0)),
+        Directive::Alphabet => Some((size, 0)),
         Directive::Extended2 => {
             let (count, characters) = append_extended(4, behind, draft)?;
-            Some((count + 4, characters))
+            Some((size + count, characters))
         }
         Directive::Extended4 => {
             let (count, characters) = append_extended(8, behind, draft)?;
-            Some((count + 4, characters))
+            Some((size + count, characters))
         }
         Directive::Doubled(_byte) => None,
     }

@@ -22,11 +22,11 @@ pub(crate) fn append_extended(
     ensures none { IfNone result (Continues draft.old draft.new) }
 {
     let (count, characters) = append_groups(width, groups, draft)?;
-    let _rest = behind_extended(&groups[count..])?;
+    let rest = behind_extended(&groups[count..])?;
     if characters == 0 {
         return None;
     }
-    Some((count + 4, characters))
+    Some((groups.len() - rest.len(), characters))
 }
 
 /// Appends the characters of the groups at the front: how many bytes they have, and how many they are.
