@@ -24,7 +24,8 @@ pub use digits::{
 pub use hex_digits::{hex_value, is_hex_digit};
 pub use name::{name_number, scan_name};
 pub use number::{
-    Decimals, Integer, Number, exponent_value, scan_exponent, scan_integer, scan_number,
+    Decimals, Integer, Number, begins_exponent, exponent_value, scan_exponent, scan_integer,
+    scan_number,
 };
 pub use text::{Directive, behind_extended, ends_text, scan_character, scan_directive};
 pub use wide::long_prefix;

@@ -1,8 +1,9 @@
 //! Numbers (ISO 10303-21, clause 6: tokens, integer and real).
-ghost use Rattle.std.specs.Prelude.{◌≡◌, ◌^◌, ◌<◌, ◌≤◌, nat_abs, IfNone, IfSome};
+ghost use Rattle.std.specs.Prelude.{◌≡◌, ◌^◌, ◌<◌, ◌≤◌, ◌∷◌, ◌↔◌, false, nat_abs, IfNone, IfSome};
 ghost use Rattle.p21_spec_basics.specs.Digits.{AllDigits, number};
 ghost use Rattle.p21_spec_exchange.proofs.Forms.{NoDigitFirst};
 ghost use Rattle.p21_spec_exchange.specs.Number.{Exponent, IsExponent, signed};
+ghost use Rattle.p21_scan.specs.Digits.{BeginsWithoutByte};
 ghost use Rattle.p21_scan.specs.Number.{AreDecimalsAt, HasExponent, IsExponentAt, IsIntegerAt, IsNumberAt, NoIntegerAt, ReadsExponent};
 
 use crate::digits::{behind, short_number, split_digits, split_sign, without_leading_zeros};
@@ -47,13 +48,30 @@ pub fn scan_integer(bytes: &[u8]) -> Option<(Integer<'_>, &[u8])>
     Some((Integer { negative, digits }, rest))
 }
 
+/// Whether the `E` of an exponent stands first.
+#[inline(always)]
+pub fn begins_exponent(bytes: &[u8]) -> bool
+    ensures { result ≡ false ↔ BeginsWithoutByte 69 bytes.now }
+{
+    behind_exponent_mark(bytes).is_some()
+}
+
+/// What stands behind the `E` of an exponent, where it stands first.
+#[inline(always)]
+fn behind_exponent_mark(bytes: &[u8]) -> Option<&[u8]>
+    ensures none { IfNone result (BeginsWithoutByte 69 bytes.now) }
+    ensures some { IfSome result (λ rest. bytes.now ≡ 69 ∷ rest.now) }
+{
+    behind(b'E', bytes)
+}
+
 /// The exponent at the front, if there is one, and what stands behind it.
 #[inline(always)]
 pub fn scan_exponent(bytes: &[u8]) -> (Option<Integer<'_>>, &[u8])
     requires { NoDigitFirst bytes.now }
     ensures { (power : Exponent) × HasExponent result.0 power × IsExponentAt bytes.now power result.1.now }
 {
-    let Some(written) = behind(b'E', bytes) else {
+    let Some(written) = behind_exponent_mark(bytes) else {
         return (None, bytes);
     };
     match scan_integer(written) {

@@ -5,9 +5,8 @@ ghost use Rattle.p21_spec_exchange.specs.Spelling.{exponent_spelling};
 ghost use Rattle.p21_transcribe.specs.Appending.{AppendsAllOrNone, AppendsAllOrSome};
 ghost use Rattle.p21_transcribe.specs.Numbers.{EndsReal};
 
-use crate::digits::begins_with;
 use crate::draft::Draft;
-use p21_scan::{exponent_value, scan_exponent};
+use p21_scan::{begins_exponent, exponent_value, scan_exponent};
 
 /// The most bytes of an exponent of two digits.
 const LONGEST: usize = 4;
@@ -18,7 +17,7 @@ pub(crate) fn split_exponent(bytes: &[u8]) -> Option<(i32, &[u8])>
     requires { NoDigitFirst bytes.now }
     ensures { IfSome result (λ parts. EndsReal bytes.now parts.0 parts.1.now) }
 {
-    if begins_with(b'E', bytes) {
+    if begins_exponent(bytes) {
         return written_exponent(bytes);
     }
     Some((0, bytes))
@@ -30,7 +29,7 @@ fn written_exponent(bytes: &[u8]) -> Option<(i32, &[u8])>
     ensures { IfSome result (λ parts. EndsReal bytes.now parts.0 parts.1.now) }
 {
     let (exponent, rest) = scan_exponent(bytes);
-    if begins_with(b'E', rest) {
+    if begins_exponent(rest) {
         return None;
     }
     let value = exponent_value(exponent)?;

@@ -9,11 +9,11 @@ ghost use Rattle.p21_transcribe.specs.Numbers.{AppendsNormalised, AppendsNumber,
 ghost use Rattle.p21_transcribe.specs.Runs.{AreDigits};
 ghost use Rattle.p21_transcribe.specs.Significands.{AppendsSignificand, placed_ratio, significand};
 
-use crate::digits::{begins_with, leading_zeros};
+use crate::digits::leading_zeros;
 use crate::draft::{Draft, WIDE};
 use crate::exponent::{append_exponent, append_minus, split_exponent};
 use crate::places::{Places, real_places};
-use p21_scan::{exponent_value, scan_number, split_sign};
+use p21_scan::{begins_exponent, exponent_value, scan_number, split_sign};
 
 /// A number with more digits on one side of the point isn't usual.
 const MOST_DIGITS: usize = 65_536;
@@ -66,7 +66,7 @@ fn append_far(bytes: &[u8], wholes: bool, draft: &mut Draft) -> Option<usize>
     if decimals.fraction.len() > MOST_DIGITS {
         return None;
     }
-    if begins_with(b'E', rest) {
+    if begins_exponent(rest) {
         return None;
     }
     let fraction = Digits {

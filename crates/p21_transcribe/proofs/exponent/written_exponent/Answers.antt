@@ -13,4 +13,4 @@ returns c =
     let value = c.in_ok-value.ensures {u = tt} in
     let k = c.in_ok-value.value in
     let back : to_z w32 (of_z w32 k) ≡ k = omega (arith, ints, value.small) in
-    rw back (record { power = power; power_at = at; value_is = value.value power has; small = value.small; no_exponent = c.begins_with.ensures c.if-begins_with.false })
+    rw back (record { power = power; power_at = at; value_is = value.value power has; small = value.small; no_exponent = c.begins_exponent.ensures.0 c.if-begins_exponent.false })

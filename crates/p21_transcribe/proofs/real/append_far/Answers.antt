@@ -56,6 +56,6 @@ returns-clause-some c =
     (subst (λ (w : List ℕ). AppendsNumber true (digits_ratio negative w (take (length fraction) fraction) (to_z w32 (of_z w32 k))) c.args.draft.now c.append_decimal-2.new.draft) (all_of whole) passed) in
     let written = subst (λ (z : ℤ). AppendsNumber true (digits_ratio negative whole fraction z) c.args.draft.now c.append_decimal-2.new.draft) back cut in
     a_real written.0 (record {
-      stands = real-token c.args.bytes.now whole fraction c.in_ok-number.rest.now negative power k written.0 at (value.value power has) (c.begins_with.ensures c.if-begins_with.false) written.1;
+      stands = real-token c.args.bytes.now whole fraction c.in_ok-number.rest.now negative power k written.0 at (value.value power has) (c.begins_exponent.ensures.0 c.if-begins_exponent.false) written.1;
       appended = written.2;
     })
