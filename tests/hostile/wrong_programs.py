@@ -363,6 +363,16 @@ EDITS = [
         program=2,
     ),
     Edit(
+        "edges.py",
+        [],
+        "the last digit of a real of 31 is left out where it is found by lanes",
+        "crates/p21_transcribe/src/places.rt",
+        "& ((1u64 << end) - 1);",
+        "& ((1u64 << end.min(30)) - 1);",
+        "=SIZE(7.",
+        program=2,
+    ),
+    Edit(
         "fuzz.py",
         ["--cases", "10000", "--seed", "1"],
         "one printable character of a string is written as a directive",
