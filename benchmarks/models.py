@@ -74,7 +74,37 @@ def shuffled(lines):
     return mixed
 
 
-def write(path, lines):
+def spaced(lines):
+    """The same instances with blanks, as some converters write them: around `=`, behind the keyword and inside parentheses."""
+    return [re.sub(r"^(#\d+)=(\w+)\((.*)\);", r"\1 = \2 ( \3 ) ;", line).replace(",", ", ") for line in lines]
+
+
+def instances_of(text, first):
+    """The instances of a file with one data section, each name raised by as much, and the largest name then."""
+    data = re.search(r"\bDATA\s*;(.*?)\bENDSEC\s*;", text, re.S)[1]
+    names = [first]
+
+    def raised(token):
+        if not token[1]:
+            return token[0]
+        names.append(int(token[1]) + first)
+        return f"#{names[-1]}"
+
+    return re.sub(r"'[^']*'|#(\d+)", raised, data), max(names)
+
+
+def merged(paths):
+    """The head of the first of these files, and the instances of all, one file behind the other."""
+    largest, parts, head = 0, [], None
+    for path in paths:
+        text = pathlib.Path(path).read_text(encoding="latin-1")
+        head = head or text[: re.search(r"\bDATA\s*;", text).end()] + "\n"
+        part, largest = instances_of(text, largest)
+        parts.append(part)
+    return head, parts
+
+
+def write(path, lines, head=HEAD):
     """A file of these instances. Answers how many bytes it has."""
-    with open(path, "w") as file:
-        return sum(file.write(part) for part in [HEAD, *lines, END])
+    with open(path, "w", encoding="latin-1") as file:
+        return sum(file.write(part) for part in [head, *lines, END])
