@@ -148,7 +148,7 @@ def main():
         rigged.write(SCHEMA_FILE, SCHEMA)
         for front, behind in cases():
             name = repr(front + behind)
-            one = HEAD + named(1, 0) + front + behind + b"\n" + TARGET + FOOT
+            one = HEAD + TARGET + named(1, 0) + front + behind + b"\n" + FOOT
             answer = plain_answer(one)
             accepted += answer.status == 0
             rigged.write(FILE, one)
