@@ -1,6 +1,7 @@
 ghost use Rattle.std.specs.Prelude.{◌≡◌, ◌&&◌, nat_le, IsTrue};
 ghost use Rattle.p21_scan.specs.Hex.{is_hex_digit};
 ghost use Rattle.p21_tokens_automaton.specs.Step.{text_action, inside_action, utf8_action, utf8_value, utf8_last_action, directive_action, backslash_action, page_action, hex_mark_action, arbitrary_action, arbitrary_second_action, put_scalar, first2_action, group_value, digits2_action, group_action, low_first_action, low_digits_action, low_group_action, first4_action, digits4_action};
+ghost use Rattle.p21_tokens_automaton.specs.declared.mode.TextMode.TheVariants.{Apostrophe, Extended2Next, Extended4Next, Utf8Second, Utf8Third};
 
 use crate::mode::{Action, Mode, TextMode, Wrong};
 use p21_scan::{hex_value, is_hex_digit};
@@ -11,13 +12,7 @@ pub(crate) fn text_action(mode: TextMode, byte: u8) -> Action
 {
     match mode {
         TextMode::Inside => inside_action(byte),
-        TextMode::Apostrophe => {
-            if byte == b'\'' {
-                Action::Put(Mode::Text(TextMode::Inside), '\'')
-            } else {
-                Action::End
-            }
-        }
+        TextMode::Apostrophe => apostrophe_action(byte),
         TextMode::Backslash => backslash_action(byte),
         TextMode::PageMark => directive_action(b'\\', TextMode::Page, byte),
         TextMode::Page => page_action(byte),
@@ -28,44 +23,20 @@ pub(crate) fn text_action(mode: TextMode, byte: u8) -> Action
         TextMode::ArbitrarySecond(high) => arbitrary_second_action(high, byte),
         TextMode::Extended2Mark => directive_action(b'\\', TextMode::Extended2First, byte),
         TextMode::Extended2First => first2_action(byte),
-        TextMode::Extended2Next => {
-            if byte == b'\\' {
-                Action::Skip(Mode::Text(TextMode::EndBackslash))
-            } else {
-                first2_action(byte)
-            }
-        }
+        TextMode::Extended2Next => next2_action(byte),
         TextMode::Extended2Digits(count, value) => digits2_action(count, value, byte),
         TextMode::LowFirst(high) => low_first_action(high, byte),
         TextMode::LowDigits(high, count, value) => low_digits_action(high, count, value, byte),
         TextMode::Extended4Mark => directive_action(b'\\', TextMode::Extended4First, byte),
         TextMode::Extended4First => first4_action(byte),
-        TextMode::Extended4Next => {
-            if byte == b'\\' {
-                Action::Skip(Mode::Text(TextMode::EndBackslash))
-            } else {
-                first4_action(byte)
-            }
-        }
+        TextMode::Extended4Next => next4_action(byte),
         TextMode::Extended4Digits(count, value) => digits4_action(count, value, byte),
         TextMode::EndBackslash => directive_action(b'X', TextMode::EndMark, byte),
         TextMode::EndMark => directive_action(b'0', TextMode::EndZero, byte),
         TextMode::EndZero => directive_action(b'\\', TextMode::Inside, byte),
         TextMode::Utf8Last(value) => utf8_last_action(value, byte),
-        TextMode::Utf8Second(low, high, value) => {
-            if low <= byte && byte <= high {
-                Action::Skip(Mode::Text(TextMode::Utf8Last(utf8_value(value, byte))))
-            } else {
-                Action::Refuse(Wrong::Utf8)
-            }
-        }
-        TextMode::Utf8Third(low, high, value) => {
-            if low <= byte && byte <= high {
-                Action::Skip(Mode::Text(TextMode::Utf8Second(0x80, 0xBF, utf8_value(value, byte))))
-            } else {
-                Action::Refuse(Wrong::Utf8)
-            }
-        }
+        TextMode::Utf8Second(low, high, value) => utf8_second_action(low, high, value, byte),
+        TextMode::Utf8Third(low, high, value) => utf8_third_action(low, high, value, byte),
     }
 }
 
@@ -83,6 +54,17 @@ fn inside_action(byte: u8) -> Action
         Action::Put(Mode::Text(TextMode::Inside), byte as char)
     } else {
         utf8_action(byte)
+    }
+}
+
+/// The byte behind an apostrophe: a second one stands for one, and any other byte is behind the string.
+fn apostrophe_action(byte: u8) -> Action
+    ensures { result ≡ text_action Apostrophe byte }
+{
+    if byte == b'\'' {
+        Action::Put(Mode::Text(TextMode::Inside), '\'')
+    } else {
+        Action::End
     }
 }
 
@@ -114,6 +96,28 @@ fn utf8_value(value: u32, byte: u8) -> u32
     ensures { result ≡ utf8_value value byte }
 {
     value % 0x8000 * 64 + u32::from(byte % 64)
+}
+
+/// The last byte but two of a character in UTF-8, in these bounds.
+fn utf8_third_action(low: u8, high: u8, value: u32, byte: u8) -> Action
+    ensures { result ≡ text_action (Utf8Third low high value) byte }
+{
+    if low <= byte && byte <= high {
+        Action::Skip(Mode::Text(TextMode::Utf8Second(0x80, 0xBF, utf8_value(value, byte))))
+    } else {
+        Action::Refuse(Wrong::Utf8)
+    }
+}
+
+/// The last byte but one of a character in UTF-8, in these bounds.
+fn utf8_second_action(low: u8, high: u8, value: u32, byte: u8) -> Action
+    ensures { result ≡ text_action (Utf8Second low high value) byte }
+{
+    if low <= byte && byte <= high {
+        Action::Skip(Mode::Text(TextMode::Utf8Last(utf8_value(value, byte))))
+    } else {
+        Action::Refuse(Wrong::Utf8)
+    }
 }
 
 fn utf8_last_action(value: u32, byte: u8) -> Action
@@ -216,6 +220,17 @@ fn first2_action(byte: u8) -> Action
     }
 }
 
+/// What stands behind a group of `\X2\`: the end of the directive, or a further group.
+fn next2_action(byte: u8) -> Action
+    ensures { result ≡ text_action Extended2Next byte }
+{
+    if byte == b'\\' {
+        Action::Skip(Mode::Text(TextMode::EndBackslash))
+    } else {
+        first2_action(byte)
+    }
+}
+
 /// The value of a group with one digit more, of at most four.
 fn group_value(value: u16, byte: u8) -> u16
     requires { IsTrue (is_hex_digit byte) }
@@ -304,6 +319,17 @@ fn first4_action(byte: u8) -> Action
         Action::Skip(Mode::Text(TextMode::Extended4Digits(1, u32::from(hex_value(byte)))))
     } else {
         Action::Refuse(Wrong::Directive)
+    }
+}
+
+/// What stands behind a group of `\X4\`: the end of the directive, or a further group.
+fn next4_action(byte: u8) -> Action
+    ensures { result ≡ text_action Extended4Next byte }
+{
+    if byte == b'\\' {
+        Action::Skip(Mode::Text(TextMode::EndBackslash))
+    } else {
+        first4_action(byte)
     }
 }
 
