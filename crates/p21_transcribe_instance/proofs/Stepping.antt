@@ -19,7 +19,7 @@ use Rattle.p21_transcribe.specs.Gaps.{PassesSeparators}
 use Rattle.p21_transcribe.specs.LeadingToken.{Transcribes}
 use Rattle.p21_transcribe_instance.proofs.LaidRuns.{takes-join, takes-mark}
 use Rattle.p21_transcribe_instance.specs.TakenParameters.{AreStepsIn, IsPlacedParameter, PlacedParameter, TakesTokens, TakesEntity, TakesDelimiter, TakesInside, TakesOpenedEntity, TakesPlaces, TakesStep, TakesSteps, body_text, body_tokens, needs_at, params_at, texts_at}
-use Rattle.p21_transcribe_instance.specs.Steps.{AreStepsAt, IsStepAt, IsStepForSome, IsStepFor}
+use Rattle.p21_transcribe_instance.specs.Steps.{AreStepsAt, IsStepAt, IsStepForSome}
 use Rattle.p21_transcribe_instance.specs.declared.step.Step.{Step}
 use Rattle.p21_transcribe_instance.proofs.Laid.{laid-join, param-behind}
 use Rattle.p21_transcribe_instance.specs.declared.taken.Taken.{Taken}

@@ -66,19 +66,9 @@ fn behind_parameters(bytes: &[u8]) -> Option<&[u8]>
         match bytes[at] {
             b';' => return None,
             b'\'' => quoted = !quoted,
-            b'(' => {
-                if !quoted {
-                    open += 1;
-                }
-            }
-            b')' => {
-                if !quoted {
-                    if open <= 1 {
-                        return Some(&bytes[at + 1..]);
-                    }
-                    open -= 1;
-                }
-            }
+            b'(' if !quoted => open += 1,
+            b')' if !quoted && open <= 1 => return Some(&bytes[at + 1..]),
+            b')' if !quoted => open -= 1,
             _ => {}
         }
     }

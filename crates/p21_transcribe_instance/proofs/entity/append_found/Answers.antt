@@ -1,6 +1,5 @@
-use Rattle.p21_transcribe.proofs.Parts.{stays-behind}
 use Rattle.p21_transcribe_instance.proofs.Meaning.{entity-is}
-use Rattle.p21_transcribe_instance.proofs.Stepping.{entity-goes_on, none_from}
+use Rattle.p21_transcribe_instance.proofs.Stepping.{entity-goes_on}
 use Rattle.p21_transcribe_instance.proofs.entity.append_found.Goals as goal
 
 pub is_prepared-requires : goal.is_prepared-requires
