@@ -1,6 +1,6 @@
 ghost use Rattle.std.specs.Prelude.{◌≡◌, IfOk, OnErr, Some};
 ghost use Rattle.p21_spec_exchange.specs.Keyword.{IsKeyword};
-ghost use Rattle.p21_tokens_automaton.specs.Reading.{closed_token, ended_token_in, ended_number, ended_word, single_token, marker_of};
+ghost use Rattle.p21_tokens_automaton.specs.Reading.{closed_token, ended_token_in, ended_name, ended_number, ended_word, single_token, marker_of};
 ghost use Rattle.p21_tokens.specs.Steps.{ReadsFound, ReadsEnd};
 ghost use Rattle.p21_tokens.specs.Token.{meant};
 
@@ -25,7 +25,7 @@ pub(crate) fn read_ended_token(
     match mode {
         Mode::Number(mode) => read_number(alloc, mode, pending_bytes),
         Mode::Word(mode) => read_word(alloc, mode, pending_bytes),
-        Mode::Name(NameMode::Digits(value)) => Ok(Token::Name(Name(value))),
+        Mode::Name(mode) => read_name(mode),
         Mode::Text(TextMode::Apostrophe) => Ok(Token::Text(mem::replace(text, Text::new(alloc)))),
         _ => Err(TokenFault::BadByte),
     }
@@ -84,6 +84,16 @@ fn read_real(alloc: Global, pending_bytes: &[u8]) -> Result<Token, TokenFault>
     match Decimal::read(alloc, pending_bytes) {
         Ok(number) => Ok(Token::Real(number)),
         Err(fault) => Err(value_fault(fault)),
+    }
+}
+
+/// The instance name of the digits that were taken.
+fn read_name(mode: NameMode) -> Result<Token, TokenFault>
+    ensures { ReadsFound (ended_name mode) result }
+{
+    match mode {
+        NameMode::Digits(value) => Ok(Token::Name(Name(value))),
+        NameMode::Hash => Err(TokenFault::BadByte),
     }
 }
 
