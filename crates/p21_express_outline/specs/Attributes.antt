@@ -9,6 +9,7 @@ use Rattle.p21_express_outline.specs.Outline.{digest_own_names}
 abbrev pub own_of : AttributesDigest → List AttributeName → List (List ℕ × Bool × TypeDigest)
 own_of x names = map (λ name. (name, x.optional, x.type)) (digest_own_names names)
 
+-- an attribute of this name
 abbrev pub attribute_with : Bool → TypeUse → List ℕ → Attribute
 attribute_with optional type name = record { name = name; optional = optional; type = type }
 
