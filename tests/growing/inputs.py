@@ -78,6 +78,33 @@ def colliding(n, folder):
     return check_demo(folder, [POINT % 18446744073709551615] + [POINT % int(k) for k in names])
 
 
+def one_far_name(n, folder):
+    """One name near the largest among names that rise by one: the table must not reach up to it."""
+    return check_demo(folder, (POINT % k for k in (1, 18446744073709551615, *range(2, n))))
+
+
+def names_a_page_apart(n, folder):
+    """Late names of which none shares a page of the tables with another."""
+    return check_demo(folder, (POINT % (4096 * k) for k in range(n, 0, -1)))
+
+
+def kept_a_page_apart(n, folder):
+    """The same, with their lines."""
+    return ["canon", str(DEMO), data(folder, (POINT % (4096 * k) for k in shuffled_names(n)))]
+
+
+def falling_by_many(n, folder):
+    return ["canon", str(DEMO), data(folder, (POINT % (10 * k) for k in range(n, 0, -1)))]
+
+
+def from_ten_million(n, folder):
+    return check_demo(folder, (POINT % (10_000_000 + k) for k in range(n)))
+
+
+def shuffled_from_ten_million(n, folder):
+    return ["canon", str(DEMO), data(folder, (POINT % (10_000_000 + k) for k in shuffled_names(n)))]
+
+
 def sections(n, folder):
     def each():
         for k in range(n):

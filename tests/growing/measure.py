@@ -68,6 +68,8 @@ ROWS = [
     *(Row(name, 500, MOST_OF_TEXT.get(name, ENTITIES)) for name in inputs.TEXTS),
     *(Row(name, 2_000) for name in ("rising", "falling", "shuffled", "references_ahead", "set_of_references")),
     Row("colliding", 2_000, 400_000),
+    *(Row(name, 2_000) for name in ("one_far_name", "names_a_page_apart", "kept_a_page_apart", "falling_by_many")),
+    *(Row(name, 2_000) for name in ("from_ten_million", "shuffled_from_ten_million")),
     *(Row(name, 2_000) for name in ("bag_of_numbers", "lists_of_one", "list_of_digits", "lists_of_two", "records_of_one_keyword")),
     Row("sections", 1_000),
     Row("sections_with_long_names", 50),

@@ -270,6 +270,7 @@ impl Kept {
     /// # Errors
     ///
     /// In this order: `DuplicateName`, `CanonicalTooLong`. `NoMemory`.
+    #[inline]
     pub fn take_found(
         &mut self,
         schema: &Schema,

@@ -247,8 +247,7 @@ fn section_text<'a>(section: &'a Section, instances: &'a Instances, line: usize)
         return &section.line;
     }
     let place = section.instance_positions.get(line - 1);
-    let (_, _, text) = instances.get(place);
-    text
+    instances.text(place)
 }
 
 /// Puts as many bytes into a buffer as have room behind those that fill it, and says how many these are.

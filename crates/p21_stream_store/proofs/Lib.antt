@@ -8,6 +8,7 @@ mod NumberLemmas
 mod SeenLemmas
 mod NotedLemmas
 mod NamedMembershipLemmas
+mod PageLemmas
 mod RoomLemmas
 mod TextLemmas
 pub mod OrderLemmas

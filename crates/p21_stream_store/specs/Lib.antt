@@ -4,6 +4,8 @@ pub mod Blocks
 pub mod NamedLines
 pub mod StoredInstance
 pub mod Lines
+pub mod Pages
+pub mod Tables
 pub mod Positions
 pub mod Noted
 pub mod NamedMemberships

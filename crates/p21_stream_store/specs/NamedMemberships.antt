@@ -1,5 +1,8 @@
 -- Instances without texts, by the memberships that are noted of their names.
-use Rattle.std.specs.Prelude.{ℕ, zero, suc, List, [], ◌∷◌}
+use Rattle.std.specs.Prelude.{◌*◌, ℕ, zero, suc, List, [], ◌∷◌, length, map}
+use Rattle.std.specs.List.{range_with_len}
+use Rattle.p21_stream_store.specs.Tables.{number_of}
+use Rattle.p21_stream_store.specs.declared.pages.Pages.{Pages}
 use Rattle.p21_stream_store.specs.StoredInstance.{StoredInstance}
 
 -- an instance of a name without a text
@@ -11,3 +14,11 @@ abbrev pub noted_from : ℕ → List ℕ → List StoredInstance
 noted_from name [] = []
 noted_from name (zero ∷ marks) = noted_from (suc name) marks
 noted_from name (suc membership ∷ marks) = without_text name membership ∷ noted_from (suc name) marks
+
+-- the marks of all names that a table leads to
+abbrev pub marks_of : Pages ℕ → List ℕ
+marks_of table = map (number_of 0 table) (range_with_len 0 (4096 * length table.pages.items))
+
+-- the instances whose memberships are noted in a table
+abbrev pub noted_in : Pages ℕ → List StoredInstance
+noted_in table = noted_from 0 (marks_of table)

@@ -1,5 +1,5 @@
 -- What is noted of the memberships of names.
-use Rattle.std.specs.Prelude.{◌≡◌, ℕ, List, Option, Some, Contains}
+use Rattle.std.specs.Prelude.{◌≡◌, ◌⊎◌, ℕ, List, Option, Some, Contains}
 use Rattle.p21_stream_store.specs.StoredInstance.{StoredInstance}
 
 -- an instance of this name and this membership is stored
@@ -9,3 +9,8 @@ IsStoredWith stored name membership = (text : List ℕ) × Contains stored (reco
 -- what is noted of each name is the membership of the instance of this name
 abbrev pub AreNoted : (ℕ → Option ℕ) → List StoredInstance → Type 0
 AreNoted noted stored = (name membership : ℕ) → noted name ≡ Some membership → IsStoredWith stored name membership
+
+-- what is noted now was noted before, or is the membership of this name
+abbrev pub NotesAtMost : (ℕ → Option ℕ) → ℕ → ℕ → (ℕ → Option ℕ) → Type 0
+NotesAtMost old name membership new =
+    (other number : ℕ) → new other ≡ Some number → (old other ≡ Some number) ⊎ ((other ≡ name) × (number ≡ membership))

@@ -5,8 +5,9 @@ ghost use Rattle.std.specs.List.Sorted.{IsNonDecreasingBy};
 ghost use Rattle.p21_stream_store.specs.StoredInstance.{StoredInstance, stored_instance, instance_names, name_at};
 
 use crate::named_lines::NamedLines;
-use crate::noted::{make_place, note_membership, noted_membership};
+use crate::noted::{note, noted_membership};
 use crate::numbers::Numbers;
+use crate::pages::Pages;
 use p21_values::NoMemory;
 use std::alloc::Global;
 use std::marker::Model;
@@ -15,7 +16,7 @@ use std::marker::Model;
 pub struct Instances {
     lines: NamedLines,
     // At each small name one more than the number of its membership, if that is noted, or 0.
-    noted: Vec<u8>,
+    noted: Pages<u8>,
 }
 
 // Written out: crates above call it, where they would prove a derived one field by field.
@@ -35,7 +36,7 @@ impl Model for Instances {
 
     ghost view = { λ a. a.lines };
 
-    ghost invariant = { λ a. AreNoted (position_marked a.noted.items) a.lines };
+    ghost invariant = { λ a. AreNoted (position_marked a.noted) a.lines };
 }
 
 impl Instances {
@@ -45,7 +46,7 @@ impl Instances {
     {
         Instances {
             lines: NamedLines::new(alloc),
-            noted: Vec::new(alloc),
+            noted: Pages::new(alloc),
         }
     }
 
@@ -125,13 +126,11 @@ impl Instances {
         ensures err { OnErr result (self.new ≡ self.old) }
     {
         let count = self.lines.len();
-        let Ok(()) = make_place(&mut self.noted, name, count) else {
-            return Err(NoMemory);
-        };
         let Ok(()) = self.lines.push(name, membership, text) else {
             return Err(NoMemory);
         };
-        let _ = note_membership(&mut self.noted, name, membership);
+        // Where there is no room to note it, the name is looked up among the lines.
+        let _ = note(&mut self.noted, name, membership, count);
         Ok(())
     }
 }

@@ -13,6 +13,7 @@ mod names;
 mod noted;
 mod numbers;
 mod order;
+mod pages;
 mod room;
 mod rows;
 mod runs;

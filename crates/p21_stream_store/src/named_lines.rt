@@ -158,6 +158,7 @@ impl NamedLines {
     }
 
     /// The number of the membership of the instance of this name, if there is one. A name that rises costs no search.
+    #[inline]
     pub fn membership_of(&self, name: u64) -> Option<usize>
         ensures some { IfSome result (λ membership. (text : List ℕ) × Contains self.now (record { name = name; membership = membership; text = text })) }
         ensures none { IsNone result → Contains (instance_names self.now) name → ⊥ }
@@ -165,6 +166,15 @@ impl NamedLines {
         if !may_have_come(&self.seen, name) {
             return None;
         }
+        self.membership_found(name)
+    }
+
+    /// The same by the names alone, without a look at their bits.
+    #[inline(never)]
+    fn membership_found(&self, name: u64) -> Option<usize>
+        ensures some { IfSome result (λ membership. (text : List ℕ) × Contains self.now (record { name = name; membership = membership; text = text })) }
+        ensures none { IsNone result → Contains (instance_names self.now) name → ⊥ }
+    {
         if is_above(&self.rising, name) {
             return None;
         }

@@ -1,10 +1,12 @@
 //! Memberships of instances by name, where no lines are kept.
-ghost use Rattle.std.specs.Prelude.{◌≡◌, ◌+◌, ℕ, List, [], ◌∷◌, length, Contains, IfSome, IsNone, IsPermutation, MatchBool, OnErr, OnOk, Some};
-ghost use Rattle.p21_stream_store.specs.Positions.{Changes, position_marked};
+ghost use Rattle.std.specs.Prelude.{◌≡◌, ◌≤◌, ◌+◌, ◌*◌, ℕ, List, [], ◌∷◌, length, Contains, IfOk, IfSome, IsNone, IsPermutation, MatchBool, OnErr, OnOk, Some};
+ghost use Rattle.p21_stream_store.specs.Positions.{Changes, IsSame, position_marked};
 ghost use Rattle.p21_stream_store.specs.StoredInstance.{StoredInstance, instance_names};
+ghost use Rattle.p21_stream_store.specs.Tables.{GrowsWithin};
 
 use crate::named_lines::NamedLines;
-use crate::noted::{make_place, note_membership, noted_membership};
+use crate::noted::{note, noted_membership};
+use crate::pages::Pages;
 use p21_values::NoMemory;
 use std::alloc::Global;
 use std::marker::Model;
@@ -13,7 +15,7 @@ use std::marker::Model;
 /// whatever order names come in; those that have no byte stand among the others.
 pub struct NamedMemberships {
     // At each small name one more than the number of its membership, if that is noted, or 0.
-    noted: Vec<u8>,
+    noted: Pages<u8>,
     // So many names are noted; in 32 bits, so that a sum of counts stays in 64.
     count: u32,
     others: NamedLines,
@@ -32,14 +34,14 @@ impl Drop for NamedMemberships {
 
 impl Model for NamedMemberships {
     ghost use Rattle.std.specs.Prelude.{◌≡◌, ◌++◌, List, length};
-    ghost use Rattle.p21_stream_store.specs.NamedMemberships.{noted_from};
+    ghost use Rattle.p21_stream_store.specs.NamedMemberships.{noted_in};
     ghost use Rattle.p21_stream_store.specs.StoredInstance.{StoredInstance};
 
     ghost Value = { List StoredInstance };
 
-    ghost view = { λ a. noted_from 0 a.noted.items ++ a.others };
+    ghost view = { λ a. noted_in a.noted ++ a.others };
 
-    ghost invariant = { λ a. a.count ≡ length (noted_from 0 a.noted.items) };
+    ghost invariant = { λ a. a.count ≡ length (noted_in a.noted) };
 }
 
 impl NamedMemberships {
@@ -48,7 +50,7 @@ impl NamedMemberships {
         ensures { result ≡ [] }
     {
         NamedMemberships {
-            noted: Vec::new(alloc),
+            noted: Pages::new(alloc),
             count: 0,
             others: NamedLines::new(alloc),
         }
@@ -83,25 +85,37 @@ impl NamedMemberships {
         ensures ok { OnOk result (IsPermutation (record { name = name; membership = membership; text = [] } ∷ self.old) self.new) }
         ensures err { OnErr result (self.new ≡ self.old) }
     {
-        let count = self.len();
-        let Ok(()) = make_place(&mut self.noted, name, count) else {
-            return Err(NoMemory);
-        };
-        if note(&mut self.noted, &mut self.count, name, membership) {
-            return Ok(());
+        let all = self.len();
+        match count_noted(&mut self.noted, &mut self.count, name, membership, all) {
+            Ok(true) => Ok(()),
+            Ok(false) => self.others.push(name, membership, b""),
+            Err(fault) => Err(fault),
         }
-        self.others.push(name, membership, b"")
     }
 }
 
-/// Notes the membership of a name of which nothing is noted, if there is a byte for it, and counts it; says whether it did.
-fn note(noted: &mut Vec<u8>, count: &mut u32, name: u64, membership: usize) -> bool
-    ensures noted { MatchBool result (Changes (position_marked noted.old.items) name (Some membership) (position_marked noted.new.items)) (noted.new.items ≡ noted.old.items) }
-    ensures count { MatchBool result (count.new ≡ count.old + 1) (count.new ≡ count.old) }
+/// Notes the membership of a name of which nothing is noted, where there is a place for it or may be one more, and counts it; says
+/// whether it did. So many names have come.
+fn count_noted(
+    noted: &mut Pages<u8>,
+    count: &mut u32,
+    name: u64,
+    membership: usize,
+    all: usize,
+) -> Result<bool, NoMemory>
+    ensures noted { IfOk result (λ done. MatchBool done (Changes (position_marked noted.old) name (Some membership) (position_marked noted.new)) (IsSame (position_marked noted.old) (position_marked noted.new))) }
+    ensures count { IfOk result (λ done. MatchBool done (count.new ≡ count.old + 1) (count.new ≡ count.old)) }
+    ensures err { OnErr result (IsSame (position_marked noted.old) (position_marked noted.new) × (count.new ≡ count.old)) }
+    ensures room { (most : ℕ) → 262144 ≤ most → 16 * all ≤ most → GrowsWithin most noted.old noted.new }
 {
-    if *count == u32::MAX || !note_membership(noted, name, membership) {
-        return false;
+    if *count == u32::MAX {
+        return Ok(false);
     }
-    *count += 1;
-    true
+    let Ok(done) = note(noted, name, membership, all) else {
+        return Err(NoMemory);
+    };
+    if done {
+        *count += 1;
+    }
+    Ok(done)
 }

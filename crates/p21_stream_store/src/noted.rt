@@ -1,50 +1,80 @@
 //! The memberships of small names, a byte for each name, so that most references take one look.
-ghost use Rattle.std.specs.Prelude.{◌≡◌, ◌≤◌, ◌*◌, ℕ, MatchBool, Some, vec_capacity};
+ghost use Rattle.std.specs.Prelude.{◌≡◌, ◌≤◌, ◌*◌, ℕ, IfOk, MatchBool, OnErr, Some};
 ghost use Rattle.p21_stream_store.specs.Positions.{Changes, IsSame, position_marked};
+ghost use Rattle.p21_stream_store.specs.Tables.{GrowsWithin, KeepsRoom};
 
-use crate::late::small_names;
-use crate::room::reach;
+use crate::pages::Pages;
 use p21_values::NoMemory;
 
 /// Memberships with numbers below this are noted.
 const NOTED_MEMBERSHIPS: usize = 255;
 
+/// There is room to note the memberships of so many names, however few have come.
+const ROOM: usize = 262_144;
+/// For each name that has come there is room for so many, where these are more.
+const ROOM_FOR_EACH: usize = 16;
+
 /// The number of the membership that is noted of a name.
-pub fn noted_membership(noted: &[u8], name: u64) -> Option<usize>
+#[inline]
+pub fn noted_membership(noted: &Pages<u8>, name: u64) -> Option<usize>
     ensures { result ≡ position_marked noted.now name }
 {
-    if name >= noted.len() as u64 {
-        return None;
-    }
-    match noted[name as usize] {
+    match noted.get(name, 0) {
         0 => None,
         byte => Some(byte as usize - 1),
     }
 }
 
-/// Makes room to note the membership of a name, if it is small where so many have come. Nothing is noted by it.
-pub fn make_place(noted: &mut Vec<u8>, name: u64, count: usize) -> Result<(), NoMemory>
-    ensures same { IsSame (position_marked noted.old.items) (position_marked noted.new.items) }
-    ensures room { (m : ℕ) → vec_capacity noted.old ≤ m → 262144 ≤ m → 16 * count ≤ m → vec_capacity noted.new ≤ m }
+/// Notes the membership of a name, where there is a place for it or may be one more, and the byte holds its number; says whether it
+/// did. So many names have come.
+///
+/// # Errors
+///
+/// `NoMemory`. Nothing is noted then.
+#[inline]
+pub fn note(
+    noted: &mut Pages<u8>,
+    name: u64,
+    membership: usize,
+    count: usize,
+) -> Result<bool, NoMemory>
+    ensures ok { IfOk result (λ done. MatchBool done (Changes (position_marked noted.old) name (Some membership) (position_marked noted.new)) (IsSame (position_marked noted.old) (position_marked noted.new))) }
+    ensures err { OnErr result (IsSame (position_marked noted.old) (position_marked noted.new)) }
+    ensures room { (most : ℕ) → 262144 ≤ most → 16 * count ≤ most → GrowsWithin most noted.old noted.new }
 {
-    if count >= u32::MAX as usize {
-        return Ok(());
+    if note_membership(noted, name, membership) {
+        return Ok(true);
     }
-    let small = small_names(count);
-    if name >= small {
-        return Ok(());
-    }
-    reach(noted, name as usize, small as usize, 0)
+    note_in_new_page(noted, name, membership, count)
+}
+
+/// The same, of a name for which there is no place yet.
+#[inline(never)]
+fn note_in_new_page(
+    noted: &mut Pages<u8>,
+    name: u64,
+    membership: usize,
+    count: usize,
+) -> Result<bool, NoMemory>
+    ensures ok { IfOk result (λ done. MatchBool done (Changes (position_marked noted.old) name (Some membership) (position_marked noted.new)) (IsSame (position_marked noted.old) (position_marked noted.new))) }
+    ensures err { OnErr result (IsSame (position_marked noted.old) (position_marked noted.new)) }
+    ensures room { (most : ℕ) → 262144 ≤ most → 16 * count ≤ most → GrowsWithin most noted.old noted.new }
+{
+    let most = ROOM.max(count.saturating_mul(ROOM_FOR_EACH));
+    let Ok(_) = noted.make_page(name, most, 0) else {
+        return Err(NoMemory);
+    };
+    Ok(note_membership(noted, name, membership))
 }
 
 /// Notes the membership of a name, if there is a place for it, and the byte holds its number; says whether it did.
-pub fn note_membership(noted: &mut Vec<u8>, name: u64, membership: usize) -> bool
-    ensures noted { MatchBool result (Changes (position_marked noted.old.items) name (Some membership) (position_marked noted.new.items)) (noted.new.items ≡ noted.old.items) }
-    ensures room { vec_capacity noted.new ≡ vec_capacity noted.old }
+#[inline]
+fn note_membership(noted: &mut Pages<u8>, name: u64, membership: usize) -> bool
+    ensures noted { MatchBool result (Changes (position_marked noted.old) name (Some membership) (position_marked noted.new)) (noted.new ≡ noted.old) }
+    ensures room { KeepsRoom noted.old noted.new }
 {
-    if membership >= NOTED_MEMBERSHIPS || name >= noted.len() as u64 {
+    if membership >= NOTED_MEMBERSHIPS {
         return false;
     }
-    noted[name as usize] = membership as u8 + 1;
-    true
+    noted.set(name, membership as u8 + 1)
 }

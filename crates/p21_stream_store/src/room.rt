@@ -51,6 +51,7 @@ pub fn reach<T: Copy>(list: &mut Vec<T>, index: usize, most: usize, fill: T) -> 
     ensures reached { OnOk result (index < length list.new.items) }
     ensures same { (other : ℕ) → slice_index_or list.new.items other fill ≡ slice_index_or list.old.items other fill }
     ensures err { OnErr result (list.new.items ≡ list.old.items) }
+    ensures no_room { OnErr result (vec_capacity list.new ≡ vec_capacity list.old) }
     ensures room { (m : ℕ) → vec_capacity list.old ≤ m → most ≤ m → vec_capacity list.new ≤ m }
 {
     if index < list.len() {
@@ -65,7 +66,7 @@ pub fn reach<T: Copy>(list: &mut Vec<T>, index: usize, most: usize, fill: T) -> 
 }
 
 /// How many elements a list gets, so that there is one at an index: twice as many, or as many as that takes.
-fn wider_count(count: usize, index: usize, most: usize) -> usize
+pub fn wider_count(count: usize, index: usize, most: usize) -> usize
     requires behind { count ≤ index }
     requires within { index < most }
     ensures reached { index < result }

@@ -1,35 +1,34 @@
-use Rattle.std.proofs.Common.{◌∙◌}
-use Rattle.p21_stream_store.proofs.NamedMembershipLemmas.{all-stay, count-stays, no-other, one-noted, one-noted_count, other-added, other-refused, same-marks}
+use Rattle.std.proofs.Common.{◌≡◌, ◌+◌, Bool, MatchBool, Some, length, subst, ◌∙◌}
+use Rattle.p21_stream_store.specs.Positions.{Changes, IsSame, position_marked}
+use Rattle.p21_stream_store.proofs.NamedMembershipLemmas.{all-stay, count-stays, no-other, one-noted, one-noted_count, other-added, other-refused}
 use Rattle.p21_stream_store.proofs.named_memberships.NamedMemberships.push.Goals as goal
 
 pub invariant_of-self : goal.invariant_of-self
-invariant_of-self c = count-stays c.self.inside.count c.self.inside.noted.items c.make_place.new.noted.items c.make_place.ensures.same c.self.invariant
+invariant_of-self c =
+    subst (λ (b : Bool). MatchBool b (c.count_noted.new.count ≡ c.self.inside.count + 1) (c.count_noted.new.count ≡ c.self.inside.count)) c.in-Ok-true.field-0-test c.in-Ok-true.ensures.count
+    ∙ one-noted_count c.self.inside.noted c.self.inside.others c.args.self.now c.self.view_is c.count_noted.new.noted c.args.name c.args.membership c.self.inside.count c.self.invariant c.requires (subst (λ (b : Bool). MatchBool b (Changes (position_marked c.self.inside.noted) c.args.name (Some c.args.membership) (position_marked c.count_noted.new.noted)) (IsSame (position_marked c.self.inside.noted) (position_marked c.count_noted.new.noted))) c.in-Ok-true.field-0-test c.in-Ok-true.ensures.noted)
 
-pub returns-in_default-clause-err : goal.returns-in_default-clause-err
-returns-in_default-clause-err c = all-stay c.self.inside.noted.items c.self.inside.others c.args.self.now c.self.view_is c.make_place.new.noted.items c.make_place.ensures.same
-
-pub invariant_of-self-then-note : goal.invariant_of-self-then-note
-invariant_of-self-then-note c =
-    c.if-note.ensures.count
-    ∙ one-noted_count c.self.inside.noted.items c.self.inside.others c.args.self.now c.self.view_is c.make_place.new.noted.items c.note.new.noted.items c.args.name c.args.membership c.self.inside.count c.self.invariant c.make_place.ensures.same c.requires c.if-note.ensures.noted
-
-pub returns-then-note-clause-ok : goal.returns-then-note-clause-ok
-returns-then-note-clause-ok c = one-noted c.self.inside.noted.items c.self.inside.others c.args.self.now c.self.view_is c.make_place.new.noted.items c.note.new.noted.items c.args.name c.args.membership c.make_place.ensures.same c.requires c.if-note.ensures.noted
+pub returns-in-Ok-true-clause-ok : goal.returns-in-Ok-true-clause-ok
+returns-in-Ok-true-clause-ok c = one-noted c.self.inside.noted c.self.inside.others c.args.self.now c.self.view_is c.count_noted.new.noted c.args.name c.args.membership c.requires (subst (λ (b : Bool). MatchBool b (Changes (position_marked c.self.inside.noted) c.args.name (Some c.args.membership) (position_marked c.count_noted.new.noted)) (IsSame (position_marked c.self.inside.noted) (position_marked c.count_noted.new.noted))) c.in-Ok-true.field-0-test c.in-Ok-true.ensures.noted)
 
 pub push-requires : goal.push-requires
-push-requires c = no-other c.self.inside.noted.items c.self.inside.others c.args.self.now c.self.view_is c.args.name c.requires
+push-requires c = no-other c.self.inside.noted c.self.inside.others c.args.self.now c.self.view_is c.args.name c.requires
 
-pub invariant_of-self-2 : goal.invariant_of-self-2
-invariant_of-self-2 c =
-    c.if-note.ensures.count
-    ∙ count-stays c.self.inside.count c.self.inside.noted.items c.note.new.noted.items (same-marks c.self.inside.noted.items c.make_place.new.noted.items c.note.new.noted.items c.make_place.ensures.same c.if-note.ensures.noted) c.self.invariant
+pub invariant_of-self-in-Ok-false : goal.invariant_of-self-in-Ok-false
+invariant_of-self-in-Ok-false c =
+    subst (λ (b : Bool). MatchBool b (c.count_noted.new.count ≡ c.self.inside.count + 1) (c.count_noted.new.count ≡ c.self.inside.count)) c.in-Ok-false.field-0-test c.in-Ok-false.ensures.count ∙ count-stays c.self.inside.noted c.self.inside.others c.args.self.now c.self.view_is c.count_noted.new.noted c.self.inside.count (subst (λ (b : Bool). MatchBool b (Changes (position_marked c.self.inside.noted) c.args.name (Some c.args.membership) (position_marked c.count_noted.new.noted)) (IsSame (position_marked c.self.inside.noted) (position_marked c.count_noted.new.noted))) c.in-Ok-false.field-0-test c.in-Ok-false.ensures.noted) c.self.invariant
 
-pub returns-clause-ok : goal.returns-clause-ok
-returns-clause-ok c =
-    let same = same-marks c.self.inside.noted.items c.make_place.new.noted.items c.note.new.noted.items c.make_place.ensures.same c.if-note.ensures.noted in
-    other-added c.self.inside.noted.items c.self.inside.others c.args.self.now c.self.view_is c.note.new.noted.items c.push.new.self c.args.name c.args.membership same c.push.result c.push.ensures.ok
+pub returns-in-Ok-false-clause-ok : goal.returns-in-Ok-false-clause-ok
+returns-in-Ok-false-clause-ok c =
+    other-added c.self.inside.noted c.self.inside.others c.args.self.now c.self.view_is c.count_noted.new.noted c.push.new.self c.args.name c.args.membership (subst (λ (b : Bool). MatchBool b (Changes (position_marked c.self.inside.noted) c.args.name (Some c.args.membership) (position_marked c.count_noted.new.noted)) (IsSame (position_marked c.self.inside.noted) (position_marked c.count_noted.new.noted))) c.in-Ok-false.field-0-test c.in-Ok-false.ensures.noted) c.push.result c.push.ensures.ok
 
-pub returns-clause-err : goal.returns-clause-err
-returns-clause-err c =
-    let same = same-marks c.self.inside.noted.items c.make_place.new.noted.items c.note.new.noted.items c.make_place.ensures.same c.if-note.ensures.noted in
-    other-refused c.self.inside.noted.items c.self.inside.others c.args.self.now c.self.view_is c.note.new.noted.items c.push.new.self same c.push.result c.push.ensures.err
+pub returns-in-Ok-false-clause-err : goal.returns-in-Ok-false-clause-err
+returns-in-Ok-false-clause-err c =
+    other-refused c.self.inside.noted c.self.inside.others c.args.self.now c.self.view_is c.count_noted.new.noted c.push.new.self (subst (λ (b : Bool). MatchBool b (Changes (position_marked c.self.inside.noted) c.args.name (Some c.args.membership) (position_marked c.count_noted.new.noted)) (IsSame (position_marked c.self.inside.noted) (position_marked c.count_noted.new.noted))) c.in-Ok-false.field-0-test c.in-Ok-false.ensures.noted) c.push.result c.push.ensures.err
+
+pub invariant_of-self-in-Err : goal.invariant_of-self-in-Err
+invariant_of-self-in-Err c =
+    c.in-Err.ensures.err.1 ∙ count-stays c.self.inside.noted c.self.inside.others c.args.self.now c.self.view_is c.count_noted.new.noted c.self.inside.count c.in-Err.ensures.err.0 c.self.invariant
+
+pub returns-in-Err-clause-err : goal.returns-in-Err-clause-err
+returns-in-Err-clause-err c = all-stay c.self.inside.noted c.self.inside.others c.args.self.now c.self.view_is c.count_noted.new.noted c.in-Err.ensures.err.0

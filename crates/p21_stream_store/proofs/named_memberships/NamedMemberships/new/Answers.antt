@@ -1,0 +1,10 @@
+use Rattle.std.proofs.Common.{◌++◌, List, ap, length, sym, ◌∙◌}
+use Rattle.p21_stream_store.proofs.NamedMembershipLemmas.{none-noted}
+use Rattle.p21_stream_store.specs.StoredInstance.{StoredInstance}
+use Rattle.p21_stream_store.proofs.named_memberships.NamedMemberships.new.Goals as goal
+
+pub invariant_of-result : goal.invariant_of-result
+invariant_of-result c = ap (λ (l : List StoredInstance). length l) (sym (none-noted c.new.result (c.new.ensures 0)))
+
+pub returns : goal.returns
+returns c = ap (λ (l : List StoredInstance). l ++ c.new-2.result) (none-noted c.new.result (c.new.ensures 0)) ∙ c.new-2.ensures

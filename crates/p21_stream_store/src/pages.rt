@@ -1,0 +1,180 @@
+//! Tables from names to numbers, by pages.
+ghost use Rattle.std.specs.Prelude.{◌≡◌, ◌≢◌, ◌+◌, ◌*◌, ◌/◌, ◌<◌, ◌≤◌, ℕ, false, length, max, vec_capacity, vec_len, MatchBool, OnErr, OnOk};
+ghost use Rattle.p21_stream_store.specs.Pages.{number_in, rooms};
+
+use crate::room::{reach, wider_count};
+use p21_values::NoMemory;
+use std::alloc::Global;
+
+/// So many names stand in a page.
+const PAGE: usize = 4_096;
+/// A table leads to so many pages, however few names have come.
+const PAGES: usize = 4_096;
+/// For so many names that a table may have room for it leads to a page more, where these are more.
+const NAMES_FOR_A_PAGE: usize = 256;
+
+/// A number for each name, in pages of 4,096 names. Few pages are there; a name whose page isn't there has the number of no
+/// name, which each call says. So what a table takes depends on how many pages were made, and not on how large names are.
+#[derive(Drop)]
+pub struct Pages<T> {
+    alloc: Global,
+    pages: Vec<Vec<T>>,
+    // So many pages were made.
+    made: usize,
+    ghost made_is: { rooms pages.items ≤ 4096 * made },
+}
+
+impl<T: Copy + Drop> Pages<T> {
+    /// A table without pages. It takes no memory.
+    pub fn new(alloc: Global) -> Pages<T>
+        ensures { (none : T) → (name : ℕ) → number_in none result.pages.items name ≡ none }
+    {
+        Pages {
+            alloc,
+            pages: Vec::new(alloc),
+            made: 0,
+        }
+    }
+
+    /// The number of a name.
+    #[inline]
+    pub fn get(&self, name: u64, none: T) -> T
+        ensures { result ≡ number_in none self.now.pages.items name }
+    {
+        let number = name as usize / PAGE;
+        if number >= self.pages.len() {
+            return none;
+        }
+        let page = &self.pages[number];
+        let index = name as usize % PAGE;
+        if index >= page.len() {
+            return none;
+        }
+        page[index]
+    }
+
+    /// Gives a name this number, if its page is there; says whether it is.
+    #[inline]
+    pub fn set(&mut self, name: u64, value: T) -> bool
+        ensures set { MatchBool result ((none : T) → number_in none self.new.pages.items name ≡ value) (self.new ≡ self.old) }
+        ensures absent { result ≡ false → (none : T) → number_in none self.old.pages.items name ≡ none }
+        ensures others { (none : T) → (other : ℕ) → other ≢ name → number_in none self.new.pages.items other ≡ number_in none self.old.pages.items other }
+        ensures room { rooms self.new.pages.items ≡ rooms self.old.pages.items }
+        ensures directory { vec_capacity self.new.pages ≡ vec_capacity self.old.pages }
+    {
+        let number = name as usize / PAGE;
+        if number >= self.pages.len() {
+            return false;
+        }
+        let index = name as usize % PAGE;
+        if index >= self.pages[number].len() {
+            return false;
+        }
+        self.pages[number][index] = value;
+        true
+    }
+
+    /// Makes the page of a name, if it isn't there and the table then has room for no more names than the most; says whether it
+    /// did. No number changes.
+    ///
+    /// # Errors
+    ///
+    /// `NoMemory`.
+    pub fn make_page(&mut self, name: u64, most: usize, none: T) -> Result<bool, NoMemory>
+        ensures same { (other : ℕ) → number_in none self.new.pages.items other ≡ number_in none self.old.pages.items other }
+        ensures room { rooms self.new.pages.items ≤ max (rooms self.old.pages.items) most }
+        ensures directory { vec_capacity self.new.pages ≤ max (vec_capacity self.old.pages) (max 4096 (most / 256)) }
+    {
+        let number = name as usize / PAGE;
+        let pages = PAGES.max(most / NAMES_FOR_A_PAGE);
+        if number >= pages || self.made >= most / PAGE || self.has(number) {
+            return Ok(false);
+        }
+        let Ok(()) = add_pages(&mut self.pages, self.alloc, number, pages) else {
+            return Err(NoMemory);
+        };
+        let Ok(()) = open(&mut self.pages, number, none) else {
+            return Err(NoMemory);
+        };
+        self.made += 1;
+        Ok(true)
+    }
+
+    /// Whether the page of this number is there.
+    fn has(&self, number: usize) -> bool {
+        number < self.pages.len() && self.pages[number].len() > 0
+    }
+}
+
+impl<T: Copy + Drop + PartialEq> Pages<T> {
+    /// The first name from this one on that has a number, and its number.
+    pub fn next_from(&self, from: u64, none: T) -> Option<(u64, T)> {
+        let mut index = from as usize % PAGE;
+        for number in from as usize / PAGE..self.pages.len() {
+            if let Some((found, value)) = next_in(&self.pages[number], index, none) {
+                let first = (number as u64).checked_mul(PAGE as u64)?;
+                return Some((first.checked_add(found as u64)?, value));
+            }
+            index = 0;
+        }
+        None
+    }
+}
+
+/// The first index from this one on at which another number stands, and that number.
+fn next_in<T: Copy + PartialEq>(page: &[T], from: usize, none: T) -> Option<(usize, T)> {
+    for index in from..page.len() {
+        if page[index] != none {
+            return Some((index, page[index]));
+        }
+    }
+    None
+}
+
+/// Adds pages that aren't there yet until there is one of this number, and further ones, so that a list grows twofold.
+fn add_pages<T: Drop>(
+    pages: &mut Vec<Vec<T>>,
+    alloc: Global,
+    number: usize,
+    most: usize,
+) -> Result<(), NoMemory>
+    requires { number < most }
+    ensures reached { OnOk result (number < length pages.new.items) }
+    ensures same { (none : T) → (other : ℕ) → number_in none pages.new.items other ≡ number_in none pages.old.items other }
+    ensures room { rooms pages.new.items ≡ rooms pages.old.items }
+    ensures directory { vec_capacity pages.new ≤ max (vec_capacity pages.old) most }
+{
+    if number < pages.len() {
+        return Ok(());
+    }
+    let more = wider_count(pages.len(), number, most) - pages.len();
+    let Ok(()) = pages.reserve_exact(more) else {
+        return Err(NoMemory);
+    };
+    add_closed(pages, alloc, more);
+    Ok(())
+}
+
+/// Adds so many pages that aren't there yet, for which there is room.
+fn add_closed<T: Drop>(pages: &mut Vec<Vec<T>>, alloc: Global, more: usize)
+    requires { vec_len pages.old + more ≤ vec_capacity pages.old }
+    ensures count { vec_len pages.new ≡ vec_len pages.old + more }
+    ensures same { (none : T) → (other : ℕ) → number_in none pages.new.items other ≡ number_in none pages.old.items other }
+    ensures room { rooms pages.new.items ≡ rooms pages.old.items }
+    ensures directory { vec_capacity pages.new ≡ vec_capacity pages.old }
+{
+    for _ in 0..more {
+        pages.push_reserved(Vec::new(alloc));
+    }
+}
+
+/// Makes a page. No number changes.
+fn open<T: Copy>(pages: &mut Vec<Vec<T>>, number: usize, none: T) -> Result<(), NoMemory>
+    requires { number < length pages.old.items }
+    ensures same { (other : ℕ) → number_in none pages.new.items other ≡ number_in none pages.old.items other }
+    ensures room { rooms pages.new.items ≤ rooms pages.old.items + 4096 }
+    ensures err { OnErr result (rooms pages.new.items ≡ rooms pages.old.items) }
+    ensures directory { vec_capacity pages.new ≡ vec_capacity pages.old }
+{
+    reach(&mut pages[number], PAGE - 1, PAGE, none)
+}
