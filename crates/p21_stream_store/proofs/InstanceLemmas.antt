@@ -130,10 +130,6 @@ kept-size [] lines e = refl
 kept-size (a ∷ names) [] e = absurd (omega (arith, e))
 kept-size (a ∷ names) (b ∷ lines) e = let rest = kept-size names lines (omega (arith, e)) in omega (arith, rest)
 
--- what is read at a position of the list, where 0 means no number
-pub read_or_zero : (xs : List ℕ) (i n : ℕ) → i < length xs → n ≡ unwrap_or (slice_get xs i) 0 → slice_get xs i ≡ Some n
-read_or_zero xs i n within e = slice_get-get_or xs i 0 within ∙ ap Some (sym (e ∙ unwrap_or-slice_get xs i 0))
-
 module _ (rising late : List ℕ) (texts_of_rising texts_of_late : List (ℕ × List ℕ)) (all : List StoredInstance) (all_are : stored_instances rising texts_of_rising ++ stored_instances late texts_of_late ≡ all) where
   pub all_size : length rising ≡ length texts_of_rising → length late ≡ length texts_of_late → length all ≡ length rising + length late
   all_size e f =

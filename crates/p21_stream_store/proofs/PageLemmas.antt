@@ -3,7 +3,7 @@ use Rattle.std.proofs.Common.{◌≡◌, ◌≢◌, ◌+◌, ◌/◌, ◌%◌, �
 use Rattle.std.proofs.lemmas.Bool.Decides.{eqb_tells}
 use Rattle.std.proofs.lemmas.List.{get_or-set_other, get_or-set_same, get_or_default, get_or_past}
 use Rattle.std.specs.declared.alloc.Global.{Global}
-use Rattle.p21_stream_store.specs.Pages.{number_in, page_at, rooms}
+use Rattle.p21_stream_store.specs.Pages.{most_names, number_in, page_at, rooms}
 use Rattle.p21_stream_store.specs.Tables.{GrowsWithin, KeepsRoom}
 use Rattle.p21_stream_store.specs.declared.pages.Pages.{Pages}
 
@@ -95,8 +95,8 @@ number_closed none pages page name empty = ap (λ (xs : List _). slice_index_or 
 
 -- ---- the room of a table
 
-pub within_more : {X : Type 0} (most more : ℕ) (old new : Pages X) → GrowsWithin most old new → most ≤ more → GrowsWithin more old new
-within_more most more old new (room, directory) less = (omega (arith, room, less), omega (arith, directory, less))
+pub within_more : {X : Type 0} (count more : ℕ) (old new : Pages X) → GrowsWithin (most_names count) old new → count ≤ more → GrowsWithin (most_names more) old new
+within_more count more old new (room, directory) less = (omega (arith, room, less), omega (arith, directory, less))
 
 pub within_kept : {X : Type 0} (most : ℕ) (old new last : Pages X) → GrowsWithin most old new → KeepsRoom new last → GrowsWithin most old last
 within_kept most old new last (room, directory) (same, also) = (omega (arith, room, same), omega (arith, directory, also))

@@ -1,5 +1,5 @@
 -- Numbers of names, in pages of 4,096 names.
-use Rattle.std.specs.Prelude.{◌+◌, ◌/◌, ◌%◌, ℕ, List, [], ◌∷◌, None, Some, Vec, slice_get, slice_index_or, vec_capacity}
+use Rattle.std.specs.Prelude.{◌+◌, ◌*◌, ◌/◌, ◌%◌, ℕ, List, [], ◌∷◌, None, Some, Vec, max, slice_get, slice_index_or, vec_capacity}
 use Rattle.std.specs.declared.alloc.Global.{Global}
 
 -- what stands in a page
@@ -14,3 +14,7 @@ number_in none pages name = slice_index_or (page_at pages (name / 4096)) (name %
 abbrev pub rooms : {X : Type 0} → List (Vec X Global) → ℕ
 rooms [] = 0
 rooms (page ∷ pages) = vec_capacity page + rooms pages
+
+-- a table that has so many names may have room for so many
+abbrev pub most_names : ℕ → ℕ
+most_names count = max 262144 (12 * count)

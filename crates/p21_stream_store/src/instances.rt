@@ -57,16 +57,8 @@ impl Instances {
         self.lines.len()
     }
 
-    /// The name, the number of the membership and the canonical text of the instance at a position. The positions are counted
-    /// in the order of coming where all names rose; else those with names that came late stand behind the others.
-    pub fn get(&self, place: usize) -> (u64, usize, &[u8])
-        requires { place < length self.now }
-        ensures { slice_get self.now place ≡ Some (stored_instance result.0 (result.1, result.2.now)) }
-    {
-        self.lines.get(place)
-    }
-
-    /// The number of the membership of the instance at a position.
+    /// The number of the membership of the instance at a position. The positions are counted in the order of coming where all
+    /// names rose; else those with names that came late stand behind the others.
     pub fn membership_at(&self, place: usize) -> usize
         requires { place < length self.now }
         ensures { (found : StoredInstance) × (slice_get self.now place ≡ Some found) × (found.membership ≡ result) }
@@ -74,7 +66,7 @@ impl Instances {
         self.lines.membership_at(place)
     }
 
-    /// The canonical text of the instance at a position, without a look at its name and its membership.
+    /// The canonical text of the instance at a position.
     pub fn text(&self, place: usize) -> &[u8]
         requires { place < length self.now }
         ensures { (found : StoredInstance) × (slice_get self.now place ≡ Some found) × (found.text ≡ result.now) }

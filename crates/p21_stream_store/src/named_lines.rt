@@ -79,22 +79,8 @@ impl NamedLines {
         self.rising.count() + self.late.len()
     }
 
-    /// The name, the number of the membership and the canonical text of the instance at a position. The positions are counted
-    /// in the order of coming where all names rose; else those with names that came late stand behind the others.
-    pub fn get(&self, place: usize) -> (u64, usize, &[u8])
-        requires { place < length self.now }
-        ensures { slice_get self.now place ≡ Some (stored_instance result.0 (result.1, result.2.now)) }
-    {
-        let first = self.texts_of_rising.len();
-        if place < first {
-            let (membership, text) = self.texts_of_rising.get(place);
-            return (self.rising.get(place) as u64, membership, text);
-        }
-        let (membership, text) = self.texts_of_late.get(place - first);
-        (self.late.get(place - first).unwrap_or(0), membership, text)
-    }
-
-    /// The number of the membership of the instance at a position.
+    /// The number of the membership of the instance at a position. The positions are counted in the order of coming where all
+    /// names rose; else those with names that came late stand behind the others.
     pub fn membership_at(&self, place: usize) -> usize
         requires { place < length self.now }
         ensures { (found : StoredInstance) × (slice_get self.now place ≡ Some found) × (found.membership ≡ result) }

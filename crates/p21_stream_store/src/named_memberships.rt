@@ -1,5 +1,6 @@
 //! Memberships of instances by name, where no lines are kept.
 ghost use Rattle.std.specs.Prelude.{◌≡◌, ◌≤◌, ◌+◌, ◌*◌, ℕ, List, [], ◌∷◌, length, Contains, IfOk, IfSome, IsNone, IsPermutation, MatchBool, OnErr, OnOk, Some};
+ghost use Rattle.p21_stream_store.specs.Pages.{most_names};
 ghost use Rattle.p21_stream_store.specs.Positions.{Changes, IsSame, position_marked};
 ghost use Rattle.p21_stream_store.specs.StoredInstance.{StoredInstance, instance_names};
 ghost use Rattle.p21_stream_store.specs.Tables.{GrowsWithin};
@@ -106,7 +107,7 @@ fn count_noted(
     ensures noted { IfOk result (λ done. MatchBool done (Changes (position_marked noted.old) name (Some membership) (position_marked noted.new)) (IsSame (position_marked noted.old) (position_marked noted.new))) }
     ensures count { IfOk result (λ done. MatchBool done (count.new ≡ count.old + 1) (count.new ≡ count.old)) }
     ensures err { OnErr result (IsSame (position_marked noted.old) (position_marked noted.new) × (count.new ≡ count.old)) }
-    ensures room { (most : ℕ) → 262144 ≤ most → 16 * all ≤ most → GrowsWithin most noted.old noted.new }
+    ensures room { GrowsWithin (most_names all) noted.old noted.new }
 {
     if *count == u32::MAX {
         return Ok(false);

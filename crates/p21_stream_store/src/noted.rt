@@ -1,5 +1,6 @@
 //! The memberships of small names, a byte for each name, so that most references take one look.
 ghost use Rattle.std.specs.Prelude.{◌≡◌, ◌≤◌, ◌*◌, ℕ, IfOk, MatchBool, OnErr, Some};
+ghost use Rattle.p21_stream_store.specs.Pages.{most_names};
 ghost use Rattle.p21_stream_store.specs.Positions.{Changes, IsSame, position_marked};
 ghost use Rattle.p21_stream_store.specs.Tables.{GrowsWithin, KeepsRoom};
 
@@ -8,11 +9,6 @@ use p21_values::NoMemory;
 
 /// Memberships with numbers below this are noted.
 const NOTED_MEMBERSHIPS: usize = 255;
-
-/// There is room to note the memberships of so many names, however few have come.
-const ROOM: usize = 262_144;
-/// For each name that has come there is room for so many, where these are more.
-const ROOM_FOR_EACH: usize = 16;
 
 /// The number of the membership that is noted of a name.
 #[inline]
@@ -40,7 +36,7 @@ pub fn note(
 ) -> Result<bool, NoMemory>
     ensures ok { IfOk result (λ done. MatchBool done (Changes (position_marked noted.old) name (Some membership) (position_marked noted.new)) (IsSame (position_marked noted.old) (position_marked noted.new))) }
     ensures err { OnErr result (IsSame (position_marked noted.old) (position_marked noted.new)) }
-    ensures room { (most : ℕ) → 262144 ≤ most → 16 * count ≤ most → GrowsWithin most noted.old noted.new }
+    ensures room { GrowsWithin (most_names count) noted.old noted.new }
 {
     if note_membership(noted, name, membership) {
         return Ok(true);
@@ -58,10 +54,9 @@ fn note_in_new_page(
 ) -> Result<bool, NoMemory>
     ensures ok { IfOk result (λ done. MatchBool done (Changes (position_marked noted.old) name (Some membership) (position_marked noted.new)) (IsSame (position_marked noted.old) (position_marked noted.new))) }
     ensures err { OnErr result (IsSame (position_marked noted.old) (position_marked noted.new)) }
-    ensures room { (most : ℕ) → 262144 ≤ most → 16 * count ≤ most → GrowsWithin most noted.old noted.new }
+    ensures room { GrowsWithin (most_names count) noted.old noted.new }
 {
-    let most = ROOM.max(count.saturating_mul(ROOM_FOR_EACH));
-    let Ok(_) = noted.make_page(name, most, 0) else {
+    let Ok(_) = noted.make_page(name, count, 0) else {
         return Err(NoMemory);
     };
     Ok(note_membership(noted, name, membership))

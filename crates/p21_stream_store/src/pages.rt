@@ -1,6 +1,6 @@
 //! Tables from names to numbers, by pages.
 ghost use Rattle.std.specs.Prelude.{◌≡◌, ◌≢◌, ◌+◌, ◌*◌, ◌/◌, ◌<◌, ◌≤◌, ℕ, false, length, max, vec_capacity, vec_len, MatchBool, OnErr, OnOk};
-ghost use Rattle.p21_stream_store.specs.Pages.{number_in, rooms};
+ghost use Rattle.p21_stream_store.specs.Pages.{most_names, number_in, rooms};
 
 use crate::room::{reach, wider_count};
 use p21_values::NoMemory;
@@ -8,7 +8,11 @@ use std::alloc::Global;
 
 /// So many names stand in a page.
 const PAGE: usize = 4_096;
-/// A table leads to so many pages, however few names have come.
+/// A table may have room for so many names, however few it has.
+const ROOM: usize = 262_144;
+/// For each name that it has it may have room for so many, where these are more.
+const ROOM_FOR_EACH: usize = 12;
+/// A table leads to so many pages, however few names it has.
 const PAGES: usize = 4_096;
 /// For so many names that a table may have room for it leads to a page more, where these are more.
 const NAMES_FOR_A_PAGE: usize = 256;
@@ -74,17 +78,18 @@ impl<T: Copy + Drop> Pages<T> {
         true
     }
 
-    /// Makes the page of a name, if it isn't there and the table then has room for no more names than the most; says whether it
-    /// did. No number changes.
+    /// Makes the page of a name, if it isn't there and there may be one more in a table of so many names; says whether it did. No
+    /// number changes.
     ///
     /// # Errors
     ///
     /// `NoMemory`.
-    pub fn make_page(&mut self, name: u64, most: usize, none: T) -> Result<bool, NoMemory>
+    pub fn make_page(&mut self, name: u64, count: usize, none: T) -> Result<bool, NoMemory>
         ensures same { (other : ℕ) → number_in none self.new.pages.items other ≡ number_in none self.old.pages.items other }
-        ensures room { rooms self.new.pages.items ≤ max (rooms self.old.pages.items) most }
-        ensures directory { vec_capacity self.new.pages ≤ max (vec_capacity self.old.pages) (max 4096 (most / 256)) }
+        ensures room { rooms self.new.pages.items ≤ max (rooms self.old.pages.items) (most_names count) }
+        ensures directory { vec_capacity self.new.pages ≤ max (vec_capacity self.old.pages) (max 4096 (most_names count / 256)) }
     {
+        let most = ROOM.max(count.saturating_mul(ROOM_FOR_EACH));
         let number = name as usize / PAGE;
         let pages = PAGES.max(most / NAMES_FOR_A_PAGE);
         if number >= pages || self.made >= most / PAGE || self.has(number) {
