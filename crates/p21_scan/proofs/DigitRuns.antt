@@ -1,7 +1,7 @@
 -- Digits one by one.
 use Rattle.std.proofs.Common.{◌≡◌, ◌≢◌, ℕ, zero, suc, ◌+◌, ◌-◌, ◌*◌, ◌^◌, ◌%◌, ◌<◌, ◌≤◌, List, [], ◌∷◌, ◌++◌, length, take, drop, get_or, inl, inr, ap, sym, subst, ◌∙◌, arith}
 use Rattle.std.proofs.lemmas.Bool.{cases_lt}
-use Rattle.std.proofs.lemmas.List.{take_more, take-append-drop}
+use Rattle.std.proofs.lemmas.List.{length-take-le, take_more, take-append-drop}
 use Rattle.std.proofs.Math.Nat.{mul_assoc, mul-le-mul_left, one-le-pow, pow-le-pow_right, pow-succ'}
 use Rattle.p21_spec_basics.specs.Digits.{AllDigits, IsDigit, number}
 use Rattle.p21_scan.specs.Digits.{HasNoLeadingZero}
@@ -24,6 +24,12 @@ digit_at (c ∷ xs) (suc i) p h = digit_at xs i p.1 (omega arith)
 pub digits_parts : (a b : List ℕ) → AllDigits (a ++ b) → AllDigits a × AllDigits b
 digits_parts [] b p = (tt, p)
 digits_parts (x ∷ a) b p = let r = digits_parts a b p.1 in ((p.0, r.0), r.1)
+
+-- digits at the front are below the power of ten of their count
+pub front-below : (xs : List ℕ) (i : ℕ) → AllDigits xs → i ≤ length xs → number (take i xs) < 10 ^ i
+front-below xs i all within =
+    let parts = digits_parts (take i xs) (drop i xs) (subst AllDigits (sym (take-append-drop i xs)) all) in
+    subst (λ (n : ℕ). number (take i xs) < 10 ^ n) (length-take-le i xs within) (number_below (take i xs) parts.0)
 
 -- further digits make no number smaller
 pub number_take : (i : ℕ) (xs : List ℕ) → number (take i xs) ≤ number xs

@@ -1,4 +1,4 @@
-ghost use Rattle.std.specs.Prelude.{◌≡◌, ℕ, ◌^◌, ◌<◌, ◌≤◌, Bool, List, ◌∷◌, ◌++◌, length, IfNone, IfSome};
+ghost use Rattle.std.specs.Prelude.{◌≡◌, ℕ, ◌^◌, ◌<◌, ◌≤◌, ◌+◌, Bool, List, ◌∷◌, ◌++◌, length, take, IfNone, IfSome};
 ghost use Rattle.p21_spec_basics.specs.Digits.{AllDigits, number};
 ghost use Rattle.p21_spec_exchange.specs.Number.{is_minus};
 ghost use Rattle.p21_spec_exchange.proofs.Forms.{NoDigitFirst, behind_sign, first_sign};
@@ -69,19 +69,70 @@ pub fn behind(first: u8, bytes: &[u8]) -> Option<&[u8]>
     if *byte == first { Some(rest) } else { None }
 }
 
-/// The number that at most 18 digits stand for.
+/// The number that at most 18 digits stand for. Those of most names are taken without a loop.
 #[inline(always)]
 pub fn number_of(digits: &[u8]) -> u64
     requires are_digits { AllDigits digits.now }
     requires short { length digits.now ≤ 18 }
     ensures { result ≡ number digits.now }
 {
+    let count = digits.len();
+    if count < 4 || count > 7 {
+        return number_in_turn(digits);
+    }
+    let four = number_of_four(digits);
+    if count == 4 {
+        return four;
+    }
+    let five = with_digit(four, digits, 4);
+    if count == 5 {
+        return five;
+    }
+    let six = with_digit(five, digits, 5);
+    if count == 6 {
+        return six;
+    }
+    with_digit(six, digits, 6)
+}
+
+/// The same, digit by digit.
+#[inline(never)]
+fn number_in_turn(digits: &[u8]) -> u64
+    requires are_digits { AllDigits digits.now }
+    requires short { length digits.now ≤ 18 }
+    ensures { result ≡ number digits.now }
+{
     let mut value = 0u64;
-    for digit in digits {
-        let code = u64::from(*digit);
-        value = value * 10 + (code - u64::from(b'0'));
+    for at in 0..digits.len() {
+        value = with_digit(value, digits, at);
     }
     value
+}
+
+/// The number that the first four digits stand for.
+#[inline(always)]
+fn number_of_four(digits: &[u8]) -> u64
+    requires are_digits { AllDigits digits.now }
+    requires within { 4 ≤ length digits.now }
+    ensures { result ≡ number (take 4 digits.now) }
+{
+    let one = with_digit(0, digits, 0);
+    let two = with_digit(one, digits, 1);
+    let three = with_digit(two, digits, 2);
+    with_digit(three, digits, 3)
+}
+
+/// The number that the digits up to this one stand for, by that of those before it.
+#[inline(always)]
+fn with_digit(front: u64, digits: &[u8], at: usize) -> u64
+    requires are_digits { AllDigits digits.now }
+    requires within { at < length digits.now }
+    requires short { at < 18 }
+    requires front { front ≡ number (take at digits.now) }
+    ensures { result ≡ number (take (at + 1) digits.now) }
+{
+    let code = u64::from(digits[at]);
+    front * 10 + (code - u64::from(b'0'))
 }
 
 /// The number that at most nine digits stand for.
