@@ -33,10 +33,28 @@ pub fn append_real(bytes: &[u8], wholes: bool, draft: &mut Draft) -> Option<usiz
 {
     let (negative, unsigned) = split_sign(bytes);
     if let Some(places) = near_places(unsigned) {
-        let rest = append_near(negative, unsigned, &places, draft)?;
-        return Some(bytes.len() - rest.len());
+        let behind = &unsigned[places.end..];
+        if begins_exponent(behind) {
+            return append_exponential(bytes, wholes, draft);
+        }
+        if !append_placed(negative, unsigned, &places, 0, draft) {
+            return None;
+        }
+        return Some(bytes.len() - behind.len());
     }
     append_far(bytes, wholes, draft)
+}
+
+/// The same for a real with an exponent. It finds the places anew, so that those of other reals don't lie in memory.
+#[inline(never)]
+fn append_exponential(bytes: &[u8], wholes: bool, draft: &mut Draft) -> Option<usize>
+    ensures some { IfSome result (λ count. TranscribesNumber wholes bytes.now count draft.old draft.new) }
+    ensures none { IfNone result (Continues draft.old draft.new) }
+{
+    let (negative, unsigned) = split_sign(bytes);
+    let places = near_places(unsigned)?;
+    let rest = append_near(negative, unsigned, &places, draft)?;
+    Some(bytes.len() - rest.len())
 }
 
 /// The same for a real of more digits, at the end of a piece, and for a whole number.
