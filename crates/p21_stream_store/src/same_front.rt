@@ -17,9 +17,23 @@ pub(crate) fn are_same(entities: &[EntityId], others: &[EntityId]) -> bool
         return false;
     }
     if entities.len() < ROW {
-        return are_equal(entities, others);
+        return are_few_same(entities, others);
     }
     are_same_by_rows(entities, others)
+}
+
+/// The same of lists that are equally long, one by one.
+#[inline(always)]
+fn are_few_same(entities: &[EntityId], others: &[EntityId]) -> bool
+    requires { length entities.now ≡ length others.now }
+    ensures { IsTrue result → entities.now ≡ others.now }
+{
+    for at in 0..entities.len() {
+        if entities[at].0 != others[at].0 {
+            return false;
+        }
+    }
+    true
 }
 
 /// The same, row by row.
