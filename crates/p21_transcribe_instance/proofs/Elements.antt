@@ -223,7 +223,7 @@ elements-held s type optional base most number start inside behind lengths longe
     let texts = value_texts s h.values in
     (texts, ((closed-behind start old.draft (middle.draft ++ 41 ∷ []) texts at (closed-text s old.draft marked middle.draft h.values opens h.text_is)).0, h.lengths_are compared ∙ ap (λ (x : List ℕ). x ++ lengths_of texts) none))
 
-unique-compares_elements : (t : TypeUse) → IsUnique t → compares_elements t ≡ true
+pub unique-compares_elements : (t : TypeUse) → IsUnique t → compares_elements t ≡ true
 unique-compares_elements (schema.array low high may_be unique x) u = u
 unique-compares_elements (schema.list low high unique x) u = u
 unique-compares_elements (schema.set low high x) u = refl

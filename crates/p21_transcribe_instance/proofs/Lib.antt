@@ -9,6 +9,7 @@ pub mod Scalars
 pub mod Typed
 pub mod Values
 pub mod Joining
+pub mod KeywordRows
 pub mod Keywords
 pub mod LaidRuns
 pub mod Meaning

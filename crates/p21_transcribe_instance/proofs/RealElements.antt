@@ -1,22 +1,27 @@
 -- Reals that are taken one behind the other.
-use Rattle.std.proofs.Common.{◌≡◌, ◌∙◌, ℕ, ◌+◌, Bool, false, List, [], ◌∷◌, ◌++◌, drop, refl, ap, sym, subst, Option, Some, None, IfNone, IfSome}
+use Rattle.std.proofs.Common.{◌≡◌, ◌∙◌, ◌<◌, ℕ, ◌+◌, ◌-◌, Bool, false, List, [], ◌∷◌, ◌++◌, drop, length, take, refl, ap, sym, subst, Option, Some, None, IfNone, IfSome, arith}
+use Rattle.std.proofs.lemmas.List.{take-append-drop}
 use Rattle.p21_spec_laws.specs.Needs.{FitsWithNeeds}
 use Rattle.p21_spec_exchange.specs.Spelling.{spelling}
 use Rattle.p21_spec_exchange.specs.Token as token
-use Rattle.p21_express_tables.specs.Base.{IsBase}
+use Rattle.p21_express_tables.specs.Base.{HasBase, IsBase}
+use Rattle.p21_spec_file.specs.ParameterKind.{AllowsCount}
+use Rattle.p21_spec_file.specs.ValueText.{list_text}
 use Rattle.p21_express_tables.specs.declared.base.Base.{Base}
 use Rattle.p21_express_tables.specs.declared.base.Base.TheVariants.{Items, Plain, Select}
 use Rattle.p21_express_graph.specs.Meaning.{type_use}
 use Rattle.p21_spec_schema.specs.Schema as schema
 use Rattle.p21_spec_schema.specs.Schema.{Schema, TypeUse}
+use Rattle.p21_spec_schema.specs.WellFormed.{HasDistinctTypes}
 use Rattle.p21_transcribe.specs.Gaps.{PassesSeparators}
 use Rattle.p21_transcribe.specs.Numbers.{TranscribesNumber, a_real, a_whole}
-use Rattle.p21_transcribe_instance.proofs.Elements.{Along, along-ends, along-first, along-next, no-elements}
-use Rattle.p21_transcribe_instance.proofs.Values.{needs-nothing, no-deeper, scalar-value, stored-taken}
-use Rattle.p21_transcribe_instance.specs.Elements.{TakesAll, TakesElements}
-use Rattle.p21_transcribe_instance.specs.Reals.{IsRealBase, TakesReal, TakesReals}
+use Rattle.p21_transcribe_instance.proofs.Elements.{Along, aggregate-taken, along-ends, along-first, along-next, compared-as, no-elements, unique-compares_elements}
+use Rattle.p21_transcribe_instance.proofs.Values.{taken-front, needs-nothing, no-deeper, scalar-value, stored-taken}
+use Rattle.p21_transcribe_instance.specs.ArrangedElements.{ClosesAggregate, arranged_elements, compares_elements}
+use Rattle.p21_transcribe_instance.specs.Elements.{IsAggregateOf}
+use Rattle.p21_transcribe_instance.specs.Reals.{IsRealBase, TakesReal, TakesRealAggregate, TakesReals}
 use Rattle.p21_transcribe_instance.specs.declared.taken.Taken.{Taken}
-use Rattle.p21_transcribe_instance.specs.TakenValues.{PassesDelimiter, TakesScalar, TakesWithNeeds, with_text}
+use Rattle.p21_transcribe_instance.specs.TakenValues.{PassesDelimiter, TakesFront, TakesScalar, TakesWithNeeds, with_text}
 use Rattle.p21_values.specs.Canonical.{Continues}
 
 -- ---- one real
@@ -57,10 +62,17 @@ pub reals-first : (bytes inside behind old text : List ℕ) → PassesSeparators
 reals-first bytes inside behind old text passes takes s base most lengths taken is =
     along-first s base false false most bytes lengths (with_text old taken) inside behind lengths (with_text text taken) passes (takes s base most taken is) (λ e. absurd cc)
 
-pub reals-next : (bytes old : List ℕ) (number : ℕ) (behind next inside later text marked more : List ℕ) → AlongReals bytes old number behind text
-    → PassesDelimiter 44 behind next → marked ≡ text ++ 44 ∷ []
-    → PassesSeparators next inside → TakesReal inside later marked more → AlongReals bytes old (number + 1) later more
-reals-next bytes old number behind next inside later text marked more so_far comma marks passes takes s base most lengths taken is =
+-- whatever real comes there makes one more of them
+abbrev pub AheadOfReal : List ℕ → List ℕ → ℕ → List ℕ → List ℕ → Type 0
+AheadOfReal bytes old number front text =
+    (inside behind more : List ℕ) → PassesSeparators front inside → TakesReal inside behind text more → AlongReals bytes old (number + 1) behind more
+
+pub reals-ahead : (bytes old : List ℕ) → AheadOfReal bytes old 0 bytes old
+reals-ahead bytes old inside behind more passes takes = reals-first bytes inside behind old more passes takes
+
+pub reals-next : (bytes old : List ℕ) (number : ℕ) (behind next text marked : List ℕ) → AlongReals bytes old number behind text → PassesDelimiter 44 behind next → marked ≡ text ++ 44 ∷ []
+    → AheadOfReal bytes old number next marked
+reals-next bytes old number behind next text marked so_far comma marks inside later more passes takes s base most lengths taken is =
     along-next s base false false most bytes lengths (with_text old taken) number behind next inside later marked lengths lengths (with_text text taken) (with_text more taken) (so_far s base most lengths taken is) comma marks passes
     (takes s base most taken is) (λ e. absurd cc)
 
@@ -68,11 +80,42 @@ pub reals-end : (bytes old : List ℕ) (number : ℕ) (behind text : List ℕ) �
 reals-end bytes old number behind text so_far s base most lengths taken is type has =
     along-ends s base false false most bytes lengths (with_text old taken) number behind lengths (with_text text taken) (so_far s base most lengths taken is) type has
 
--- ---- the elements of an aggregate
+-- ---- an aggregate of reals
 
-pub reals-at : (s : Schema) (base : Base) (optional compared : Bool) (most number : ℕ) (bytes rest lengths : List ℕ) (old : Taken) (new : List ℕ)
-    → (compared ≡ false) × (optional ≡ false) × IsRealBase base
-    → TakesReals number bytes rest old.draft new → TakesAll s optional base compared most number bytes rest lengths lengths old (with_text new old)
-reals-at s base optional compared most number bytes rest lengths old new (plain, full, is) takes element has =
-    subst (λ (b : Bool). TakesElements s optional element b most number bytes rest lengths lengths old (with_text new old)) (sym plain)
-    (subst (λ (b : Bool). TakesElements s b element false most number bytes rest lengths lengths old (with_text new old)) (sym full) (takes s base most lengths old is element has))
+-- elements that aren't compared stay as they are
+as-they-are : (type : TypeUse) → compares_elements type ≡ false → (texts : List (List ℕ)) → arranged_elements type texts ≡ texts
+as-they-are schema.whole plain texts = refl
+as-they-are schema.real plain texts = refl
+as-they-are schema.number plain texts = refl
+as-they-are schema.boolean plain texts = refl
+as-they-are schema.logical plain texts = refl
+as-they-are (schema.text width) plain texts = refl
+as-they-are (schema.bits width) plain texts = refl
+as-they-are (schema.entity e) plain texts = refl
+as-they-are (schema.defined t) plain texts = refl
+as-they-are (schema.array low high optional unique type) plain texts = refl
+as-they-are (schema.list low high unique type) plain texts = refl
+as-they-are (schema.set low high type) plain texts = cc
+as-they-are (schema.bag low high type) plain texts = cc
+
+closes-as_is : (type : TypeUse) (start : ℕ) (closed : List ℕ) → compares_elements type ≡ false → ClosesAggregate type start closed [] closed
+closes-as_is type start closed plain texts is long = record {
+  text_is = sym (take-append-drop start closed) ∙ ap (λ (x : List ℕ). take start closed ++ x) (is ∙ ap list_text (sym (as-they-are type plain texts)));
+  differ = λ unique. (let compares = unique-compares_elements type unique in cc);
+}
+
+pub reals-enclosed : (type : TypeUse) (number : ℕ) (bytes inside behind rest old marked middle new : List ℕ) → compares_elements type ≡ false → AllowsCount type number → bytes ≡ 40 ∷ inside → marked ≡ old ++ 40 ∷ []
+    → TakesReals number inside behind marked middle → PassesDelimiter 41 behind rest → new ≡ middle ++ 41 ∷ [] → TakesRealAggregate type bytes (length bytes - length rest) old new
+reals-enclosed type number bytes inside behind rest old marked middle new plain allowed opening opens takes closing closes s element base most taken distinct is has real =
+    taken-front s (FitsWithNeeds s type) (most + 1) bytes rest (with_text old taken) (with_text new taken)
+    (aggregate-taken s type false base most number (length old) bytes inside behind rest [] [] (with_text old taken) marked (with_text middle taken) new distinct allowed opening refl opens refl
+    (compared-as s type false false base most number inside behind [] [] (with_text marked taken) (with_text middle taken) (sym plain) (takes s base most [] taken real))
+    (closing, subst (λ (l : List ℕ). ClosesAggregate type (length old) (middle ++ 41 ∷ []) [] l) (sym closes) (closes-as_is type (length old) (middle ++ 41 ∷ []) plain)) element is has)
+
+-- at a place of an aggregate whose elements may not be left out
+pub reals-at : (s : Schema) (type element : TypeUse) (base : Base) (optional : Bool) (most : ℕ) (bytes : List ℕ) (count : ℕ) (taken : Taken) (new : List ℕ) → HasDistinctTypes s → IsAggregateOf type optional element → HasBase s element base
+    → optional ≡ false → IsRealBase base → 0 < most → TakesRealAggregate type bytes count taken.draft new → TakesFront s (FitsWithNeeds s type) most bytes count taken (with_text new taken)
+reals-at s type element base optional most bytes count taken new distinct is has full real deep takes =
+    let same : most - 1 + 1 ≡ most = omega (arith, deep) in
+    subst (λ (k : ℕ). TakesFront s (FitsWithNeeds s type) k bytes count taken (with_text new taken)) same
+    (takes s element base (most - 1) taken distinct (subst (λ (b : Bool). IsAggregateOf type b element) full is) has real)

@@ -58,3 +58,7 @@ TakesStoredEach at compared = TakesAll at.schema.now at.optional at.base.now com
 abbrev pub TakesAggregate : Stored → TypeUse → List ℕ → List ℕ → Taken → Taken → Type 0
 TakesAggregate at type bytes rest old new =
     (element : TypeUse) → IsAggregateOf type at.optional element → HasBase at.schema.now element at.base.now → TakesWithNeeds at.schema.now (FitsWithNeeds at.schema.now type) (at.most + 1) bytes rest old new
+
+-- this may stand at the places of an aggregate of this type
+abbrev pub IsAtPlacesOf : TypeUse → Stored → Type 0
+IsAtPlacesOf type at = (element : TypeUse) × IsAggregateOf type at.optional element × HasBase at.schema.now element at.base.now

@@ -11,12 +11,12 @@ pub data PreparedStep : Type 0 where
   stored_step : Bool → TypeUse → PreparedStep
   placed_step : ℕ → Place → PreparedStep
 
--- the entities of the set, rising by name, what may stand at the attributes in the order of internal mapping, and whether the
--- name of the entity is known to be a keyword
+-- the entities of the set, rising by name, what may stand at the attributes in the order of internal mapping, and a keyword that
+-- names the entity, or no bytes
 pub record Prepared : Type 0 where
   pub entities : List ℕ
   pub steps : List PreparedStep
-  pub named_by_keyword : Bool
+  pub keyword : List ℕ
 
 -- ---- It is stored as numbers and lists, so that two can be told apart. Nothing that is claimed rests on that.
 
@@ -57,7 +57,7 @@ step_code =
 
 abbrev prepared_code : Coded Prepared
 prepared_code =
-    code_by (List ℕ × (List PreparedStep × Bool)) (coded× (coded_list coded_ℕ) (coded× (coded_list step_code) coded_bool)) (λ p. (p.entities, (p.steps, p.named_by_keyword))) (λ p. record { entities = p.0; steps = p.1.0; named_by_keyword = p.1.1 }) (λ _. refl)
+    code_by (List ℕ × (List PreparedStep × List ℕ)) (coded× (coded_list coded_ℕ) (coded× (coded_list step_code) (coded_list coded_ℕ))) (λ p. (p.entities, (p.steps, p.keyword))) (λ p. record { entities = p.0; steps = p.1.0; keyword = p.1.1 }) (λ _. refl)
 
 abbrev pub plan_code : Coded (List (Option Prepared))
 plan_code = coded_list (coded_option prepared_code)

@@ -1,6 +1,6 @@
 -- What is known of the instances of an entity, prepared.
 use Rattle.std.specs.Option.{option_map}
-use Rattle.std.specs.Prelude.{◌≡◌, ℕ, List, [], ◌∷◌, IsTrue, Option, Some, map, slice_get}
+use Rattle.std.specs.Prelude.{◌≡◌, ◌≢◌, ℕ, List, [], ◌∷◌, Option, Some, map, slice_get}
 use Rattle.p21_spec_exchange.specs.Keyword.{IsKeyword}
 use Rattle.p21_express_graph.specs.DirectRenaming.{ComesTo}
 use Rattle.p21_express_graph.specs.Orders.{numbers}
@@ -65,7 +65,7 @@ AreStepsAt s entities places steps = ArePreparedAt s entities places (map step_v
 
 -- what a row stands for
 abbrev pub row_view : Row → Prepared
-row_view row = record { entities = numbers row.entities.items; steps = map step_view row.steps.items; named_by_keyword = row.named_by_keyword }
+row_view row = record { entities = numbers row.entities.items; steps = map step_view row.steps.items; keyword = row.keyword }
 
 -- what the rows stand for, where there are some
 abbrev pub rows_view : List (Option Row) → List (Option Prepared)
@@ -77,17 +77,13 @@ pub record MayStandAlone (s : Schema) (e : ℕ) : Type 0 where
   pub decided : LeavesOpen s e → ⊥
   pub agrees : Clashes s (order s e) → ⊥
 
--- the name of the entity is a keyword
-abbrev pub IsNamedByKeyword : Schema → ℕ → Type 0
-IsNamedByKeyword s e = (word : List ℕ) × EntityNamed s e word × IsKeyword word
-
--- it may, and this is what the set is, and what stands at the attributes of such an instance in internal mapping; where the row
--- says that the name of the entity is a keyword, it is
+-- it may, and this is what the set is, and what stands at the attributes of such an instance in internal mapping; the keyword of
+-- the row, where it has one, is the name of the entity
 pub record IsRow (s : Schema) (e : ℕ) (row : Prepared) : Type 0 where
   pub may : MayStandAlone s e
   pub entities_are : IsOwnRising s e row.entities
   pub steps_are : ArePreparedAt s (order s e) (places s e) row.steps
-  pub keyword : IsTrue row.named_by_keyword → IsNamedByKeyword s e
+  pub keyword : row.keyword ≢ [] → EntityNamed s e row.keyword × IsKeyword row.keyword
 
 -- all that is prepared is right for the schema: it is that of the entities of these numbers
 abbrev pub IsPlanOf : Schema → List (Option Prepared) → Type 0

@@ -1,11 +1,12 @@
 //! The keyword of an instance of internal mapping (ISO 10303-21, mapping of EXPRESS entity data types: internal mapping).
-ghost use Rattle.std.specs.Prelude.{◌≡◌, ◌<◌, IfNone, IfSome, length, slice_index};
+ghost use Rattle.std.specs.Prelude.{◌≡◌, ◌<◌, ◌≤◌, IfNone, IfSome, length, slice_index};
 ghost use Rattle.p21_express_graph.specs.Resolved.{IsEntity};
+ghost use Rattle.p21_spec_schema.specs.Schema.{Schema as Meant};
 ghost use Rattle.p21_transcribe_instance.specs.TakenParameters.{TakesEntity, TakesOpenedEntity};
 ghost use Rattle.p21_transcribe_instance.specs.Steps.{IsPlanOf};
 ghost use Rattle.p21_values.specs.Canonical.{Continues};
 
-use crate::guess::has_name;
+use crate::keyword::ROW;
 use crate::plan::Plan;
 use crate::separated_delimiter::append_delimiter;
 use p21_express_graph::EntityId;
@@ -28,7 +29,7 @@ pub(crate) fn append_entity<'a>(
     ensures none { IfNone result (Continues draft.old draft.new) }
     ensures plan { IsPlanOf schema.now plan.new }
 {
-    match append_guessed(schema, plan, bytes, draft) {
+    match append_guessed(plan, bytes, draft) {
         Some(found) => Some(found),
         None => append_found(schema, plan, bytes, draft),
     }
@@ -37,23 +38,17 @@ pub(crate) fn append_entity<'a>(
 /// The same by a guess, where the entity is prepared, and no separator stands before the keyword or behind it.
 #[inline(always)]
 fn append_guessed<'a>(
-    schema: &Schema,
     plan: &Plan,
     bytes: &'a [u8],
     draft: &mut Draft,
 ) -> Option<(EntityId, &'a [u8])>
-    requires { IsPlanOf schema.now plan.now }
-    ensures some { IfSome result (λ found. TakesOpenedEntity schema.now found.0.0 bytes.now found.1.now draft.old draft.new) }
+    ensures some { (s : Meant) → IsPlanOf s plan.now → IfSome result (λ found. TakesOpenedEntity s found.0.0 bytes.now found.1.now draft.old draft.new) }
     ensures none { IfNone result (draft.new ≡ draft.old) }
 {
     let count = parenthesis_in(bytes)?;
-    let name = &bytes[..count];
-    let guess = plan.guess(name)?;
+    let guess = plan.guess(&bytes[..count])?;
     let row = plan.row(guess)?;
-    if !row.named_by_keyword {
-        return None;
-    }
-    if !has_name(schema, guess, name) {
+    if !row.keyword.is_front(bytes, count) {
         return None;
     }
     if !draft.append_prefix(bytes, count + 1) {
@@ -62,22 +57,20 @@ fn append_guessed<'a>(
     Some((guess, &bytes[count + 1..]))
 }
 
-/// How many bytes are searched for a `(`.
-const NEAR: usize = 32;
-
-/// Where the first `(` stands, within the bytes that are searched.
+/// Where the first `(` stands, behind a byte or more of a row.
 #[inline(always)]
 fn parenthesis_in(bytes: &[u8]) -> Option<usize>
-    ensures { IfSome result (λ count. (count < length bytes.now) × (slice_index bytes.now count ≡ 40)) }
+    ensures place { IfSome result (λ count. (0 < count) × (count < length bytes.now) × (slice_index bytes.now count ≡ 40)) }
+    ensures row { IfSome result (λ count. 32 ≤ length bytes.now) }
 {
-    if bytes.len() < NEAR {
+    if bytes.len() < ROW {
         return None;
     }
     let marks = u8x32::from_slice(bytes)
         .simd_eq(u8x32::splat(b'('))
         .to_bitmask();
     let count = marks.trailing_zeros() as usize;
-    if count >= NEAR || bytes[count] != b'(' {
+    if count == 0 || count >= ROW || bytes[count] != b'(' {
         return None;
     }
     Some(count)

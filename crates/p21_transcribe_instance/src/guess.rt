@@ -88,7 +88,7 @@ fn place_of(name: &[u8]) -> usize {
 
 /// Whether there is such an entity, of this name.
 #[inline(always)]
-pub(crate) fn has_name(schema: &Schema, entity: EntityId, name: &[u8]) -> bool
+fn has_name(schema: &Schema, entity: EntityId, name: &[u8]) -> bool
     ensures { IsTrue result → EntityNamed schema.now entity.0 name.now }
 {
     if entity.0 as usize >= schema.entities() {

@@ -16,6 +16,7 @@ mod external_set;
 mod guess;
 mod head;
 mod instance;
+mod keyword;
 mod length;
 mod order;
 mod own_parameters;

@@ -1,14 +1,17 @@
 //! Reals one behind the other, as the coordinates of a point (ISO 10303-21, mapping of EXPRESS aggregation data types).
-ghost use Rattle.std.specs.Prelude.{◌≤◌, List, ℕ, length, IfNone, IfSome, IsTrue};
+ghost use Rattle.std.specs.Prelude.{◌≡◌, ◌≤◌, List, ℕ, false, length, IfNone, IfSome, IsTrue};
+ghost use Rattle.p21_express_graph.specs.Meaning.{type_use};
 ghost use Rattle.p21_transcribe.specs.Gaps.{PassesSeparators};
 ghost use Rattle.p21_spec_schema.specs.Schema.{real};
-ghost use Rattle.p21_transcribe_instance.specs.Reals.{IsRealBase, TakesReal, TakesReals};
+ghost use Rattle.p21_transcribe_instance.specs.ArrangedElements.{compares_elements};
+ghost use Rattle.p21_transcribe_instance.specs.Reals.{IsRealBase, TakesReal, TakesRealAggregate, TakesReals};
 ghost use Rattle.p21_transcribe_instance.specs.TakenValues.{TakesScalar};
 ghost use Rattle.p21_values.specs.Canonical.{Continues};
 
-use crate::delimiter::append_next_delimiter;
+use crate::delimiter::{append_delimiter, append_next_delimiter};
 use p21_express_graph::TypeUse;
 use p21_express_tables::Base;
+use p21_mapping::allows_count;
 use p21_transcribe::{Draft, append_real, behind_separators};
 
 /// Whether a type comes down to REAL.
@@ -22,22 +25,42 @@ pub(crate) fn is_real(base: &Base<'_>) -> bool
     }
 }
 
+/// An aggregate of reals that aren't compared, in parentheses: how many bytes it has.
+#[inline(never)]
+pub(crate) fn append_all_reals(of: &TypeUse, bytes: &[u8], draft: &mut Draft) -> Option<usize>
+    requires { compares_elements (type_use of.now) ≡ false }
+    ensures some { IfSome result (λ count. TakesRealAggregate (type_use of.now) bytes.now count draft.old draft.new) }
+    ensures none { IfNone result (Continues draft.old draft.new) }
+{
+    let inside = append_delimiter(b'(', bytes, draft)?;
+    let (count, behind) = append_each_real(inside, draft)?;
+    if !allows_count(of, count) {
+        return None;
+    }
+    let rest = append_next_delimiter(b')', behind, draft)?;
+    Some(bytes.len() - rest.len())
+}
+
 /// Reals with a comma between each two: how many, and what stands behind them.
 #[inline(always)]
-pub(crate) fn append_each_real<'a>(bytes: &'a [u8], draft: &mut Draft) -> Option<(usize, &'a [u8])>
+fn append_each_real<'a>(bytes: &'a [u8], draft: &mut Draft) -> Option<(usize, &'a [u8])>
     ensures some { IfSome result (λ found. TakesReals found.0 bytes.now found.1.now draft.old draft.new) }
-    ensures none { IfNone result (Continues draft.old draft.new) }
+    ensures shorter { IfSome result (λ found. length found.1.now ≤ length bytes.now) }
+    ensures draft { Continues draft.old draft.new }
 {
     if let Some(b')') = bytes.first() {
         return Some((0, bytes));
     }
-    let mut behind = append_next_real(bytes, draft)?;
-    let mut count = 1;
-    while let Some(next) = append_next_delimiter(b',', behind, draft) {
-        behind = append_next_real(next, draft)?;
+    let mut front = bytes;
+    let mut count = 0;
+    loop {
+        let behind = append_next_real(front, draft)?;
         count += 1;
+        let Some(next) = append_next_delimiter(b',', behind, draft) else {
+            return Some((count, behind));
+        };
+        front = next;
     }
-    Some((count, behind))
 }
 
 /// The real at the front, behind separators: what stands behind it.

@@ -1,23 +1,22 @@
-ghost use Rattle.std.specs.Prelude.{IfOk, IsTrue};
-ghost use Rattle.p21_spec_exchange.specs.Keyword.{IsKeyword};
+ghost use Rattle.std.specs.Prelude.{IfOk};
 ghost use Rattle.p21_express_graph.specs.Resolved.{IsEntity};
 ghost use Rattle.p21_transcribe_instance.specs.Steps.{IsRow, MayStandAlone, row_view};
 
+use crate::keyword::Keyword;
 use crate::step::{Step, find_steps};
 use p21_express_graph::EntityId;
 use p21_express_tables::Schema;
-use p21_transcribe::leading_keyword;
 use p21_values::NoMemory;
 use std::alloc::Global;
 
 /// What is known of the instances whose set is an entity and its supertypes: these, rising by name, what may stand at the
-/// attributes, in the order of internal mapping, and whether the name of the entity is a keyword, as that of each entity is
-/// that a schema text declares.
+/// attributes, in the order of internal mapping, and the name of the entity, where it is a keyword of usual length, as that of
+/// nearly each entity is that a schema text declares.
 #[derive(Debug, Drop)]
 pub struct Row {
     pub entities: Vec<EntityId>,
     pub steps: Vec<Step>,
-    pub named_by_keyword: bool,
+    pub keyword: Keyword,
 }
 
 /// What is known of the instances of an entity.
@@ -33,20 +32,10 @@ pub(crate) fn find_row(alloc: Global, schema: &Schema, entity: EntityId) -> Resu
     let found = schema.own_rising(entity)?;
     let entities = Vec::from_slice(alloc, found.items())?;
     let steps = find_steps(alloc, schema, entity)?;
-    let named_by_keyword = is_keyword(schema.entity_name(entity));
+    let keyword = Keyword::new(schema.entity_name(entity));
     Ok(Row {
         entities,
         steps,
-        named_by_keyword,
+        keyword,
     })
-}
-
-/// Whether the bytes are a keyword.
-fn is_keyword(bytes: &[u8]) -> bool
-    ensures { IsTrue result → IsKeyword bytes.now }
-{
-    match leading_keyword(bytes) {
-        Some(word) => word.len() == bytes.len(),
-        None => false,
-    }
 }

@@ -1,5 +1,5 @@
 //! A value, by what may stand at its attribute.
-ghost use Rattle.std.specs.Prelude.{◌≡◌, [], ◌∷◌, ◌++◌, length, false, true, IfNone, IfSome, IsTrue};
+ghost use Rattle.std.specs.Prelude.{◌≡◌, ◌+◌, [], ◌∷◌, ◌++◌, length, false, true, IfNone, IfSome, IsTrue};
 ghost use Rattle.p21_spec_laws.specs.Needs.{FitsAtWithNeeds, FitsWithNeeds};
 ghost use Rattle.p21_express_tables.specs.Base.{HasBase};
 ghost use Rattle.p21_express_graph.specs.Resolved.{HoldsTogether, IsTypeUse};
@@ -7,7 +7,8 @@ ghost use Rattle.p21_express_graph.specs.Meaning.{place_type, type_use};
 ghost use Rattle.p21_spec_schema.specs.Schema.{defined};
 ghost use Rattle.p21_spec_schema.specs.Select.{IsSelect};
 ghost use Rattle.p21_transcribe_instance.specs.Steps.{IsStepForSome};
-ghost use Rattle.p21_transcribe_instance.specs.Elements.{AddsLength, IsAggregateOf, TakesAggregate, TakesStoredEach};
+ghost use Rattle.p21_transcribe_instance.specs.ArrangedElements.{compares_elements};
+ghost use Rattle.p21_transcribe_instance.specs.Elements.{AddsLength, IsAggregateOf, IsAtPlacesOf, TakesAggregate, TakesStoredEach};
 ghost use Rattle.p21_transcribe_instance.specs.Reals.{IsRealBase};
 ghost use Rattle.p21_transcribe_instance.specs.TakenParameters.{TakesStep};
 ghost use Rattle.p21_transcribe_instance.specs.TakenValues.{IsBaseInSchema, IsKnownAt, KeepsNeeds, TakesBase, TakesEnclosedBase, TakesFront, TakesStored, TakesWithNeeds};
@@ -19,7 +20,7 @@ use crate::choice::{append_chosen, append_offered};
 use crate::delimiter::{append_delimiter, append_next_delimiter};
 use crate::length::add_length;
 use crate::order::append_close;
-use crate::reals::{append_each_real, is_real};
+use crate::reals::{append_all_reals, is_real};
 use crate::scalar::append_listed;
 use crate::step::Step;
 use crate::taken::Taken;
@@ -285,7 +286,7 @@ fn append_undeclared<'a>(
 }
 
 /// An aggregate: how many bytes it has.
-#[inline(never)]
+#[inline(always)]
 #[cycle(append)]
 fn append_aggregate(
     schema: &Schema,
@@ -304,15 +305,40 @@ fn append_aggregate(
         return None;
     }
     schema.holds_together();
+    schema.well_formed();
     let base = base_of(schema, aggregate.element);
-    let mut lengths = Vec::new(*taken.needs.allocator());
+    if are_reals(aggregate, &base) {
+        return append_all_reals(aggregate.of, bytes, &mut taken.draft);
+    }
     let at = Stored {
         schema,
         optional: aggregate.optional,
         base: &base,
         most: most - 1,
     };
-    let rest = append_counted(&at, aggregate.of, bytes, taken, &mut lengths)?;
+    append_any(&at, aggregate.of, bytes, taken)
+}
+
+/// Whether there stand reals alone, which aren't compared.
+#[inline(always)]
+fn are_reals(aggregate: &Aggregate<'_>, base: &Base<'_>) -> bool
+    ensures { IsTrue result → (compares_elements (type_use aggregate.now.of.now) ≡ false) × (aggregate.now.optional ≡ false) × IsRealBase base.now }
+{
+    is_real(base) && !aggregate.optional && !are_compared(aggregate.of)
+}
+
+/// An aggregate with this at its places: how many bytes it has.
+#[inline(never)]
+#[cycle(append)]
+fn append_any(at: &Stored<'_>, of: &TypeUse, bytes: &[u8], taken: &mut Taken) -> Option<usize>
+    requires base { IsBaseInSchema at.now.schema.now at.now.base.now }
+    requires places { IsAtPlacesOf (type_use of.now) at.now }
+    ensures some { IfSome result (λ count. TakesFront at.now.schema.now (FitsWithNeeds at.now.schema.now (type_use of.now)) (at.now.most + 1) bytes.now count taken.old taken.new) }
+    ensures draft { IfNone result (Continues taken.old.draft taken.new.draft) }
+    ensures needs { IfNone result (KeepsNeeds taken.old.needs.items taken.new.needs.items) }
+{
+    let mut lengths = Vec::new(*taken.needs.allocator());
+    let rest = append_counted(at, of, bytes, taken, &mut lengths)?;
     Some(bytes.len() - rest.len())
 }
 
@@ -335,7 +361,7 @@ fn append_counted<'a>(
     let start = taken.draft.len();
     let compared = are_compared(of);
     let inside = append_delimiter(b'(', bytes, &mut taken.draft)?;
-    let (count, behind) = append_elements(at, compared, inside, taken, lengths)?;
+    let (count, behind) = append_each(at, compared, inside, taken, lengths)?;
     if !allows_count(of, count) {
         return None;
     }
@@ -345,35 +371,6 @@ fn append_counted<'a>(
 
 /// Elements with a comma between each two: how many, and what stands behind them. How long they are is added where they are
 /// compared.
-#[inline(always)]
-#[cycle(append)]
-fn append_elements<'a>(
-    at: &Stored<'_>,
-    compared: bool,
-    bytes: &'a [u8],
-    taken: &mut Taken,
-    lengths: &mut Vec<usize>,
-) -> Option<(usize, &'a [u8])>
-    requires { IsBaseInSchema at.now.schema.now at.now.base.now }
-    ensures some { IfSome result (λ found. TakesStoredEach at.now compared found.0 bytes.now found.1.now lengths.old.items lengths.new.items taken.old taken.new) }
-    ensures draft { IfNone result (Continues taken.old.draft taken.new.draft) }
-    ensures needs { IfNone result (KeepsNeeds taken.old.needs.items taken.new.needs.items) }
-{
-    if are_reals(at, compared) {
-        return append_each_real(bytes, &mut taken.draft);
-    }
-    append_each(at, compared, bytes, taken, lengths)
-}
-
-/// Whether there stand reals alone, which aren't compared.
-#[inline(always)]
-fn are_reals(at: &Stored<'_>, compared: bool) -> bool
-    ensures { IsTrue result → (compared ≡ false) × (at.now.optional ≡ false) × IsRealBase at.now.base.now }
-{
-    !compared && !at.optional && is_real(at.base)
-}
-
-/// The same of elements of any type.
 #[inline(always)]
 #[cycle(append)]
 fn append_each<'a>(

@@ -1,32 +1,39 @@
-use Rattle.std.proofs.Common.{arith}
+use Rattle.std.proofs.Common.{◌+◌, [], arith, sym}
+use Rattle.std.proofs.lemmas.List.{append-nil}
 use Rattle.p21_transcribe.proofs.Parts.{goes-on}
 use Rattle.p21_transcribe_instance.proofs.Elements.{mark-shorter}
-use Rattle.p21_transcribe_instance.proofs.RealElements.{no-reals, reals-end, reals-first, reals-next}
+use Rattle.p21_transcribe_instance.proofs.RealElements.{no-reals, reals-ahead, reals-end, reals-next}
 use Rattle.p21_transcribe_instance.proofs.reals.append_each_real.Goals as goal
 use Rattle.p21_values.proofs.Continuing.{continues-join}
 
 pub returns-in-Some-eq41-clause-some : goal.returns-in-Some-eq41-clause-some
 returns-in-Some-eq41-clause-some c = no-reals c.args.bytes.now c.args.draft.now
 
-pub loop-next-init : goal.loop-next-init
-loop-next-init c =
-    let first = c.in_ok-behind.ensures.some in
-    (reals-first c.args.bytes.now first.0 _ c.args.draft.now _ first.1 first.2, c.in_ok-behind.ensures.draft, omega (arith, c.in_ok-behind.ensures.shorter))
+pub loop-behind-init : goal.loop-behind-init
+loop-behind-init c = (reals-ahead c.args.bytes.now c.args.draft.now, ([], sym (append-nil c.args.draft.now)), omega arith)
 
-pub loop-next-smaller : goal.loop-next-smaller
-loop-next-smaller c = omega (arith, mark-shorter 44 _ _ c.in-Some.ensures.some.0, c.in_ok-behind-2.ensures.shorter)
+pub loop-behind-smaller : goal.loop-behind-smaller
+loop-behind-smaller c = omega (arith, mark-shorter 44 _ _ c.in-Some.ensures.some.0, c.in_ok-behind.ensures.shorter)
 
-pub loop-next-preserved : goal.loop-next-preserved
-loop-next-preserved c =
-    let next = c.in_ok-behind-2.ensures.some in (
-      reals-next c.args.bytes.now c.args.draft.now c.loop-next.count _ _ next.0 _ _ _ _ c.loop-next.invariant.0 c.in-Some.ensures.some.0 c.in-Some.ensures.some.1 next.1 next.2,
-      continues-join _ _ _ (goes-on _ _ _ _ c.loop-next.invariant.1 c.in-Some.ensures.some.1) c.in_ok-behind-2.ensures.draft,
-      omega (arith, c.loop-next.invariant.2, mark-shorter 44 _ _ c.in-Some.ensures.some.0, c.in_ok-behind-2.ensures.shorter),
+pub loop-behind-preserved : goal.loop-behind-preserved
+loop-behind-preserved c =
+    let real = c.in_ok-behind.ensures.some in (
+      reals-next c.args.bytes.now c.args.draft.now (c.loop-behind.count + 1) _ _ _ _ (c.loop-behind.invariant.0 real.0 _ _ real.1 real.2) c.in-Some.ensures.some.0 c.in-Some.ensures.some.1,
+      goes-on _ _ _ _ (continues-join _ _ _ c.loop-behind.invariant.1 c.in_ok-behind.ensures.draft) c.in-Some.ensures.some.1,
+      omega (arith, c.loop-behind.invariant.2, mark-shorter 44 _ _ c.in-Some.ensures.some.0, c.in_ok-behind.ensures.shorter),
     )
 
-pub returns-in_err-behind-2-clause-none : goal.returns-in_err-behind-2-clause-none
-returns-in_err-behind-2-clause-none c =
-    rw c.from_residual-in_err-behind-2.ensures (continues-join _ _ _ (goes-on _ _ _ _ c.loop-next.invariant.1 c.in-Some.ensures.some.1) c.in_err-behind-2.ensures.draft)
+pub returns-in_err-behind-clause-draft : goal.returns-in_err-behind-clause-draft
+returns-in_err-behind-clause-draft c = continues-join _ _ _ c.loop-behind.invariant.1 c.in_err-behind.ensures.draft
 
-pub returns-clause-some : goal.returns-clause-some
-returns-clause-some c = rw c.in_default-append_next_delimiter.ensures.none (reals-end c.args.bytes.now c.args.draft.now c.loop-next.count _ _ c.loop-next.invariant.0)
+pub returns-in_default-append_next_delimiter-clause-some : goal.returns-in_default-append_next_delimiter-clause-some
+returns-in_default-append_next_delimiter-clause-some c =
+    let real = c.in_ok-behind.ensures.some in
+    rw c.in_default-append_next_delimiter.ensures.none (reals-end c.args.bytes.now c.args.draft.now (c.loop-behind.count + 1) _ _ (c.loop-behind.invariant.0 real.0 _ _ real.1 real.2))
+
+pub returns-in_default-append_next_delimiter-clause-shorter : goal.returns-in_default-append_next_delimiter-clause-shorter
+returns-in_default-append_next_delimiter-clause-shorter c = omega (arith, c.loop-behind.invariant.2, c.in_ok-behind.ensures.shorter)
+
+pub returns-in_default-append_next_delimiter-clause-draft : goal.returns-in_default-append_next_delimiter-clause-draft
+returns-in_default-append_next_delimiter-clause-draft c =
+    rw c.in_default-append_next_delimiter.ensures.none (continues-join _ _ _ c.loop-behind.invariant.1 c.in_ok-behind.ensures.draft)

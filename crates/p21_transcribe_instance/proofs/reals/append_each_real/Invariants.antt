@@ -1,11 +1,11 @@
 use Rattle.std.proofs.Common.{◌+◌, ◌≤◌, length}
-use Rattle.p21_transcribe_instance.proofs.RealElements.{AlongReals}
+use Rattle.p21_transcribe_instance.proofs.RealElements.{AheadOfReal}
 use Rattle.p21_transcribe_instance.proofs.reals.append_each_real.Given as goal
 use Rattle.p21_values.specs.Canonical.{Continues}
 
 -- with each real a comma is taken
-abbrev pub decreases-loop-next : goal.decreases-loop-next
-decreases-loop-next l = length l.behind
+abbrev pub decreases-loop-behind : goal.decreases-loop-behind
+decreases-loop-behind l = length l.front
 
-abbrev pub invariant-loop-next : goal.invariant-loop-next
-invariant-loop-next l = AlongReals l.fn.bytes l.fn.draft l.count l.behind l.draft × Continues l.fn.draft l.draft × (l.count + length l.behind ≤ length l.fn.bytes + 1)
+abbrev pub invariant-loop-behind : goal.invariant-loop-behind
+invariant-loop-behind l = AheadOfReal l.fn.bytes l.fn.draft l.count l.front l.draft × Continues l.fn.draft l.draft × (l.count + length l.front ≤ length l.fn.bytes)

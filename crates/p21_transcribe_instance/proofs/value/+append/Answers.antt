@@ -1,5 +1,6 @@
-use Rattle.std.proofs.Common.{◌+◌, ◌-◌, [], ◌∷◌, refl, arith}
+use Rattle.std.proofs.Common.{◌≡◌, ◌+◌, ◌-◌, ℕ, [], ◌∷◌, refl, arith, subst}
 use Rattle.p21_spec_basics.proofs.Members.{rest_is}
+use Rattle.p21_spec_laws.specs.Needs.{FitsWithNeeds}
 use Rattle.p21_express_graph.proofs.Lookups.{type-named}
 use Rattle.p21_transcribe.proofs.Found.{none_to, some_to}
 use Rattle.p21_transcribe.proofs.Parts.{goes-on, stays-behind}
@@ -8,6 +9,7 @@ use Rattle.p21_transcribe_instance.proofs.RealElements.{reals-at}
 use Rattle.p21_transcribe_instance.proofs.Typed.{enclosed-refused, enclosed-taken, typed-taken}
 use Rattle.p21_transcribe_instance.proofs.Values.{base-select, front-deep, item-deep, left-out, needs-kept, needs-same, plain-deep, rest-taken, select-at, stored-taken, taken-front, taken-shorter}
 use Rattle.p21_express_graph.specs.Meaning.{type_use}
+use Rattle.p21_transcribe_instance.specs.TakenValues.{TakesFront}
 use Rattle.p21_transcribe_instance.proofs.value.+append.Goals as goal
 use Rattle.p21_transcribe_instance.proofs.Stepping.{needs-join}
 use Rattle.p21_values.proofs.Continuing.{continues-join}
@@ -111,22 +113,42 @@ pub append_aggregate-base_of-base-requires : goal.append_aggregate-base_of-base-
 append_aggregate-base_of-base-requires t c =
     element-known c.args.schema.now (type_use c.args.aggregate.now.of.now) c.args.aggregate.now.optional (type_use c.args.aggregate.now.element.now) c.requires.elements (c.requires.known c.holds_together.ensures)
 
-pub append_aggregate-append_counted-requires : goal.append_aggregate-append_counted-requires
-append_aggregate-append_counted-requires t c = (omega arith, (c.base_of-base.ensures.known, c.new-lengths.ensures.items))
+pub append_aggregate-append_all_reals-requires : goal.append_aggregate-append_all_reals-requires
+append_aggregate-append_all_reals-requires t c = (c.if-are_reals.ensures refl).0
+
+pub append_aggregate-returns-then-are_reals-clause-some : goal.append_aggregate-returns-then-are_reals-clause-some
+append_aggregate-returns-then-are_reals-clause-some t c =
+    let are = c.if-are_reals.ensures refl in
+    some_to _ (λ count. reals-at c.args.schema.now (type_use c.args.aggregate.now.of.now) (type_use c.args.aggregate.now.element.now) c.base_of-base.result c.args.aggregate.now.optional c.args.most c.args.bytes.now count c.args.taken.now _ c.well_formed-2.ensures.types_distinct c.requires.elements c.base_of-base.ensures.has are.1 are.2 (omega arith)) c.append_all_reals.ensures.some
+
+pub append_aggregate-returns-then-are_reals-clause-needs : goal.append_aggregate-returns-then-are_reals-clause-needs
+append_aggregate-returns-then-are_reals-clause-needs t c = needs-kept c.append_all_reals.result c.args.taken.now.needs.items
+
+pub append_aggregate-append_any-requires : goal.append_aggregate-append_any-requires
+append_aggregate-append_any-requires t c = (omega arith, (c.base_of-base.ensures.known, (type_use c.args.aggregate.now.element.now, c.requires.elements, c.base_of-base.ensures.has)))
 
 pub append_aggregate-returns-clause-some : goal.append_aggregate-returns-clause-some
 append_aggregate-returns-clause-some t c =
-    taken-front c.args.schema.now _ c.args.most c.args.bytes.now _ _ _
-    (aggregate-at c.args.schema.now (type_use c.args.aggregate.now.of.now) c.args.aggregate.now.optional (type_use c.args.aggregate.now.element.now) c.base_of-base.result c.args.most (c.args.most - 1 + 1) c.args.bytes.now _ _ _ (omega arith) c.requires.elements c.base_of-base.ensures.has c.in_ok-rest.ensures.some)
+    let same : c.args.most - 1 + 1 ≡ c.args.most = omega arith in
+    some_to _ (λ count. subst (λ (k : ℕ). TakesFront c.args.schema.now (FitsWithNeeds c.args.schema.now (type_use c.args.aggregate.now.of.now)) k c.args.bytes.now count c.args.taken.now c.append_any.new.taken) same) c.append_any.ensures.some
 
-pub append_aggregate-overflow_sub-result : goal.append_aggregate-overflow_sub-result
-append_aggregate-overflow_sub-result t c =
-    taken-shorter c.args.schema.now _ _ c.args.bytes.now _ _ _ (c.in_ok-rest.ensures.some (type_use c.args.aggregate.now.element.now) c.requires.elements c.base_of-base.ensures.has)
+pub append_any-append_counted-requires : goal.append_any-append_counted-requires
+append_any-append_counted-requires t c = (omega arith, (c.requires.base, c.new-lengths.ensures.items))
+
+pub append_any-returns-clause-some : goal.append_any-returns-clause-some
+append_any-returns-clause-some t c =
+    let (element, is, has) = c.requires.places in
+    taken-front c.args.at.now.schema.now _ _ c.args.bytes.now _ _ _ (c.in_ok-rest.ensures.some element is has)
+
+pub append_any-overflow_sub-result : goal.append_any-overflow_sub-result
+append_any-overflow_sub-result t c =
+    let (element, is, has) = c.requires.places in
+    taken-shorter c.args.at.now.schema.now _ _ c.args.bytes.now _ _ _ (c.in_ok-rest.ensures.some element is has)
 
 -- ---- the elements of an aggregate
 
-pub append_counted-append_elements-requires : goal.append_counted-append_elements-requires
-append_counted-append_elements-requires t c = (omega arith, c.requires.base)
+pub append_counted-append_each-requires : goal.append_counted-append_each-requires
+append_counted-append_each-requires t c = (omega arith, c.requires.base)
 
 pub append_counted-append_close-requires : goal.append_counted-append_close-requires
 append_counted-append_close-requires t c =
@@ -166,16 +188,6 @@ append_counted-returns-clause-needs t c =
     none_to _ (λ same. refused.1) c.append_close.ensures.none
 
 -- ---- elements
-
-pub append_elements-append_each-requires : goal.append_elements-append_each-requires
-append_elements-append_each-requires t c = (omega arith, c.requires)
-
-pub append_elements-returns-then-are_reals-clause-some : goal.append_elements-returns-then-are_reals-clause-some
-append_elements-returns-then-are_reals-clause-some t c =
-    some_to _ (λ found. reals-at c.args.at.now.schema.now c.args.at.now.base.now c.args.at.now.optional c.args.compared c.args.at.now.most found.0 c.args.bytes.now found.1.now c.args.lengths.now.items c.args.taken.now _ (c.if-are_reals.ensures refl)) c.append_each_real.ensures.some
-
-pub append_elements-returns-then-are_reals-clause-needs : goal.append_elements-returns-then-are_reals-clause-needs
-append_elements-returns-then-are_reals-clause-needs t c = needs-kept c.append_each_real.result c.args.taken.now.needs.items
 
 pub append_each-append_element-requires : goal.append_each-append_element-requires
 append_each-append_element-requires t c = (omega arith, c.requires)
