@@ -107,29 +107,32 @@ pub(crate) fn add_waiting(
         if servers.has_large_sets() {
             learn(schema, stored, servers, need)?;
         }
-        let reference = Reference {
-            holder: found.name,
-            need: *need,
-        };
-        add_unserved(schema, stored, servers, reference, waiting)?;
+        add_unserved(schema, stored, servers, found.name, need, waiting)?;
     }
     Ok(())
 }
 
-/// Adds a reference where no instance serves it yet.
+/// Adds a need of an instance where none serves it yet. What is stored, what is remembered of it, and both parts of a reference
+/// are apart, so that a reference that is served isn't made.
+#[inline(always)]
 fn add_unserved(
     schema: &Schema,
     stored: &Stored,
     servers: &Servers,
-    reference: Reference,
+    holder: Name,
+    need: &Need,
     waiting: &mut Vec<Reference>,
 ) -> Result<(), NoMemory>
     requires { AreStored stored.now }
-    ensures { OnOk result (AddsWaiting schema.now (stored_in stored.now) reference.holder (need_view reference.need ∷ []) (references_of waiting.old.items) (references_of waiting.new.items)) }
+    ensures { OnOk result (AddsWaiting schema.now (stored_in stored.now) holder (need_view need.now ∷ []) (references_of waiting.old.items) (references_of waiting.new.items)) }
 {
-    if !is_unserved(schema, stored, servers, &reference) {
+    if !is_unserved(schema, stored, servers, need) {
         return Ok(());
     }
+    let reference = Reference {
+        holder,
+        need: *need,
+    };
     waiting.push(reference)?;
     Ok(())
 }
@@ -144,7 +147,7 @@ pub(crate) fn drop_served(
     requires { AreStored stored.now }
     ensures { DropsServed schema.now (stored_in stored.now) (references_of waiting.old.items) (references_of waiting.new.items) }
 {
-    waiting.retain(|reference| is_unserved(schema, stored, servers, reference));
+    waiting.retain(|reference| is_unserved(schema, stored, servers, &reference.need));
     give_back(waiting);
 }
 
@@ -162,13 +165,31 @@ fn give_back(waiting: &mut Vec<Reference>)
     }
 }
 
-/// Whether no instance serves a reference yet.
-fn is_unserved(schema: &Schema, stored: &Stored, servers: &Servers, reference: &Reference) -> bool
+/// Whether no instance serves a need yet.
+#[inline(always)]
+fn is_unserved(schema: &Schema, stored: &Stored, servers: &Servers, need: &Need) -> bool
     requires { AreStored stored.now }
-    ensures served { result ≡ false → IsServedBy schema.now (stored_in stored.now) (need_view reference.now.need) }
-    ensures unserved { result ≡ true → IsServedByNone schema.now (stored_in stored.now) (need_view reference.now.need) }
+    ensures served { result ≡ false → IsServedBy schema.now (stored_in stored.now) (need_view need.now) }
+    ensures unserved { result ≡ true → IsServedByNone schema.now (stored_in stored.now) (need_view need.now) }
 {
-    refusal_with(schema, stored, servers, &reference.need).is_some()
+    if servers.has_large_sets() && is_served(schema, stored, servers, need) {
+        return false;
+    }
+    !is_served_now(schema, stored, need)
+}
+
+/// Whether an instance that is stored serves a need. It takes no memory.
+#[inline(always)]
+fn is_served_now(schema: &Schema, stored: &Stored, need: &Need) -> bool
+    requires { AreStored stored.now }
+    ensures served { result ≡ true → IsServedBy schema.now (stored_in stored.now) (need_view need.now) }
+    ensures unserved { result ≡ false → IsServedByNone schema.now (stored_in stored.now) (need_view need.now) }
+{
+    let Some(membership) = stored.instances.membership_of(need.target.0) else {
+        return false;
+    };
+    let (_, entities) = stored.memberships.get(membership);
+    serves(schema, need, entities)
 }
 
 /// The first reference that no instance serves, by the name of the instance that has it, and why. It takes no memory.
