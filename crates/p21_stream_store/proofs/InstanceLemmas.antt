@@ -1,6 +1,6 @@
 -- Instances among those that are stored.
 use Rattle.std.proofs.Common.{◌≡◌, ◌+◌, ◌-◌, ◌<◌, ◌≤◌, ℕ, zero, suc, List, [], ◌∷◌, ◌++◌, length, get_or, Option, Some, inl, inr, refl, sym, ap, subst, ◌∙◌, arith, unwrap_or}
-use Rattle.std.proofs.lemmas.List.{append-nil, append_assoc, get_or-append_right, get_or_append_left, length-append, length-map, map-append, nil_from_length}
+use Rattle.std.proofs.lemmas.List.{append-nil, append_assoc, get_or-append-add, get_or-append_right, get_or_append_left, length-append, length-map, map-append, nil_from_length}
 use Rattle.std.proofs.lemmas.List.Elements.{Contains-append_cases, Contains-append_left, Contains-append_right, Contains-push_cases}
 use Rattle.std.proofs.lemmas.List.Sorted.{IsPermutation-middle, IsPermutation-sym, IsPermutation-to_front}
 use Rattle.std.proofs.lemmas.List.FromFn.{get_or-range_with_len, length-range_with_len}
@@ -45,10 +45,6 @@ module _ (rising late : List ℕ) (texts_of_rising texts_of_late : List (ℕ × 
       ap instance_names (sym all_are) ∙ map-append (λ (x : StoredInstance). x.name) (stored_instances rising texts_of_rising) (stored_instances late texts_of_late)
       ∙ ap (λ (l : List ℕ). l ++ instance_names (stored_instances late texts_of_late)) (names-stored_instances rising texts_of_rising e)
       ∙ ap (λ (l : List ℕ). rising ++ l) (names-stored_instances late texts_of_late f)
-
-  -- with no late name the names rise from position to position
-  pub rising_names : length rising ≡ length texts_of_rising → length late ≡ length texts_of_late → length late ≡ 0 → IsStrictlyIncreasing rising → IsStrictlyIncreasing (instance_names all)
-  rising_names e f none rises = subst (λ (l : List ℕ). IsStrictlyIncreasing l) (sym (names_are e f ∙ ap (λ (l : List ℕ). rising ++ l) (nil_from_length late none) ∙ append-nil rising)) rises
 
   pub none_found : (n : ℕ) → length rising ≡ length texts_of_rising → length late ≡ length texts_of_late → (Contains rising n → ⊥) → (Contains late n → ⊥) → Contains (instance_names all) n → ⊥
   none_found n e f first second has =
@@ -160,25 +156,12 @@ name-at [] i = refl
 name-at (x ∷ all) zero = refl
 name-at (x ∷ all) (suc i) = name-at all i
 
--- where the names rise from position to position, the positions are in their order
-pub rising_places : (all : List StoredInstance) → IsStrictlyIncreasing (instance_names all) → IsNonDecreasingBy (name_at all) (range_with_len 0 (length all))
-rising_places all rises i j d h within =
-    let size = length-range_with_len 0 (length all) in
-    let names = length-map all (λ (x : StoredInstance). x.name) in
-    let one : get_or (range_with_len 0 (length all)) i d ≡ i = get_or-range_with_len 0 (length all) i d (omega (arith, h, within, size)) ∙ (let e : 0 + i ≡ i = omega arith in e) in
-    let two : get_or (range_with_len 0 (length all)) j d ≡ j = get_or-range_with_len 0 (length all) j d (omega (arith, within, size)) ∙ (let e : 0 + j ≡ j = omega arith in e) in
-    let first : name_at all (get_or (range_with_len 0 (length all)) i d) ≡ get_or (instance_names all) i 0 = ap (name_at all) one ∙ name-at all i in
-    let second : name_at all (get_or (range_with_len 0 (length all)) j d) ≡ get_or (instance_names all) j 0 = ap (name_at all) two ∙ name-at all j in
-    let below = never-fall (instance_names all) rises i j h (omega (arith, within, size, names)) in
-    omega (arith, first, second, below)
-
 module _ (rising late : List ℕ) (texts_of_rising texts_of_late : List (ℕ × List ℕ)) (all : List StoredInstance) (all_are : stored_instances rising texts_of_rising ++ stored_instances late texts_of_late ≡ all) (same : length rising ≡ length texts_of_rising) (same_ : length late ≡ length texts_of_late) where
   among : (i : ℕ) → name_at all i ≡ get_or (rising ++ late) i 0
   among i = name-at all i ∙ ap (λ (names : List ℕ). get_or names i 0) (names_are rising late texts_of_rising texts_of_late all all_are same same_)
 
-  pub rising_name : (first i n : ℕ) → first ≡ length rising → i < first → slice_get rising i ≡ Some n → n ≡ name_at all i
-  rising_name first i n is below e = let within : i < length rising = omega (arith, is, below) in sym (get_or_from_slice_get rising i n 0 e) ∙ sym (get_or_append_left rising late 0 i within) ∙ sym (among i)
+  pub rising_named : (p n : ℕ) → slice_get rising p ≡ Some n → name_at all p ≡ n
+  rising_named p n at = among p ∙ get_or_append_left rising late 0 p (slice_get_within rising p n at) ∙ get_or_from_slice_get rising p n 0 at
 
-  pub late_name : (first i : ℕ) (n : Option ℕ) → first ≡ length rising → first ≤ i → n ≡ slice_get late (i - first) → unwrap_or n 0 ≡ name_at all i
-  late_name first i n is above e =
-      ap (λ (x : Option ℕ). unwrap_or x 0) e ∙ unwrap_or-slice_get late (i - first) 0 ∙ sym (get_or-append_right rising late first i 0 (sym is) above) ∙ sym (among i)
+  pub late_named : (q n : ℕ) → slice_get late q ≡ Some n → name_at all (length rising + q) ≡ n
+  late_named q n at = among (length rising + q) ∙ get_or-append-add rising late q 0 ∙ get_or_from_slice_get late q n 0 at

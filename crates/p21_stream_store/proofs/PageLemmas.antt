@@ -93,6 +93,14 @@ module _ {X : Type 0} (none : X) (pages : List (Vec X Global)) (name : ℕ) (pag
 pub number_closed : {X : Type 0} (none : X) (pages : List (Vec X Global)) (page : Vec X Global) (name : ℕ) → page.items ≡ [] → number_in none (pages ++ page ∷ []) name ≡ number_in none pages name
 number_closed none pages page name empty = ap (λ (xs : List _). slice_index_or xs (name % 4096) none) (page_closed pages page (name / 4096) empty)
 
+-- from an index on there is no number in a page
+pub none_from : (pages : List (Vec ℕ Global)) (page : Vec ℕ Global) (from name : ℕ) → from / 4096 < length pages → page ≡ slice_index_or pages (from / 4096) page → ((i : ℕ) → from % 4096 ≤ i → i < 4096 → slice_index_or page.items i 0 ≡ 0) → from ≤ name → name / 4096 ≡ from / 4096
+    → number_in 0 pages name ≡ 0
+none_from pages page from name there is none behind same =
+    ap (λ (n : ℕ). slice_index_or (page_at pages n) (name % 4096) 0) same
+    ∙ ap (λ (xs : List ℕ). slice_index_or xs (name % 4096) 0) (page_here pages (from / 4096) page there is)
+    ∙ none (name % 4096) (omega (arith, behind, same)) (omega arith)
+
 -- ---- the room of a table
 
 pub within_more : {X : Type 0} (count more : ℕ) (old new : Pages X) → GrowsWithin (most_names count) old new → count ≤ more → GrowsWithin (most_names more) old new

@@ -104,24 +104,6 @@ impl NamedLines {
         self.texts_of_late.text(place - first)
     }
 
-    /// The name of the instance at a position, 0 where there is none.
-    pub(crate) fn name_at(&self, place: usize) -> u64
-        ensures { result ≡ name_at self.now place }
-    {
-        let first = self.rising.len();
-        if place < first {
-            return self.rising.get(place) as u64;
-        }
-        self.late.get(place - first).unwrap_or(0)
-    }
-
-    /// Whether the names rise from position to position, as where none came late.
-    pub(crate) fn is_rising(&self) -> bool
-        ensures { IsTrue result → IsStrictlyIncreasing (instance_names self.now) }
-    {
-        self.late.len() == 0
-    }
-
     /// The number of the membership and the canonical text of the instance of this name, if there is one. A name that rises
     /// costs no search.
     pub fn find(&self, name: u64) -> Option<(usize, &[u8])>
@@ -254,7 +236,7 @@ fn add_late(
     match lines.push(membership, text) {
         Ok(()) => Ok(()),
         Err(fault) => {
-            names.pop();
+            names.pop(name);
             Err(fault)
         }
     }

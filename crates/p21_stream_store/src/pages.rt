@@ -1,5 +1,5 @@
 //! Tables from names to numbers, by pages.
-ghost use Rattle.std.specs.Prelude.{◌≡◌, ◌≢◌, ◌+◌, ◌*◌, ◌/◌, ◌<◌, ◌≤◌, ℕ, false, length, max, vec_capacity, vec_len, MatchBool, OnErr, OnOk};
+ghost use Rattle.std.specs.Prelude.{◌≡◌, ◌≢◌, ◌+◌, ◌*◌, ◌/◌, ◌<◌, ◌≤◌, ◌^◌, ℕ, false, length, max, slice_index_or, vec_capacity, vec_len, IfSome, IsNone, MatchBool, OnErr, OnOk};
 ghost use Rattle.p21_stream_store.specs.Pages.{most_names, number_in, rooms};
 
 use crate::room::{reach, wider_count};
@@ -111,25 +111,33 @@ impl<T: Copy + Drop> Pages<T> {
     }
 }
 
-impl<T: Copy + Drop + PartialEq> Pages<T> {
-    /// The first name from this one on that has a number, and its number.
-    pub fn next_from(&self, from: u64, none: T) -> Option<(u64, T)> {
-        let mut index = from as usize % PAGE;
-        for number in from as usize / PAGE..self.pages.len() {
-            if let Some((found, value)) = next_in(&self.pages[number], index, none) {
-                let first = (number as u64).checked_mul(PAGE as u64)?;
-                return Some((first.checked_add(found as u64)?, value));
+impl Pages<u32> {
+    /// The first name from this one on whose number isn't 0, and its number.
+    pub fn next_from(&self, from: u64) -> Option<(u64, u32)>
+        ensures found { IfSome result (λ found. (from ≤ found.0) × (found.1 ≡ number_in 0 self.now.pages.items found.0) × (found.1 ≡ 0 → ⊥)) }
+        ensures between { IfSome result (λ found. (other : ℕ) → from ≤ other → other < found.0 → number_in 0 self.now.pages.items other ≡ 0) }
+        ensures none { IsNone result → (other : ℕ) → from ≤ other → other < 2 ^ 64 → number_in 0 self.now.pages.items other ≡ 0 }
+    {
+        let mut name = from as usize;
+        while name / PAGE < self.pages.len() {
+            let first = name - name % PAGE;
+            if let Some((index, number)) = next_in(&self.pages[name / PAGE], name % PAGE) {
+                return Some(((first + index) as u64, number));
             }
-            index = 0;
+            name = first.checked_add(PAGE)?;
         }
         None
     }
 }
 
-/// The first index from this one on at which another number stands, and that number.
-fn next_in<T: Copy + PartialEq>(page: &[T], from: usize, none: T) -> Option<(usize, T)> {
-    for index in from..page.len() {
-        if page[index] != none {
+/// The first index of a page from this one on at which the number isn't 0, and that number.
+fn next_in(page: &[u32], from: usize) -> Option<(usize, u32)>
+    ensures found { IfSome result (λ found. (from ≤ found.0) × (found.0 < 4096) × (found.1 ≡ slice_index_or page.now found.0 0) × (found.1 ≡ 0 → ⊥)) }
+    ensures between { IfSome result (λ found. (i : ℕ) → from ≤ i → i < found.0 → slice_index_or page.now i 0 ≡ 0) }
+    ensures none { IsNone result → (i : ℕ) → from ≤ i → i < 4096 → slice_index_or page.now i 0 ≡ 0 }
+{
+    for index in from..page.len().min(PAGE) {
+        if page[index] != 0 {
             return Some((index, page[index]));
         }
     }
