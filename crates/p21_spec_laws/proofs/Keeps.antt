@@ -1,11 +1,11 @@
 -- What a session keeps, with each statement more, and at the end.
-use Rattle.std.specs.Prelude.{◌≡◌, ◌<◌, ◌⊎◌, ℕ, Bool, true, false, suc, zero, List, [], ◌∷◌, ◌++◌, map, length, refl, slice_get, Some, Contains}
+use Rattle.std.specs.Prelude.{◌≡◌, ◌<◌, ◌⊎◌, ℕ, suc, zero, List, [], ◌∷◌, ◌++◌, map, length, refl, slice_get, Some, Contains, IsTrue, ◌↔◌}
 use Rattle.std.specs.List.{flat_map, AllByRecursion as Each}
 use Rattle.std.proofs.Common.{arith, ap, sym, subst, ◌∙◌, inl, inr, append_assoc, append-nil, length-append}
 use Rattle.std.proofs.lemmas.Grind.{flat_map-append}
 use Rattle.std.proofs.lemmas.List.{length-map, map-append}
 use Rattle.std.proofs.lemmas.List.Sorted.{IsPermutation-refl, length_permutation}
-use Rattle.p21_spec_basics.proofs.Members.{Contains-at, Contains-found, Contains-mapped, Each-of_members, Each-weaker}
+use Rattle.p21_spec_basics.proofs.Members.{Contains-at, Contains-found, Contains-mapped, Each-append, Each-back, Each-front, Each-of_members, Each-weaker}
 use Rattle.p21_spec_basics.specs.Limits.{Limits}
 use Rattle.p21_spec_laws.proofs.Ending.{group-headings}
 use Rattle.p21_spec_laws.specs.CompleteFile.{AreRisingBlocks, Block, Entry, SectionEntries, block_bytes, entries_in, file_text, entity_sets_in}
@@ -21,8 +21,8 @@ use Rattle.p21_spec_laws.proofs.Whole.{unrefused-accepted, unrefused-headings, u
 use Rattle.p21_spec_laws.specs.Among.{parts_among, sections_among}
 use Rattle.p21_spec_laws.specs.UnrefusedStatements.{section_entries_behind, canonical_size, numbered_entries_in, with_entry}
 use Rattle.p21_spec_laws.specs.Keeping.{AreBlocksOf, IsBlockAt, IsServedBy, Keeps, Kept, headings_behind, text_with_header}
-use Rattle.p21_spec_laws.specs.KeepingLaws.{CountsAtStart, KeepsAtStart, KeepsByHeader, KeepsByInstance, KeepsBySectionLine, KeepsFewReferences, KeptHasCanonicalFile, KeptHasLines, KeptIsAccepted, KeptIsHeld, KeepsInstanceNames, KeepsSectionOfInstance, KeepsSectionNames, KeepsFileSize, KeptTextSize, KeptUnservedIsNotAccepted}
-use Rattle.p21_spec_laws.specs.Stored.{IsBlockOf, IsStore, stored_in, stored_of}
+use Rattle.p21_spec_laws.specs.KeepingLaws.{KeepsAtStart, KeepsByHeader, KeepsByInstance, KeepsBySectionLine, KeepsFewReferences, KeptHasCanonicalFile, KeptHasLines, KeptIsAccepted, KeptIsHeld, KeepsInstanceNames, KeepsSectionOfInstance, KeepsSectionNames, KeepsFileSize, KeptTextSize, KeptUnservedIsNotAccepted}
+use Rattle.p21_spec_laws.specs.Stored.{IsAmongEarlier, IsBlockOf, IsStore, KeptLines, stored_in, stored_of, with_lines}
 use Rattle.p21_spec_laws.specs.Waiting.{IsWaiting, Reference, references_in, references_of}
 use Rattle.p21_spec_exchange.specs.CanonicalText.{line}
 use Rattle.p21_spec_exchange.specs.DataSection.{Heading, headings, section_names}
@@ -63,35 +63,23 @@ headings-by_entry (g ∷ []) e = refl
 headings-by_entry (g ∷ next ∷ more) e = ap (λ (hs : List Heading). g.heading ∷ hs) (headings-by_entry (next ∷ more) e)
 
 -- as many as groups
-headings-many : (s : Schema) (limits : Limits) (given : List Statement) (kept : Kept) (keeps : Keeps s limits given kept) → length kept.headings ≡ length keeps.groups
+pub headings-many : (s : Schema) (limits : Limits) (given : List Statement) (kept : Kept) (keeps : Keeps s limits given kept) → length kept.headings ≡ length keeps.groups
 headings-many s limits given kept keeps = ap length keeps.headings_are ∙ length-map keeps.groups (λ (g : SectionEntries). g.heading)
 
 -- ---- one statement more
 
 pub keeps-at_start : KeepsAtStart
-keeps-at_start s limits = record {
+keeps-at_start s limits lines = record {
   groups = [];
   unrefused = unrefused-at_start s limits;
   header_is = refl;
   headings_are = refl;
-  store = store-at_start true;
+  store = store-at_start lines;
   waits = waiting-at_start s;
   references_are = refl;
   bytes_are = refl;
   framing_is = refl;
-}
-
-pub counts-at_start : CountsAtStart
-counts-at_start s limits = record {
-  groups = [];
-  unrefused = unrefused-at_start s limits;
-  header_is = refl;
-  headings_are = refl;
-  store = store-at_start false;
-  waits = waiting-at_start s;
-  references_are = refl;
-  bytes_are = refl;
-  framing_is = refl;
+  equal_is = (λ up. tt, λ each. refl);
 }
 
 pub keeps-by_line : KeepsBySectionLine
@@ -113,6 +101,7 @@ keeps-by_line s limits given kept keeps line_ fits other within =
       references_are = keeps.references_are ∙ ap (λ (es : List Entry). length (references_in es)) (sym (entries-by_line groups line_));
       bytes_are = bytes_are ∙ sym size.0;
       framing_is = omega (arith, framing_is, framed);
+      equal_is = subst (λ (es : List Entry). IsTrue kept.equal ↔ Each (λ (e : Entry). IsAmongEarlier kept.lines (e.name, e.text)) es) (sym (entries-by_line groups line_)) keeps.equal_is;
     }
 
 pub keeps-by_header : KeepsByHeader
@@ -138,10 +127,11 @@ keeps-by_header s limits given kept keeps part fits within =
       references_are = keeps.references_are;
       bytes_are = omega (arith, bytes_are, whole);
       framing_is = omega (arith, framing_is, framed);
+      equal_is = keeps.equal_is;
     }
 
 pub keeps-by_instance : KeepsByInstance
-keeps-by_instance s limits given kept keeps entry found other added are others number last stored pushed within =
+keeps-by_instance s limits given kept keeps entry found other added are others number last stored pushed equal is_equal within =
     let groups : List SectionEntries = keeps.groups in
     let entries : List Entry = entries_in groups in
     let many = headings-many s limits given kept keeps in
@@ -165,6 +155,7 @@ keeps-by_instance s limits given kept keeps entry found other added are others n
     let long = length-append (references_in entries) (references_of entry ++ []) in
     let tail = length-append (references_of entry) [] in
     let own = length-map {B = Reference} entry.needs (λ (need : Need). (entry.name, need)) in
+    let A : Entry → Type 0 = λ e. IsAmongEarlier kept.lines (e.name, e.text) in
     record {
       groups = with_entry groups entry;
       unrefused = unrefused-by_instance s limits given groups keeps.unrefused entry found some (none-stored kept.lines groups kept.stored keeps.store entry.name other) (omega (arith, bytes_are, framing_is, within));
@@ -175,6 +166,12 @@ keeps-by_instance s limits given kept keeps entry found other added are others n
       references_are = omega (arith, references_are, needs, joined, long, tail, own);
       bytes_are = omega (arith, bytes_are, whole);
       framing_is = omega (arith, framing_is, framed);
+      equal_is = (
+        λ up. subst (Each A) (sym more) (Each-append A entries (entry ∷ []) (keeps.equal_is.0 (is_equal.0 up).0) ((is_equal.0 up).1, tt)),
+        λ each.
+            let all : Each A (entries ++ (entry ∷ [])) = subst (Each A) more each in
+            is_equal.1 (keeps.equal_is.1 (Each-front A entries (entry ∷ []) all), (Each-back A entries (entry ∷ []) all).0),
+      );
     }
 
 pub keeps-section : KeepsSectionOfInstance
@@ -232,10 +229,10 @@ mapped-at (x ∷ gs) zero g at = let same : x ≡ g = cc in ap (λ (y : SectionE
 mapped-at (x ∷ gs) (suc k) g at = mapped-at gs k g at
 
 -- the blocks are those of the groups
-rising-blocks : (s : Schema) (limits : Limits) (given : List Statement) (kept : Kept) (keeps : Keeps s limits given kept) (t : Structure) (text : List ℕ) → IsFile t text → statements t ≡ given → kept.lines ≡ true → (blocks : List Block) → AreBlocksOf kept blocks → AreRisingBlocks keeps.groups blocks
+rising-blocks : (s : Schema) (limits : Limits) (given : List Statement) (kept : Kept) (keeps : Keeps s limits given kept) (t : Structure) (text : List ℕ) → IsFile t text → statements t ≡ given → kept.lines ≡ with_lines → (blocks : List Block) → AreBlocksOf kept blocks → AreRisingBlocks keeps.groups blocks
 rising-blocks s limits given kept keeps t text is_file same lines blocks are =
     let groups : List SectionEntries = keeps.groups in
-    let store : IsStore true groups kept.stored = subst (λ (b : Bool). IsStore b groups kept.stored) lines keeps.store in
+    let store : IsStore with_lines groups kept.stored = subst (λ (b : KeptLines). IsStore b groups kept.stored) lines keeps.store in
     let H : List Heading → ℕ → Heading → Type 0 = λ hs k h. slice_get hs k ≡ Some h in
     let to : (b : Block) → ((number : ℕ) × IsBlockAt kept number b) → (g : SectionEntries) × Contains groups g × IsBlockOf g b = λ b it.
     let (g, at_g, heading) = at-mapped groups it.0 b.heading (subst (λ (hs : List Heading). H hs it.0 b.heading) keeps.headings_are it.1.0) in
@@ -270,11 +267,11 @@ text-is parts blocks =
     )
     )
 
-kept-text : (s : Schema) (limits : Limits) (given : List Statement) (kept : Kept) → Keeps s limits given kept → (blocks : List Block) → file_text (parts_among given) blocks ≡ text_with_header kept.header blocks
+pub kept-text : (s : Schema) (limits : Limits) (given : List Statement) (kept : Kept) → Keeps s limits given kept → (blocks : List Block) → file_text (parts_among given) blocks ≡ text_with_header kept.header blocks
 kept-text s limits given kept keeps blocks = text-is (parts_among given) blocks ∙ ap (λ (xs : List ℕ). text_with_header xs blocks) (sym keeps.header_is)
 
 -- those that wait are served among the instances
-all-served : (s : Schema) (limits : Limits) (given : List Statement) (kept : Kept) (keeps : Keeps s limits given kept) → Each (λ (r : Reference). IsServedBy s kept.stored r.1) kept.waiting → Each (λ (r : Reference). IsServed s (entity_sets_in (entries_in keeps.groups)) r.1) kept.waiting
+pub all-served : (s : Schema) (limits : Limits) (given : List Statement) (kept : Kept) (keeps : Keeps s limits given kept) → Each (λ (r : Reference). IsServedBy s kept.stored r.1) kept.waiting → Each (λ (r : Reference). IsServed s (entity_sets_in (entries_in keeps.groups)) r.1) kept.waiting
 all-served s limits given kept keeps served = Each-weaker (λ (r : Reference). IsServedBy s kept.stored r.1) (λ (r : Reference). IsServed s (entity_sets_in (entries_in keeps.groups)) r.1)
     (λ r it. stored-serves s kept.lines keeps.groups kept.stored keeps.store r.1 it.0 it.1 it.2 it.3) kept.waiting served
 
@@ -314,20 +311,21 @@ keeps-file s formed limits bytes given kept keeps t text is_file same tokens tok
 pub keeps-lines : KeptHasLines
 keeps-lines s limits given kept keeps =
     let groups : List SectionEntries = keeps.groups in
-    let full = length-map (numbered_entries_in groups) (stored_of true) in
+    let full = length-map (numbered_entries_in groups) (stored_of with_lines) in
     let own = length-map (numbered_entries_in groups) (stored_of kept.lines) in
     let many = length_permutation (stored_in kept.lines groups) kept.stored keeps.store in (
-      stored_in true groups,
+      stored_in with_lines groups,
       record {
         groups = groups;
         unrefused = keeps.unrefused;
         header_is = keeps.header_is;
         headings_are = keeps.headings_are;
-        store = IsPermutation-refl (stored_in true groups);
+        store = IsPermutation-refl (stored_in with_lines groups);
         waits = keeps.waits;
         references_are = keeps.references_are;
         bytes_are = keeps.bytes_are;
         framing_is = keeps.framing_is;
+        equal_is = (λ up. Each-of_members (λ (e : Entry). IsAmongEarlier with_lines (e.name, e.text)) (entries_in groups) (λ e among. tt), λ each. refl);
       },
       omega (arith, full, own, many),
     )

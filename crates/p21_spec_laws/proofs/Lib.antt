@@ -57,5 +57,6 @@ pub mod Rising
 pub mod Holding
 pub mod Storing
 pub mod Keeps
+pub mod Beside
 pub mod Fitting
 pub mod Output

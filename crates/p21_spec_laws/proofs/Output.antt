@@ -20,8 +20,8 @@ use Rattle.p21_spec_laws.proofs.Growth.{names-of_unrefused}
 use Rattle.p21_spec_laws.proofs.Storing.{numbered-entries}
 use Rattle.p21_spec_laws.specs.UnrefusedStatements.{numbered_entries_in}
 use Rattle.p21_spec_laws.specs.Keeping.{IsBlockAt}
-use Rattle.p21_spec_laws.specs.OutputLaws.{BlocksBySections, StoredNamesDiffer, LinesBySection, lines_of, stored_at}
-use Rattle.p21_spec_laws.specs.Stored.{StoredEntry, stored_in, stored_of}
+use Rattle.p21_spec_laws.specs.OutputLaws.{BlocksBySections, StoredNamesDiffer, LinesBySection, stored_at}
+use Rattle.p21_spec_laws.specs.Stored.{KeptLines, StoredEntry, lines_of, stored_in, stored_of}
 use Rattle.p21_spec_exchange.specs.DataSection.{Heading}
 use Rattle.p21_spec_basics.proofs.Comparing.{nat_eq-turned}
 
@@ -33,7 +33,7 @@ names_of stored = map (λ (x : StoredEntry). x.name) stored
 names-shuffled : (xs ys : List StoredEntry) → IsPermutation xs ys → IsDistinct nat_eq (names_of xs) → IsDistinct nat_eq (names_of ys)
 names-shuffled xs ys are differ = IsDistinct-IsPermutation nat_eq nat_eq-turned (names_of xs) (names_of ys) (IsPermutation-map (λ (x : StoredEntry). x.name) xs ys are) differ
 
-stored-names : (lines : Bool) (ps : List (ℕ × Entry)) → names_of (map (stored_of lines) ps) ≡ map (λ (e : Entry). e.name) (map (λ (p : ℕ × Entry). p.1) ps)
+stored-names : (lines : KeptLines) (ps : List (ℕ × Entry)) → names_of (map (stored_of lines) ps) ≡ map (λ (e : Entry). e.name) (map (λ (p : ℕ × Entry). p.1) ps)
 stored-names lines [] = refl
 stored-names lines (p ∷ ps) = ap (λ (ns : List ℕ). p.1.name ∷ ns) (stored-names lines ps)
 

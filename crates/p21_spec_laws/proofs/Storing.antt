@@ -1,5 +1,5 @@
 -- The instances that were taken, as a store keeps them, in whatever order.
-use Rattle.std.specs.Prelude.{◌≡◌, ℕ, Bool, true, suc, zero, ◌+◌, List, [], ◌∷◌, ◌++◌, map, length, Contains, refl, sum_by, slice_get, Some}
+use Rattle.std.specs.Prelude.{◌≡◌, ℕ, suc, zero, ◌+◌, List, [], ◌∷◌, ◌++◌, map, length, Contains, refl, sum_by, slice_get, Some}
 use Rattle.std.specs.List.{flat_map, AllByRecursion as Each}
 use Rattle.std.specs.List.Sorted.{IsPermutation}
 use Rattle.std.proofs.Common.{arith, ap, sym, subst, ◌∙◌, inl, inr}
@@ -13,7 +13,7 @@ use Rattle.p21_spec_laws.proofs.Growing.{numbered-by_entry, numbered-by_line}
 use Rattle.p21_spec_laws.proofs.Waits.{served-by_entry}
 use Rattle.p21_spec_laws.specs.UnrefusedStatements.{numbered_entries_from, numbered_entries_in}
 use Rattle.p21_spec_laws.specs.Offending.{unfit, unknown}
-use Rattle.p21_spec_laws.specs.Stored.{IsBlockOf, StoredEntry, stored_in, stored_of}
+use Rattle.p21_spec_laws.specs.Stored.{IsBlockOf, KeptLines, StoredEntry, stored_in, stored_of, with_lines}
 use Rattle.p21_spec_laws.specs.StoredLaws.{BlocksOfSections, UnstoredNameIsOfNoInstance, UnstoredTargetIsUnknown, StoreAtStart, StoreByEntry, StoreBySectionLine, StoredIsEntry, StoredTargetIsUnfit, StoredLines, StoredTargetServes, StoredSize}
 use Rattle.p21_spec_exchange.specs.DataSection.{AreHeadings, Heading, IsNamed, named, unnamed}
 use Rattle.p21_spec_file.specs.Reference.{Serves}
@@ -35,7 +35,7 @@ pub numbered-entries : (groups : List SectionEntries) → map (λ (p : ℕ × En
 numbered-entries groups = numbered-from_entries 0 groups
 
 -- each has the number of its section
-numbered-from_section : (n : ℕ) (groups : List SectionEntries) (k : ℕ) (g : SectionEntries) (e : Entry) → slice_get groups k ≡ Some g → Contains g.entries e → Contains (numbered_entries_from n groups) (n + k, e)
+pub numbered-from_section : (n : ℕ) (groups : List SectionEntries) (k : ℕ) (g : SectionEntries) (e : Entry) → slice_get groups k ≡ Some g → Contains g.entries e → Contains (numbered_entries_from n groups) (n + k, e)
 numbered-from_section n [] k g e at among = cc
 numbered-from_section n (h ∷ gs) zero g e at among =
     let same : h ≡ g = cc in
@@ -48,7 +48,7 @@ numbered-from_section n (h ∷ gs) (suc k) g e at among =
     let Q : ℕ → Type 0 = λ m. Contains (numbered_entries_from n (h ∷ gs)) (m, e) in
     subst Q number (Contains-append_right (map (λ (x : Entry). (n, x)) h.entries) (numbered_entries_from (suc n) gs) (suc n + k, e) (numbered-from_section (suc n) gs k g e at among))
 
-section-numbered_from : (n : ℕ) (groups : List SectionEntries) (m : ℕ) (e : Entry) → Contains (numbered_entries_from n groups) (m, e) → (k : ℕ) × (g : SectionEntries) × (m ≡ n + k) × (slice_get groups k ≡ Some g) × Contains g.entries e
+pub section-numbered_from : (n : ℕ) (groups : List SectionEntries) (m : ℕ) (e : Entry) → Contains (numbered_entries_from n groups) (m, e) → (k : ℕ) × (g : SectionEntries) × (m ≡ n + k) × (slice_get groups k ≡ Some g) × Contains g.entries e
 section-numbered_from n [] m e among = absurd (Contains-none (m, e) among)
 section-numbered_from n (h ∷ gs) m e among = elim (Contains-append_cases (map (λ (x : Entry). (n, x)) h.entries) (numbered_entries_from (suc n) gs) (m, e) among) [
   | inl found ↦ (
@@ -81,7 +81,7 @@ store-by_entry lines groups old new store number entry last added =
 -- ---- what is found in it
 
 -- what is kept is of a numbered instance
-stored-numbered : (lines : Bool) (groups : List SectionEntries) (kept : List StoredEntry) → IsPermutation (stored_in lines groups) kept → (x : StoredEntry) → Contains kept x → (p : ℕ × Entry) × Contains (numbered_entries_in groups) p × (stored_of lines p ≡ x)
+pub stored-numbered : (lines : KeptLines) (groups : List SectionEntries) (kept : List StoredEntry) → IsPermutation (stored_in lines groups) kept → (x : StoredEntry) → Contains kept x → (p : ℕ × Entry) × Contains (numbered_entries_in groups) p × (stored_of lines p ≡ x)
 stored-numbered lines groups kept store x among = Contains-unmapped (stored_of lines) (numbered_entries_in groups) x (Contains-permutation kept (stored_in lines groups) x (IsPermutation-sym (stored_in lines groups) kept store) among)
 
 numbered-entry : (groups : List SectionEntries) (p : ℕ × Entry) → Contains (numbered_entries_in groups) p → Contains (entries_in groups) p.1
@@ -93,7 +93,7 @@ stored-entry lines groups kept store x among =
     (p.1, numbered-entry groups p at, ap (λ (y : StoredEntry). y.name) is, ap (λ (y : StoredEntry). y.entities) is, ap (λ (y : StoredEntry). y.text) is)
 
 -- an instance is kept under its number
-entry-stored : (lines : Bool) (groups : List SectionEntries) (kept : List StoredEntry) → IsPermutation (stored_in lines groups) kept → (e : Entry) → Contains (entries_in groups) e → (x : StoredEntry) × Contains kept x × (x.name ≡ e.name)
+entry-stored : (lines : KeptLines) (groups : List SectionEntries) (kept : List StoredEntry) → IsPermutation (stored_in lines groups) kept → (e : Entry) → Contains (entries_in groups) e → (x : StoredEntry) × Contains kept x × (x.name ≡ e.name)
 entry-stored lines groups kept store e among =
     let P : List Entry → Type 0 = λ es. Contains es e in
     let (p, at, is) = Contains-unmapped (λ (q : ℕ × Entry). q.1) (numbered_entries_in groups) e (subst P (sym (numbered-entries groups)) among) in
@@ -106,16 +106,16 @@ none-stored lines groups kept store name none among =
     let P : ℕ → Type 0 = λ n. Contains (map (λ (y : StoredEntry). y.name) kept) n in
     none (subst P (same ∙ is) (Contains-mapped (λ (y : StoredEntry). y.name) kept x at_x))
 
-texts-size : (ps : List (ℕ × Entry)) → sum_by (λ (x : StoredEntry). length x.text) (map (stored_of true) ps) ≡ sum_by (λ (e : Entry). length e.text) (map (λ (p : ℕ × Entry). p.1) ps)
+texts-size : (ps : List (ℕ × Entry)) → sum_by (λ (x : StoredEntry). length x.text) (map (stored_of with_lines) ps) ≡ sum_by (λ (e : Entry). length e.text) (map (λ (p : ℕ × Entry). p.1) ps)
 texts-size [] = refl
 texts-size (p ∷ ps) =
-    let one = sum_by-cons (λ (x : StoredEntry). length x.text) (stored_of true p) (map (stored_of true) ps) in
+    let one = sum_by-cons (λ (x : StoredEntry). length x.text) (stored_of with_lines p) (map (stored_of with_lines) ps) in
     let two = sum_by-cons (λ (e : Entry). length e.text) p.1 (map (λ (q : ℕ × Entry). q.1) ps) in
     let rest = texts-size ps in
     omega (arith, one, two, rest)
 
 pub stored-size : StoredSize
-stored-size groups kept store = sum_by-IsPermutation (λ (x : StoredEntry). length x.text) (stored_in true groups) kept store ∙ texts-size (numbered_entries_in groups) ∙ ap (sum_by (λ (e : Entry). length e.text)) (numbered-entries groups)
+stored-size groups kept store = sum_by-IsPermutation (λ (x : StoredEntry). length x.text) (stored_in with_lines groups) kept store ∙ texts-size (numbered_entries_in groups) ∙ ap (sum_by (λ (e : Entry). length e.text)) (numbered-entries groups)
 
 pub stored-serves : StoredTargetServes
 stored-serves s lines groups kept store need x among name serves =
@@ -140,7 +140,7 @@ stored-lines groups kept store number g at lines (onto, back) l = (to, from)
     to : Contains lines l → Contains (lines_in g.entries) l
     to among =
         let (x, at_x, section_, is) = back l among in
-        let (p, at_p, is_p) = stored-numbered true groups kept store x at_x in
+        let (p, at_p, is_p) = stored-numbered with_lines groups kept store x at_x in
         let (k, h, number_, at_h, at_e) = section-numbered_from 0 groups p.0 p.1 at_p in
         let section_is : p.0 ≡ x.section = ap (λ (y : StoredEntry). y.section) is_p in
         let same : k ≡ number = omega (arith, number_, section_is, section_) in
@@ -155,9 +155,9 @@ stored-lines groups kept store number g at lines (onto, back) l = (to, from)
         let (e, at_e, is) = Contains-unmapped {Y = Line} (λ (y : Entry). (y.name, y.text)) g.entries l among in
         let zero_ : 0 + number ≡ number = omega arith in
         let found = numbered-from_section 0 groups number g e at at_e in
-        let x : StoredEntry = stored_of true (0 + number, e) in
+        let x : StoredEntry = stored_of with_lines (0 + number, e) in
         let L : Line → Type 0 = λ y. Contains lines y in
-        subst L is (onto x (Contains-permutation (stored_in true groups) kept x store (Contains-mapped (stored_of true) (numbered_entries_in groups) (0 + number, e) found)) zero_)
+        subst L is (onto x (Contains-permutation (stored_in with_lines groups) kept x store (Contains-mapped (stored_of with_lines) (numbered_entries_in groups) (0 + number, e) found)) zero_)
 
 are-headings : (hs gs : List Heading) → AreHeadings gs → length hs ≡ length gs → ((h : Heading) → Contains hs h → Contains gs h) → AreHeadings hs
 are-headings hs [] are size onto = absurd are

@@ -1,12 +1,12 @@
 -- What a session keeps of the statements that it has taken, apart from how it is laid out in memory.
-use Rattle.std.specs.Prelude.{◌≡◌, ◌+◌, ◌⊎◌, ℕ, Bool, true, false, List, [], ◌∷◌, ◌++◌, map, length, slice_get, Some, Contains}
+use Rattle.std.specs.Prelude.{◌≡◌, ◌+◌, ◌⊎◌, ◌↔◌, ℕ, Bool, true, IsTrue, List, [], ◌∷◌, ◌++◌, map, length, slice_get, Some, Contains}
 use Rattle.std.specs.List.{flat_map, AllByRecursion as Each}
 use Rattle.p21_spec_basics.specs.Limits.{Limits}
 use Rattle.p21_spec_laws.specs.CompleteFile.{AreLinesRising, Block, Entry, SectionEntries, block_bytes, block_headings, entries_in}
 use Rattle.p21_spec_laws.specs.SizeLaws.{framing}
 use Rattle.p21_spec_laws.specs.Among.{parts_among}
 use Rattle.p21_spec_laws.specs.UnrefusedStatements.{AreUnrefused, canonical_size}
-use Rattle.p21_spec_laws.specs.Stored.{AreLinesOf, IsStore, StoredEntry}
+use Rattle.p21_spec_laws.specs.Stored.{AreLinesOf, IsAmongEarlier, IsStore, KeptLines, StoredEntry, with_lines, without_lines}
 use Rattle.p21_spec_laws.specs.Waiting.{IsWaiting, Reference, references_in}
 use Rattle.p21_spec_exchange.specs.CanonicalText.{line, statement_text}
 use Rattle.p21_spec_exchange.specs.DataSection.{Heading}
@@ -16,11 +16,12 @@ use Rattle.p21_spec_file.specs.Canonical.{AreSectionsRising}
 use Rattle.p21_spec_file.specs.Reference.{Need, Serves}
 use Rattle.p21_spec_schema.specs.Schema.{Schema}
 
--- Whether the lines of instances are kept; the bytes of the canonical lines of the header records, each with its LF; the headings
+-- What is kept of the lines of instances, and whether each is one of the earlier file, if there is one; the bytes of the canonical lines of the header records, each with its LF; the headings
 -- of the data sections; the instances, in whatever order; the references that wait, and how many there are at all; the bytes of
 -- canonical header records and instances; and those of section lines, with an LF for each other line
 pub record Kept : Type 0 where
-  pub lines : Bool
+  pub lines : KeptLines
+  pub equal : Bool
   pub header : List ℕ
   pub headings : List Heading
   pub stored : List StoredEntry
@@ -29,12 +30,15 @@ pub record Kept : Type 0 where
   pub bytes : ℕ
   pub framing : ℕ
 
--- nothing taken, where lines will be kept, and where they won't
+-- nothing taken, where this will be kept of lines
+abbrev pub nothing_with : KeptLines → Kept
+nothing_with lines = record { lines = lines; equal = true; header = []; headings = []; stored = []; waiting = []; references = 0; bytes = 0; framing = 0 }
+
 abbrev pub nothing_kept : Kept
-nothing_kept = record { lines = true; header = []; headings = []; stored = []; waiting = []; references = 0; bytes = 0; framing = 0 }
+nothing_kept = nothing_with with_lines
 
 abbrev pub nothing_counted : Kept
-nothing_counted = record nothing_kept { lines = false }
+nothing_counted = nothing_with without_lines
 
 -- ---- what each statement adds
 
@@ -48,10 +52,10 @@ keep_section_line kept line_ = record kept { headings = headings_behind kept.hea
 abbrev pub keep_header : Kept → Part → Kept
 keep_header kept part = record kept { header = kept.header ++ line (header part); bytes = kept.bytes + length (statement_text (header part)); framing = kept.framing + 1 }
 
--- an instance, with its needs that wait
-abbrev pub keep_instance : Kept → Entry → List Need → List StoredEntry → Kept
-keep_instance kept entry added stored =
-    record kept { stored = stored; waiting = kept.waiting ++ map (λ (need : Need). (entry.name, need)) added; references = kept.references + length entry.needs; bytes = kept.bytes + length entry.text; framing = kept.framing + 1 }
+-- an instance, with its needs that wait, and whether its line and those before it are lines of the earlier file
+abbrev pub keep_instance : Kept → Entry → List Need → List StoredEntry → Bool → Kept
+keep_instance kept entry added stored equal =
+    record kept { equal = equal; stored = stored; waiting = kept.waiting ++ map (λ (need : Need). (entry.name, need)) added; references = kept.references + length entry.needs; bytes = kept.bytes + length entry.text; framing = kept.framing + 1 }
 
 -- ---- the relation
 
@@ -66,6 +70,7 @@ pub record Keeps (s : Schema) (limits : Limits) (given : List Statement) (kept :
   pub references_are : kept.references ≡ length (references_in (entries_in groups))
   pub bytes_are : kept.bytes ≡ canonical_size given groups
   pub framing_is : kept.framing ≡ framing given
+  pub equal_is : IsTrue kept.equal ↔ Each (λ (e : Entry). IsAmongEarlier kept.lines (e.name, e.text)) (entries_in groups)
 
 -- the need is served by what is stored
 abbrev pub IsServedBy : Schema → List StoredEntry → Need → Type 0

@@ -1,14 +1,14 @@
 -- The laws of what a session keeps: each statement more, each refusal, and the end of the file.
-use Rattle.std.specs.Prelude.{◌≡◌, ◌≤◌, ◌<◌, ◌+◌, ◌⊎◌, ℕ, true, suc, List, [], ◌∷◌, ◌++◌, map, length, Contains}
+use Rattle.std.specs.Prelude.{◌≡◌, ◌≤◌, ◌<◌, ◌+◌, ◌⊎◌, ◌↔◌, ℕ, Bool, true, suc, List, [], ◌∷◌, ◌++◌, map, length, Contains, IsTrue}
 use Rattle.std.specs.List.{flat_map, AllByRecursion as Each}
 use Rattle.std.specs.List.Sorted.{IsPermutation}
 use Rattle.p21_spec_basics.specs.Limits.{Limits}
 use Rattle.p21_spec_laws.specs.CompleteFile.{Block, Entry}
 use Rattle.p21_spec_laws.specs.Taken.{names_among, section_names_among}
 use Rattle.p21_spec_laws.specs.UnrefusedStatements.{IsFitting, IsFound}
-use Rattle.p21_spec_laws.specs.Keeping.{AreBlocksOf, IsServedBy, IsServedByNone, Keeps, Kept, nothing_counted, nothing_kept, text_with_header, keep_header, keep_instance, keep_section_line}
+use Rattle.p21_spec_laws.specs.Keeping.{AreBlocksOf, IsServedBy, IsServedByNone, Keeps, Kept, nothing_with, text_with_header, keep_header, keep_instance, keep_section_line}
 use Rattle.p21_spec_laws.specs.Offending.{HasFileSize}
-use Rattle.p21_spec_laws.specs.Stored.{StoredEntry, stored_of}
+use Rattle.p21_spec_laws.specs.Stored.{IsAmongEarlier, KeptLines, StoredEntry, stored_of, with_lines}
 use Rattle.p21_spec_laws.specs.Waiting.{Reference}
 use Rattle.p21_spec_exchange.specs.CanonicalText.{statement_text}
 use Rattle.p21_spec_exchange.specs.DataSection.{section_names}
@@ -29,10 +29,7 @@ use Rattle.p21_spec_schema.specs.WellFormed.{IsWellFormed}
 -- ---- one statement more
 
 abbrev pub KeepsAtStart : Type 0
-KeepsAtStart = (s : Schema) (limits : Limits) → Keeps s limits [] nothing_kept
-
-abbrev pub CountsAtStart : Type 0
-CountsAtStart = (s : Schema) (limits : Limits) → Keeps s limits [] nothing_counted
+KeepsAtStart = (s : Schema) (limits : Limits) (lines : KeptLines) → Keeps s limits [] (nothing_with lines)
 
 -- a section line that fits, under no name that stands before it
 abbrev pub KeepsBySectionLine : Type 0
@@ -50,8 +47,9 @@ KeepsByHeader = (s : Schema) (limits : Limits) (given : List Statement) (kept : 
 abbrev pub KeepsByInstance : Type 0
 KeepsByInstance = (s : Schema) (limits : Limits) (given : List Statement) (kept : Kept) → Keeps s limits given kept → (entry : Entry) → IsFound s limits entry → ¬ Contains (map (λ (x : StoredEntry). x.name) kept.stored) entry.name
     → (added : List Need) → Each (Contains entry.needs) added → Each (λ (need : Need). Contains added need ⊎ IsServedBy s kept.stored need) entry.needs
-    → (number : ℕ) → suc number ≡ length kept.headings → (stored : List StoredEntry) → IsPermutation (stored_of kept.lines (number, entry) ∷ kept.stored) stored → kept.bytes + kept.framing + (length entry.text + 1) ≤ limits.file_canonical
-    → Keeps s limits (given ++ (instance entry.name entry.record_ ∷ [])) (keep_instance kept entry added stored)
+    → (number : ℕ) → suc number ≡ length kept.headings → (stored : List StoredEntry) → IsPermutation (stored_of kept.lines (number, entry) ∷ kept.stored) stored
+    → (equal : Bool) → IsTrue equal ↔ (IsTrue kept.equal × IsAmongEarlier kept.lines (entry.name, entry.text)) → kept.bytes + kept.framing + (length entry.text + 1) ≤ limits.file_canonical
+    → Keeps s limits (given ++ (instance entry.name entry.record_ ∷ [])) (keep_instance kept entry added stored equal)
 
 -- an instance of a tree stands in a section
 abbrev pub KeepsSectionOfInstance : Type 0
@@ -89,7 +87,7 @@ KeepsFewReferences = (s : Schema) (limits : Limits) (given : List Statement) (ke
 abbrev pub KeptIsAccepted : Type 0
 KeptIsAccepted = (s : Schema) → IsWellFormed s → (limits : Limits) (bytes : List ℕ) (given : List Statement) (kept : Kept) → Keeps s limits given kept → (structure : Structure) (text : List ℕ) → IsFile structure text → statements structure ≡ given
     → (tokens : List Token) → tokens_of structure ≡ tokens → (laid : Laid bytes tokens) → AreStatementsWithin limits.record_source 0 laid.lexemes → length bytes ≤ limits.file_source
-    → Each (λ (r : Reference). IsServedBy s kept.stored r.1) kept.waiting → kept.lines ≡ true → (blocks : List Block) → AreBlocksOf kept blocks → IsCanonicalFile s limits bytes (text_with_header kept.header blocks)
+    → Each (λ (r : Reference). IsServedBy s kept.stored r.1) kept.waiting → kept.lines ≡ with_lines → (blocks : List Block) → AreBlocksOf kept blocks → IsCanonicalFile s limits bytes (text_with_header kept.header blocks)
 
 -- whether lines are kept or not, there are blocks that are their canonical file, of as many bytes as are counted
 abbrev pub KeptHasCanonicalFile : Type 0
@@ -99,9 +97,9 @@ KeptHasCanonicalFile = (s : Schema) → IsWellFormed s → (limits : Limits) (by
 
 -- as many instances as are stored have lines, which might be kept
 abbrev pub KeptHasLines : Type 0
-KeptHasLines = (s : Schema) (limits : Limits) (given : List Statement) (kept : Kept) → Keeps s limits given kept → (stored : List StoredEntry) × Keeps s limits given (record kept { lines = true; stored = stored }) × (length stored ≡ length kept.stored)
+KeptHasLines = (s : Schema) (limits : Limits) (given : List Statement) (kept : Kept) → Keeps s limits given kept → (stored : List StoredEntry) × Keeps s limits given (record kept { lines = with_lines; equal = true; stored = stored }) × (length stored ≡ length kept.stored)
 
 -- the file of the lines that are kept has as many bytes as are counted
 abbrev pub KeptTextSize : Type 0
-KeptTextSize = (s : Schema) (limits : Limits) (given : List Statement) (kept : Kept) → Keeps s limits given kept → (structure : Structure) (text : List ℕ) → IsFile structure text → statements structure ≡ given → kept.lines ≡ true → (blocks : List Block) → AreBlocksOf kept blocks
+KeptTextSize = (s : Schema) (limits : Limits) (given : List Statement) (kept : Kept) → Keeps s limits given kept → (structure : Structure) (text : List ℕ) → IsFile structure text → statements structure ≡ given → kept.lines ≡ with_lines → (blocks : List Block) → AreBlocksOf kept blocks
     → length (text_with_header kept.header blocks) ≡ kept.bytes + kept.framing

@@ -22,6 +22,7 @@ pub mod UnrefusedStatements
 pub mod UnrefusedLaws
 pub mod Keeping
 pub mod KeepingLaws
+pub mod Beside
 pub mod OffenderLaws
 pub mod OutputLaws
 pub mod Offending

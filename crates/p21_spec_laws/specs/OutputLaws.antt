@@ -7,6 +7,7 @@ use Rattle.p21_spec_basics.specs.Limits.{Limits}
 use Rattle.p21_spec_laws.specs.CompleteFile.{AreLinesRising, Block, Line, block_headings}
 use Rattle.p21_spec_laws.specs.Keeping.{AreBlocksOf, IsBlockAt, Keeps, Kept}
 use Rattle.p21_spec_laws.specs.Stored.{AreLinesOf, StoredEntry}
+pub use Rattle.p21_spec_laws.specs.Stored.{lines_of}
 use Rattle.p21_spec_exchange.specs.Statement.{Statement}
 use Rattle.p21_spec_file.specs.Canonical.{AreSectionsRising}
 use Rattle.p21_spec_schema.specs.Schema.{Schema}
@@ -18,9 +19,6 @@ StoredNamesDiffer = (s : Schema) (limits : Limits) (given : List Statement) (kep
 -- what is stored of one section
 abbrev pub stored_at : ℕ → List StoredEntry → List StoredEntry
 stored_at number stored = filter (λ (x : StoredEntry). nat_eq x.section number) stored
-
-abbrev pub lines_of : List StoredEntry → List Line
-lines_of stored = map (λ (x : StoredEntry). (x.name, x.text)) stored
 
 -- its lines by rising names
 abbrev pub LinesBySection : Type 0

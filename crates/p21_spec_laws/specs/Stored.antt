@@ -1,8 +1,9 @@
 -- The instances that were taken, as a store keeps them, in whatever order.
-use Rattle.std.specs.Prelude.{◌≡◌, ℕ, Bool, true, false, List, [], map, Contains}
+use Rattle.std.specs.Prelude.{◌≡◌, ℕ, List, [], map, Contains}
 use Rattle.std.specs.List.Sorted.{IsPermutation}
 use Rattle.p21_spec_laws.specs.CompleteFile.{Block, Entry, SectionEntries, Line, lines_in}
 use Rattle.p21_spec_laws.specs.UnrefusedStatements.{numbered_entries_in}
+use Rattle.p21_spec_exchange.specs.DataSection.{Heading}
 use Rattle.p21_spec_file.specs.SameFile.{HaveSameMembers}
 
 -- the name of an instance, the number of its section counted from the first, its set of entities, and its canonical text, which
@@ -13,19 +14,43 @@ pub record StoredEntry : Type 0 where
   pub entities : List ℕ
   pub text : List ℕ
 
--- what is kept of a text
-abbrev pub kept_text : Bool → List ℕ → List ℕ
-kept_text true text = text
-kept_text false text = []
+abbrev pub lines_of : List StoredEntry → List Line
+lines_of stored = map (λ (x : StoredEntry). (x.name, x.text)) stored
 
-abbrev pub stored_of : Bool → ℕ × Entry → StoredEntry
+-- what is kept of an earlier file: the bytes of its header lines, the headings of its data sections, and its instances with their
+-- lines
+pub record Earlier : Type 0 where
+  pub header : List ℕ
+  pub headings : List Heading
+  pub stored : List StoredEntry
+
+-- what is kept of the lines of instances: each line; none, where they are counted; or none, where each is held against those of an
+-- earlier file
+pub data KeptLines : Type 0 where
+  with_lines : KeptLines
+  without_lines : KeptLines
+  beside : Earlier → KeptLines
+
+-- what is kept of a text
+abbrev pub kept_text : KeptLines → List ℕ → List ℕ
+kept_text with_lines text = text
+kept_text without_lines text = []
+kept_text (beside earlier) text = []
+
+-- a line is one of the earlier file, if there is one
+abbrev pub IsAmongEarlier : KeptLines → Line → Type 0
+IsAmongEarlier with_lines l = Unit {0}
+IsAmongEarlier without_lines l = Unit {0}
+IsAmongEarlier (beside earlier) l = Contains (lines_of earlier.stored) l
+
+abbrev pub stored_of : KeptLines → ℕ × Entry → StoredEntry
 stored_of lines numbered = record { name = numbered.1.name; section = numbered.0; entities = numbered.1.meaning.entities; text = kept_text lines numbered.1.text }
 
-abbrev pub stored_in : Bool → List SectionEntries → List StoredEntry
+abbrev pub stored_in : KeptLines → List SectionEntries → List StoredEntry
 stored_in lines groups = map (stored_of lines) (numbered_entries_in groups)
 
 -- these are kept of the instances of the sections, with their lines or without, each once, in whatever order
-abbrev pub IsStore : Bool → List SectionEntries → List StoredEntry → Type 0
+abbrev pub IsStore : KeptLines → List SectionEntries → List StoredEntry → Type 0
 IsStore lines groups kept = IsPermutation (stored_in lines groups) kept
 
 -- the lines of the section of this number

@@ -1,7 +1,8 @@
 //! The laws by which a streaming session is right, from the definitions alone.
 ghost use Rattle.p21_spec_laws.specs.FittingLaws.{FitsBySchemaText, FitsWithNoSchemaText, SchemaNameAtEnd, SchemaNameByCharacter, SchemaNameNoLonger, SchemaNameUpToOther};
 ghost use Rattle.p21_spec_laws.specs.UnrefusedLaws.{FramingAdds, SectionCountOfUnrefused, UnrefusedAtStart, UnrefusedByHeader, UnrefusedByInstance, UnrefusedBySectionLine, InstanceInSection, InstancesBeforeAndInSections, CanonicalSizeAdds, CanonicalSizeOfUnrefused, NamesOfUnrefused, NumberedByEntry, NumberedBySectionLine, PartsOfTree, SectionsByHeader, SectionsByInstance, SectionsBySectionLine, SectionsOfTree, SizeByHeader, SizeByInstance, SizeBySectionLine, StatementsTellTree};
-ghost use Rattle.p21_spec_laws.specs.KeepingLaws.{CountsAtStart, KeptHasCanonicalFile, KeptHasLines, KeepsAtStart, KeepsByHeader, KeepsByInstance, KeepsBySectionLine, KeepsFewReferences, KeptIsAccepted, KeptIsHeld, KeepsInstanceNames, KeepsSectionOfInstance, KeepsSectionNames, KeepsFileSize, KeptTextSize, KeptUnservedIsNotAccepted};
+ghost use Rattle.p21_spec_laws.specs.KeepingLaws.{KeptHasCanonicalFile, KeptHasLines, KeepsAtStart, KeepsByHeader, KeepsByInstance, KeepsBySectionLine, KeepsFewReferences, KeptIsAccepted, KeptIsHeld, KeepsInstanceNames, KeepsSectionOfInstance, KeepsSectionNames, KeepsFileSize, KeptTextSize, KeptUnservedIsNotAccepted};
+ghost use Rattle.p21_spec_laws.specs.Beside.{KeptTellSame};
 ghost use Rattle.p21_spec_laws.specs.OffenderLaws.{GivenStatementsAreTaken, UnrefusedHaveFileSize, NoFilePrefixIsDead, OffendingStatementIsDead, UnlayableIsDead};
 ghost use Rattle.p21_spec_laws.specs.OutputLaws.{BlocksBySections, StoredNamesDiffer, LinesBySection};
 ghost use Rattle.p21_spec_laws.specs.StoredLaws.{BlocksOfSections, UnstoredNameIsOfNoInstance, UnstoredTargetIsUnknown, StoreAtStart, StoreByEntry, StoreBySectionLine, StoredIsEntry, StoredTargetIsUnfit, StoredLines, StoredTargetServes, StoredSize};
@@ -109,7 +110,6 @@ pub fn held_laws()
 /// What a session keeps: at the start, with each statement more, for each refusal, before the end and at it.
 pub fn keeping_laws()
     ensures at_start { KeepsAtStart }
-    ensures counts_at_start { CountsAtStart }
     ensures by_line { KeepsBySectionLine }
     ensures by_header { KeepsByHeader }
     ensures by_instance { KeepsByInstance }
@@ -124,6 +124,7 @@ pub fn keeping_laws()
     ensures text_size { KeptTextSize }
     ensures has_file { KeptHasCanonicalFile }
     ensures has_lines { KeptHasLines }
+    ensures tell_same { KeptTellSame }
 {}
 
 /// The lines that are written of each section, and blocks of them.
