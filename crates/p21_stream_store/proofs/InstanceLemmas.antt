@@ -1,14 +1,12 @@
 -- Instances among those that are stored.
-use Rattle.std.proofs.Common.{◌≡◌, ◌+◌, ◌-◌, ◌<◌, ◌≤◌, ℕ, zero, suc, List, [], ◌∷◌, ◌++◌, length, get_or, Option, Some, inl, inr, refl, sym, ap, subst, ◌∙◌, arith, unwrap_or}
-use Rattle.std.proofs.lemmas.List.{append-nil, append_assoc, get_or-append-add, get_or-append_right, get_or_append_left, length-append, length-map, map-append, nil_from_length}
+use Rattle.std.proofs.Common.{◌≡◌, ◌+◌, ◌-◌, ◌<◌, ◌≤◌, ◌^◌, ℕ, zero, suc, List, [], ◌∷◌, ◌++◌, length, get_or, Some, inl, inr, refl, sym, ap, subst, ◌∙◌, arith}
+use Rattle.std.proofs.lemmas.List.{append_assoc, get_or-append-add, get_or_append_left, length-append, map-append}
 use Rattle.std.proofs.lemmas.List.Elements.{Contains-append_cases, Contains-append_left, Contains-append_right, Contains-push_cases}
 use Rattle.std.proofs.lemmas.List.Sorted.{IsPermutation-middle, IsPermutation-sym, IsPermutation-to_front}
-use Rattle.std.proofs.lemmas.List.FromFn.{get_or-range_with_len, length-range_with_len}
-use Rattle.std.proofs.lemmas.Option.{get_or_from_slice_get, slice_get-get_or, slice_get_within, unwrap_or-slice_get}
-use Rattle.std.specs.List.{Contains, range_with_len, slice_get}
-use Rattle.std.specs.List.Sorted.{IsNonDecreasingBy, IsPermutation, IsStrictlyIncreasing}
+use Rattle.std.proofs.lemmas.Option.{get_or_from_slice_get, slice_get_within}
+use Rattle.std.specs.List.{Contains, slice_get}
+use Rattle.std.specs.List.Sorted.{IsPermutation}
 use Rattle.p21_spec_basics.proofs.Members.{Contains-found, at-behind, at-front}
-use Rattle.p21_spec_basics.proofs.RisingLists.{never-fall}
 use Rattle.p21_stream_store.specs.StoredInstance.{StoredInstance, instance_names, stored_instances, name_at}
 use Rattle.p21_stream_store.specs.Seen.{MayHaveCome}
 
@@ -49,6 +47,14 @@ module _ (rising late : List ℕ) (texts_of_rising texts_of_late : List (ℕ × 
   pub none_found : (n : ℕ) → length rising ≡ length texts_of_rising → length late ≡ length texts_of_late → (Contains rising n → ⊥) → (Contains late n → ⊥) → Contains (instance_names all) n → ⊥
   none_found n e f first second has =
       elim (Contains-append_cases rising late n (subst (λ (l : List ℕ). Contains l n) (names_are e f) has)) [ inl here ↦ first here | inr there ↦ second there ]
+
+  -- 64 bits hold each name
+  pub each_fits : length rising ≡ length texts_of_rising → length late ≡ length texts_of_late → ((name : ℕ) → Contains rising name → name < 2 ^ 64) → ((name : ℕ) → Contains late name → (other : ℕ) × Contains rising other × (name ≤ other))
+      → (n : ℕ) → Contains (instance_names all) n → n < 2 ^ 64
+  each_fits e f fits below n has = elim (Contains-append_cases rising late n (subst (λ (l : List ℕ). Contains l n) (names_are e f) has)) [
+    | inl here ↦ fits n here
+    | inr there ↦ (let found = below n there in let fit = fits found.0 found.1 in let low = found.2 in omega (arith, fit, low))
+  ]
 
   -- a name above all that rose is none of them, and no late one
   pub above_none : (n : ℕ) → length rising ≡ length texts_of_rising → length late ≡ length texts_of_late → ((other : ℕ) → Contains rising other → other < n)
@@ -105,6 +111,10 @@ pub also_below : (rising late : List ℕ) (x : ℕ) → ((name : ℕ) → Contai
 also_below rising late x below within name has =
     let P : ℕ → Type 0 = λ n. (other : ℕ) × Contains rising other × (n ≤ other) in
     elim (Contains-push_cases late x name has) [ inl before ↦ below name before | inr same ↦ subst P same within ]
+
+-- 64 bits hold one name more
+pub also_fits : (names : List ℕ) (x : ℕ) → ((name : ℕ) → Contains names name → name < 2 ^ 64) → x < 2 ^ 64 → (name : ℕ) → Contains (names ++ x ∷ []) name → name < 2 ^ 64
+also_fits names x fits fit name has = elim (Contains-push_cases names x name has) [ inl before ↦ fits name before | inr same ↦ subst (λ (n : ℕ). n < 2 ^ 64) same fit ]
 
 -- each name is still seen
 pub still_seen : (names words new : List ℕ) → ((name : ℕ) → Contains names name → MayHaveCome words name) → ((other : ℕ) → MayHaveCome words other → MayHaveCome new other) → (name : ℕ) → Contains names name → MayHaveCome new name

@@ -1,4 +1,4 @@
-use Rattle.std.proofs.Common.{List, Vec, ap, ◌∙◌, arith}
+use Rattle.std.proofs.Common.{List, ap, ◌∙◌, arith}
 use Rattle.p21_stream_store.proofs.PageLemmas.{number_closed, rooms_more}
 use Rattle.p21_stream_store.specs.Pages.{number_in, rooms}
 use Rattle.p21_stream_store.proofs.pages.add_closed.Goals as goal

@@ -1,4 +1,4 @@
-use Rattle.std.proofs.Common.{◌≡◌, ◌+◌, Bool, MatchBool, Some, length, subst, ◌∙◌}
+use Rattle.std.proofs.Common.{◌≡◌, ◌+◌, Bool, MatchBool, Some, subst, ◌∙◌}
 use Rattle.p21_stream_store.specs.Positions.{Changes, IsSame, position_marked}
 use Rattle.p21_stream_store.proofs.NamedMembershipLemmas.{all-stay, count-stays, no-other, one-noted, one-noted_count, other-added, other-refused}
 use Rattle.p21_stream_store.proofs.named_memberships.NamedMemberships.push.Goals as goal

@@ -8,12 +8,12 @@ returns-clause-set g c = λ none.
     let there : c.args.name / 4096 < length c.args.self.now.pages.items = omega (arith, c.if-number-len.false, c.len.ensures) in
     let again = page_again c.args.self.now.pages.items _ c.index.result.now c.index_mut.result.now there c.index.ensures c.index_mut.ensures.value in
     number_set none c.args.self.now.pages.items c.args.name c.index_mut.result.now there c.index_mut.ensures.value
-    _ c.args.value (omega (arith, c.if-index-len.false, c.len-2.ensures, again)) refl
+    (with_item c.index_mut.result.now (c.args.name % 4096) c.args.value) c.args.value (omega (arith, c.if-index-len.false, c.len-2.ensures, again)) refl
 
 pub returns-clause-others : goal.returns-clause-others
 returns-clause-others g c = λ none other differs.
     number_kept none c.args.self.now.pages.items c.args.name c.index_mut.result.now (omega (arith, c.if-number-len.false, c.len.ensures)) c.index_mut.ensures.value
-    _ c.args.value refl other differs
+    (with_item c.index_mut.result.now (c.args.name % 4096) c.args.value) c.args.value refl other differs
 
 pub returns-clause-room : goal.returns-clause-room
 returns-clause-room g c =
