@@ -15,7 +15,7 @@ use std::marker::Model;
 /// Instances by name, each with its canonical text and the number of its membership.
 pub struct Instances {
     lines: NamedLines,
-    // At each small name one more than the number of its membership, if that is noted, or 0.
+    // At each name one more than the number of its membership, if that is noted, or 0.
     noted: Pages<u8>,
 }
 

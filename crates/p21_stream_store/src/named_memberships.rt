@@ -12,10 +12,10 @@ use p21_values::NoMemory;
 use std::alloc::Global;
 use std::marker::Model;
 
-/// The names of instances, each with the number of its membership and with no text. A small name takes the byte at its number,
-/// whatever order names come in; those that have no byte stand among the others.
+/// The names of instances, each with the number of its membership and with no text. A name takes a byte, whatever order names
+/// come in; those that have no byte stand among the others.
 pub struct NamedMemberships {
-    // At each small name one more than the number of its membership, if that is noted, or 0.
+    // At each name one more than the number of its membership, if that is noted, or 0.
     noted: Pages<u8>,
     // So many names are noted; in 32 bits, so that a sum of counts stays in 64.
     count: u32,

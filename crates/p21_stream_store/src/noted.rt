@@ -1,4 +1,4 @@
-//! The memberships of small names, a byte for each name, so that most references take one look.
+//! The memberships of names, a byte for each, so that most references take one look.
 ghost use Rattle.std.specs.Prelude.{◌≡◌, ◌≤◌, ◌*◌, ℕ, IfOk, MatchBool, OnErr, Some};
 ghost use Rattle.p21_stream_store.specs.Pages.{most_names};
 ghost use Rattle.p21_stream_store.specs.Positions.{Changes, IsSame, position_marked};
