@@ -7,6 +7,7 @@ pub mod Checking
 pub mod Instances
 pub mod Counts
 pub mod Passed
+pub mod PassedInstances
 pub mod Canonicals
 pub mod Claiming
 pub mod Feeding

@@ -1,5 +1,5 @@
 -- Instances that are taken straight from their bytes.
-use Rattle.std.proofs.Common.{◌≡◌, ◌≤◌, ◌-◌, ◌⊎◌, ℕ, suc, List, [], ◌∷◌, ◌++◌, length, take, drop, map, Option, Some, Result, Ok, Err, inl, inr, refl, sym, ap, subst, ◌∙◌, append_assoc, length-append, arith}
+use Rattle.std.proofs.Common.{◌≡◌, ◌≤◌, ◌<◌, ◌-◌, ◌⊎◌, ℕ, zero, suc, List, [], ◌∷◌, ◌++◌, length, take, drop, map, Option, Some, Result, Ok, Err, inl, inr, refl, sym, ap, subst, ◌∙◌, append_assoc, length-append, arith}
 use Rattle.std.proofs.lemmas.List.{append-nil, length-take-le, take-append-drop, take-append-le, take_all}
 use Rattle.std.specs.List.{slice_range}
 use Rattle.p21_spec_basics.proofs.Members.{Each-back, Each-front, some_is}
@@ -141,6 +141,13 @@ tokens-no_separators : (bytes : List ℕ) (lexemes : List Lexeme) (token : Token
 tokens-no_separators bytes [] token tokens is laid are = cc
 tokens-no_separators bytes (lexeme ∷ lexemes) token tokens is (gap, spelling, rest, same, separates, spells, size, followed, more) are =
     not-blank gap spelling rest (subst AreSeparators same are) (spelling_begins lexeme.token spelling spells)
+
+-- what is found has bytes
+pub found-some : (s : Schema) (n count : ℕ) (entities piece text : List ℕ) (needs : List meant.Need) → IsFoundIn s n entities (take count piece) text needs → 0 < count
+found-some s n zero entities piece text needs found =
+    let laid = found.are.laid in
+    absurd (tokens-no_separators [] laid.lexemes (name n) (equals ∷ ((record_tokens found.record_ ++ (semicolon ∷ [])) ++ [])) laid.tokens_are laid.laid tt)
+found-some s n (suc count) entities piece text needs found = omega arith
 
 -- ---- an instance that is passed over
 

@@ -1,5 +1,5 @@
 -- Instances that are taken straight from their bytes.
-use Rattle.std.specs.Prelude.{◌≡◌, ℕ, List, [], ◌∷◌, Option, Some, None, Result, Ok, Err, take}
+use Rattle.std.specs.Prelude.{◌≡◌, ℕ, zero, suc, List, [], ◌∷◌, Option, Some, None, Result, Ok, Err, take}
 use Rattle.p21_spec_basics.specs.Limits.{Limits}
 use Rattle.p21_spec_laws.specs.Keeping.{Kept}
 use Rattle.p21_spec_exchange.specs.Record.{Record}
@@ -38,3 +38,8 @@ abbrev pub PassGives : Schema → Limits → statements.Held → Kept → List �
 PassGives s limits held kept piece (Ok None) next after = (next ≡ held) × (after ≡ kept)
 PassGives s limits held kept piece (Ok (Some count)) next after = StepGives s limits held kept piece (Ok (Some count)) next after
 PassGives s limits held kept piece (Err refusal) next after = StepGives s limits held kept piece (Err refusal) next after
+
+-- so many bytes, where there are some
+abbrev pub some_count : ℕ → Option ℕ
+some_count zero = None
+some_count (suc n) = Some (suc n)

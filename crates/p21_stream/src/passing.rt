@@ -1,11 +1,11 @@
 //! Instances that stand whole at the beginning of a piece, taken straight from their bytes (ISO 10303-21, data sections).
-ghost use Rattle.std.specs.Prelude.{◌≡◌, ◌≤◌, [], length, IfErr, IfSome, IsTrue};
+ghost use Rattle.std.specs.Prelude.{◌≡◌, ◌≤◌, ◌<◌, [], length, IfErr, IfOk, IfSome, IsTrue};
 ghost use Rattle.p21_mapping_values.specs.TypedView.{ids_view};
 ghost use Rattle.p21_spec_schema.specs.Schema.{Schema as Meant};
 ghost use Rattle.p21_stream_statements.specs.Source.{IsOfBytes};
 ghost use Rattle.p21_stream_statements.specs.StatementReader.{limits_of};
 ghost use Rattle.p21_stream_kept.specs.Steps.{StepKeepsBound};
-ghost use Rattle.p21_stream.specs.Passing.{FindsInstance, HasEntities, PassGives};
+ghost use Rattle.p21_stream.specs.Passing.{FindsInstance, HasEntities, PassGives, some_count};
 ghost use Rattle.p21_stream.specs.Pieces.{EndsNoToken, IsUnderWay, NeedsNoMemory, TakesWithinPiece};
 ghost use Rattle.p21_tokens.specs.Histories.{AreSeparators};
 ghost use Rattle.p21_transcribe_instance.specs.Steps.{IsPlanOf};
@@ -41,13 +41,13 @@ pub(crate) enum Set {
 }
 
 impl Progress {
-    /// Takes the instance at the beginning of a piece straight from its bytes, and says how many these are. Where it isn't
-    /// taken so, as much is read and kept as before.
+    /// Takes the instances at the beginning of a piece straight from their bytes, one behind the other, and says how many these
+    /// bytes are. Where none is taken so, as much is read and kept as before.
     ///
     /// # Errors
     ///
-    /// The refusal of its statement, or want of memory for it.
-    pub(crate) fn pass(
+    /// The refusal of the first of their statements that is refused, or want of memory for it.
+    pub(crate) fn pass_instances(
         &mut self,
         schema: &Schema,
         limits: Limits,
@@ -68,10 +68,52 @@ impl Progress {
         ensures plan { IsPlanOf schema.now self.new.plan }
         ensures sets { AreExternalSets schema.now self.new.sets }
     {
-        schema.well_formed();
         if !self.statements.is_between_instances() {
             return Ok(None);
         }
+        let mut count: usize = 0;
+        loop {
+            let passed = match self.pass(schema, limits, &piece[count..]) {
+                Ok(passed) => passed,
+                Err(refusal) => return Err(refusal),
+            };
+            let Some(more) = passed else {
+                return Ok(some_bytes(count));
+            };
+            count += more;
+        }
+    }
+
+    /// Takes the instance at the beginning of a piece straight from its bytes, and says how many these are. Where it isn't
+    /// taken so, as much is read and kept as before.
+    ///
+    /// # Errors
+    ///
+    /// The refusal of its statement, or want of memory for it.
+    #[inline(always)]
+    fn pass(
+        &mut self,
+        schema: &Schema,
+        limits: Limits,
+        piece: &[u8],
+    ) -> Result<Option<usize>, Refusal>
+        requires way { IsUnderWay schema.now limits self.old.statements self.old.kept piece.now }
+        requires plan { IsPlanOf schema.now self.old.plan }
+        requires sets { AreExternalSets schema.now self.old.sets }
+        ensures takes { TakesWithinPiece piece.now result }
+        ensures some { IfOk result (λ passed. IfSome passed (λ count. 0 < count)) }
+        ensures gives { PassGives schema.now limits self.old.statements self.old.kept piece.now result self.new.statements self.new.kept }
+        ensures no_memory { NeedsNoMemory schema.now limits self.old.statements self.old.kept piece.now result }
+        ensures kind { IfErr result (λ refusal. IsOfBytes refusal.fault) }
+        ensures no_token { EndsNoToken schema.now limits self.old.statements self.old.kept piece.now result }
+        ensures bound { StepKeepsBound limits self.old.kept self.new.kept }
+        ensures lines { self.new.kept.lines ≡ self.old.kept.lines }
+        ensures limits { limits_of self.new.statements ≡ limits_of self.old.statements }
+        ensures refused { self.new.refused ≡ self.old.refused }
+        ensures plan { IsPlanOf schema.now self.new.plan }
+        ensures sets { AreExternalSets schema.now self.new.sets }
+    {
+        schema.well_formed();
         let Some(found) = find(
             schema,
             &mut self.plan,
@@ -105,6 +147,14 @@ impl Progress {
             Err(fault) => Err(refused(fault, Some(found.name), self.statement)),
         }
     }
+}
+
+/// How many bytes were passed over, where there are some.
+#[inline(always)]
+fn some_bytes(count: usize) -> Option<usize>
+    ensures { result ≡ some_count count }
+{
+    if count == 0 { None } else { Some(count) }
 }
 
 /// Finds the instance at the beginning of a piece, where it stands there whole and is usual. Its canonical line is the text

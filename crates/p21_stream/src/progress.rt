@@ -203,8 +203,8 @@ impl Progress {
         }
     }
 
-    /// Reads the bytes of a whole instance or of one token, or the rest of a piece in which none is whole; says how many bytes
-    /// where it was an instance or a token.
+    /// Reads the bytes of whole instances or of one token, or the rest of a piece in which none is whole; says how many bytes
+    /// where it was instances or a token.
     ///
     /// # Errors
     ///
@@ -230,7 +230,7 @@ impl Progress {
         ensures plan { IsPlanOf schema.now self.new.plan }
         ensures sets { AreExternalSets schema.now self.new.sets }
     {
-        let passed = match self.pass(schema, limits, piece) {
+        let passed = match self.pass_instances(schema, limits, piece) {
             Ok(passed) => passed,
             Err(refusal) => return Err(refusal),
         };

@@ -21,8 +21,8 @@ fronts-same : (row bytes : List ℕ) (count : ℕ) → length row ≡ 32 → 32 
     → take count row ≡ take count bytes
 fronts-same row bytes count long within before few =
     ext_get_or 0 (take count row) (take count bytes) (of_row ∙ sym of_bytes) (λ i to.
-        (let below : i < count = omega (arith, to, of_row) in
-        get_or-take count row i 0 below ∙ same i below ∙ sym (get_or-take count bytes i 0 below)))
+    (let below : i < count = omega (arith, to, of_row) in
+    get_or-take count row i 0 below ∙ same i below ∙ sym (get_or-take count bytes i 0 below)))
   where
     of_row : length (take count row) ≡ count
     of_row = length-take-le count row (omega (arith, few, long))

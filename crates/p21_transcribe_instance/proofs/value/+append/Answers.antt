@@ -4,7 +4,7 @@ use Rattle.p21_spec_laws.specs.Needs.{FitsWithNeeds}
 use Rattle.p21_express_graph.proofs.Lookups.{type-named}
 use Rattle.p21_transcribe.proofs.Found.{none_to, some_to}
 use Rattle.p21_transcribe.proofs.Parts.{goes-on, stays-behind}
-use Rattle.p21_transcribe_instance.proofs.Elements.{aggregate-at, aggregate-taken, along-ends, along-first, along-needs, along-next, along-text, close-refused, compared-as, element-known, element-refused, element-shorter, elements-held, elements-refused, next-shorter, no-elements, plain-known, start-within, undeclared-at}
+use Rattle.p21_transcribe_instance.proofs.Elements.{aggregate-taken, along-ends, along-first, along-needs, along-next, along-text, close-refused, compared-as, element-known, element-refused, element-shorter, elements-held, elements-refused, next-shorter, no-elements, plain-known, start-within, undeclared-at}
 use Rattle.p21_transcribe_instance.proofs.RealElements.{reals-at}
 use Rattle.p21_transcribe_instance.proofs.Typed.{enclosed-refused, enclosed-taken, typed-taken}
 use Rattle.p21_transcribe_instance.proofs.Values.{base-select, front-deep, item-deep, left-out, needs-kept, needs-same, plain-deep, rest-taken, select-at, stored-taken, taken-front, taken-shorter}

@@ -1,5 +1,5 @@
 use Rattle.std.proofs.Common.{Err, refl}
-use Rattle.p21_stream.proofs.Passed.{begun-quiet, found-as, found-same, passed-follows, passed-none, passed-offends, passed-on, passed-quiet, whole-range}
+use Rattle.p21_stream.proofs.Passed.{begun-quiet, found-as, found-same, found-some, passed-follows, passed-none, passed-offends, passed-on, passed-quiet, whole-range}
 use Rattle.p21_stream.proofs.progress.Progress.pass.Goals as goal
 
 pub take_found-requires : goal.take_found-requires
@@ -39,3 +39,8 @@ returns-in-Ok-clause-no_token c =
 pub returns-then-lacks_memory-clause-no_memory : goal.returns-then-lacks_memory-clause-no_memory
 returns-then-lacks_memory-clause-no_memory c =
     begun-quiet c.args.schema.now c.args.limits c.args.self.now.statements c.args.self.now.kept c.args.piece.now (Err c.refused.result) (c.if-lacks_memory.ensures refl)
+
+pub returns-in-Ok-clause-some : goal.returns-in-Ok-clause-some
+returns-in-Ok-clause-some c =
+    let (entities, are, is) = c.in-Some.ensures.found in
+    found-some c.args.schema.now c.in-Some.found.name c.in-Some.found.count _ c.args.piece.now _ _ is
