@@ -5,7 +5,7 @@ ghost use Rattle.std.specs.List.Sorted.{IsNonDecreasingBy};
 ghost use Rattle.p21_stream_store.specs.StoredInstance.{StoredInstance, stored_instance, instance_names, name_at};
 
 use crate::named_lines::NamedLines;
-use crate::noted::{note, noted_membership};
+use crate::noted::{make_place, note_membership, noted_membership};
 use crate::numbers::Numbers;
 use crate::pages::Pages;
 use p21_values::NoMemory;
@@ -118,11 +118,14 @@ impl Instances {
         ensures err { OnErr result (self.new ≡ self.old) }
     {
         let count = self.lines.len();
+        let Ok(()) = make_place(&mut self.noted, name, count) else {
+            return Err(NoMemory);
+        };
         let Ok(()) = self.lines.push(name, membership, text) else {
             return Err(NoMemory);
         };
-        // Where there is no room to note it, the name is looked up among the lines.
-        let _ = note(&mut self.noted, name, membership, count);
+        // Where there is no place to note it, the name is looked up among the lines.
+        let _ = note_membership(&mut self.noted, name, membership);
         Ok(())
     }
 }

@@ -56,15 +56,31 @@ fn note_in_new_page(
     ensures err { OnErr result (IsSame (position_marked noted.old) (position_marked noted.new)) }
     ensures room { GrowsWithin (most_names count) noted.old noted.new }
 {
-    let Ok(_) = noted.make_page(name, count, 0) else {
+    let Ok(()) = make_place(noted, name, count) else {
         return Err(NoMemory);
     };
     Ok(note_membership(noted, name, membership))
 }
 
+/// Makes a place to note the membership of a name, where there is none and may be one more. Nothing is noted by it. So many names
+/// have come.
+///
+/// # Errors
+///
+/// `NoMemory`.
+pub fn make_place(noted: &mut Pages<u8>, name: u64, count: usize) -> Result<(), NoMemory>
+    ensures same { IsSame (position_marked noted.old) (position_marked noted.new) }
+    ensures room { GrowsWithin (most_names count) noted.old noted.new }
+{
+    let Ok(_) = noted.make_page(name, count, 0) else {
+        return Err(NoMemory);
+    };
+    Ok(())
+}
+
 /// Notes the membership of a name, if there is a place for it, and the byte holds its number; says whether it did.
 #[inline]
-fn note_membership(noted: &mut Pages<u8>, name: u64, membership: usize) -> bool
+pub fn note_membership(noted: &mut Pages<u8>, name: u64, membership: usize) -> bool
     ensures noted { MatchBool result (Changes (position_marked noted.old) name (Some membership) (position_marked noted.new)) (noted.new ≡ noted.old) }
     ensures room { KeepsRoom noted.old noted.new }
 {
