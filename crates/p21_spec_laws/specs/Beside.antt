@@ -1,10 +1,11 @@
 -- A file beside an earlier one: what tells whether they have one canonical file, by what is kept of each.
-use Rattle.std.specs.Prelude.{◌≡◌, ◌≤◌, ◌↔◌, ℕ, IsTrue, List, length, slice_get, Contains}
+use Rattle.std.specs.Prelude.{◌≡◌, ◌≤◌, ◌↔◌, ℕ, Bool, IsTrue, List, length, slice_get, Contains}
 use Rattle.std.specs.List.{AllByRecursion as Each}
 use Rattle.p21_spec_basics.specs.Limits.{Limits}
 use Rattle.p21_spec_laws.specs.Keeping.{IsServedBy, Keeps, Kept}
 use Rattle.p21_spec_laws.specs.Stored.{Earlier, StoredEntry, beside, with_lines}
 use Rattle.p21_spec_laws.specs.Waiting.{Reference}
+use Rattle.p21_spec_exchange.specs.DataSection.{Heading}
 use Rattle.p21_spec_exchange.specs.Grammar.{IsFile}
 use Rattle.p21_spec_exchange.specs.Laying.{AreStatementsWithin, Laid}
 use Rattle.p21_spec_exchange.specs.Statement.{Statement}
@@ -31,18 +32,21 @@ abbrev pub earlier_of : Kept → Earlier
 earlier_of kept = record { header = kept.header; headings = kept.headings; stored = kept.stored }
 
 -- an instance of the earlier file stands in a section that begins as the section of the instance of its name does
-abbrev pub IsInSameSection : Earlier → Kept → StoredEntry → Type 0
-IsInSameSection earlier kept y = (x : StoredEntry) → Contains kept.stored x → x.name ≡ y.name → slice_get kept.headings x.section ≡ slice_get earlier.headings y.section
+abbrev pub IsInSameSection : Earlier → List Heading → List StoredEntry → StoredEntry → Type 0
+IsInSameSection earlier headings stored y = (x : StoredEntry) → Contains stored x → x.name ≡ y.name → slice_get headings x.section ≡ slice_get earlier.headings y.section
 
 -- Each line is one of the earlier file, and there are as many; so are the headings; the header lines are the same bytes; and each
 -- instance stands in the same section
-pub record IsSameAs (earlier : Earlier) (kept : Kept) : Type 0 where
-  pub lines_are : IsTrue kept.equal
-  pub as_many_lines : length kept.stored ≡ length earlier.stored
-  pub header_is : kept.header ≡ earlier.header
-  pub headings_are : Each (Contains earlier.headings) kept.headings
-  pub as_many_headings : length kept.headings ≡ length earlier.headings
-  pub sections_are : (y : StoredEntry) → Contains earlier.stored y → IsInSameSection earlier kept y
+pub record IsSameBeside (earlier : Earlier) (equal : Bool) (header : List ℕ) (headings : List Heading) (stored : List StoredEntry) : Type 0 where
+  pub lines_are : IsTrue equal
+  pub as_many_lines : length stored ≡ length earlier.stored
+  pub header_is : header ≡ earlier.header
+  pub headings_are : Each (Contains earlier.headings) headings
+  pub as_many_headings : length headings ≡ length earlier.headings
+  pub sections_are : (y : StoredEntry) → Contains earlier.stored y → IsInSameSection earlier headings stored y
+
+abbrev pub IsSameAs : Earlier → Kept → Type 0
+IsSameAs earlier kept = IsSameBeside earlier kept.equal kept.header kept.headings kept.stored
 
 -- That is so exactly if both have one canonical file
 abbrev pub KeptTellSame : Type 0

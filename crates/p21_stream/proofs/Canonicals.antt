@@ -1,18 +1,24 @@
 -- The only canonical file, and two compared.
-use Rattle.std.proofs.Common.{◌≡◌, ◌↔◌, ℕ, Bool, IsTrue, List, length, Option, refl, sym, subst}
+use Rattle.std.proofs.Common.{◌≡◌, ◌↔◌, ℕ, Bool, IsTrue, List, length, Option, refl, sym, subst, ◌∙◌}
 use Rattle.std.proofs.KnownBytes.{Keeps-refl}
 use Rattle.std.specs.Io.KnownBytes.{Appends}
 use Rattle.p21_spec_basics.specs.Limits.{AreLimits, Limits}
 use Rattle.p21_spec_laws.proofs.FileOnce.{file-once}
 use Rattle.p21_spec_laws.proofs.OneAccepted.{Means-one}
-use Rattle.p21_spec_laws.proofs.FileTheorems.{files-tell, is-accepted, is-own, means-the_same, one-lexemes, one-meaning, one-tree}
+use Rattle.p21_spec_laws.proofs.Beside.{keeps-tell_same}
+use Rattle.p21_spec_laws.proofs.Keeps.{keeps-file}
+use Rattle.p21_spec_laws.proofs.FileTheorems.{files-tell, is-accepted, is-own, means-the_same, one-file, one-lexemes, one-meaning, one-tree}
+use Rattle.p21_spec_laws.specs.Beside.{IsSameAs, earlier_of}
+use Rattle.p21_spec_laws.specs.Keeping.{Kept, text_with_header}
+use Rattle.p21_spec_laws.specs.Stored.{beside, with_lines}
+use Rattle.p21_spec_exchange.specs.Structure.{tokens_of}
 use Rattle.p21_spec_file.proofs.SameFiles.{SameFileMeaning-symmetric, SameFileMeaning-transitive}
 use Rattle.p21_spec_file.specs.Accepted.{IsCanonicalFile}
 use Rattle.p21_spec_file.specs.SameFile.{SameFileMeaning}
 use Rattle.p21_spec_schema.specs.Schema.{Schema}
 use Rattle.p21_spec_schema.specs.WellFormed.{IsWellFormed}
 use Rattle.p21_stream.specs.Answers.{AreReadInOneWay, Compares, FailsToWrite, IsCanonicalOfRead, IsOnlyCanonicalFile, IsPartWritten, IsWritten}
-use Rattle.p21_stream.specs.ReaderInput.{IsAcceptedInput, RefusesRead, write_failures}
+use Rattle.p21_stream.specs.ReaderInput.{IsAcceptedInput, IsWholeInput, RefusesRead, write_failures}
 use Rattle.p21_stream_output.specs.Output.{Output, output_text}
 use Rattle.p21_stream_statements.specs.declared.fault.Fault.{Fault}
 use Rattle.p21_stream_statements.specs.declared.fault.Fault.TheVariants.{Token, Grammar, Check, SchemaName, SectionTwice, DuplicateName, CanonicalTooLong, Dangling, WrongTarget, NoMemory, Read, Write}
@@ -47,9 +53,6 @@ canonical-of_read s formed limits are old new output is = record {
   canonical = only-canonical s formed limits are is.bytes (output_text output) is.accepted.is_canonical;
   in_one_way = in-one_way s formed is.bytes;
 }
-
-pub canonical-text : (s : Schema) → IsWellFormed s → (limits : Limits) → AreLimits limits → (old new : Option (List ℕ)) (output : Output) (text : List ℕ) → IsAcceptedInput s limits old new output → text ≡ output_text output → IsCanonicalOfRead s limits old new text
-canonical-text s formed limits are old new output text is text_is = subst (IsCanonicalOfRead s limits old new) (sym text_is) (canonical-of_read s formed limits are old new output is)
 
 -- ---- written
 
@@ -97,16 +100,31 @@ read-no_write s limits old new WrongTarget count refuses = refl
 
 -- ---- compared
 
-pub both-compared : (s : Schema) → IsWellFormed s → (limits : Limits) → AreLimits limits → (first_old first_new second_old second_new : Option (List ℕ)) (text : List ℕ) (output : Output) (same : Bool) → IsCanonicalOfRead s limits first_old first_new text → IsAcceptedInput s limits second_old second_new output
-    → IsTrue same ↔ (text ≡ output_text output) → Compares s limits first_old first_new second_old second_new same
-both-compared s formed limits are first_old first_new second_old second_new text output same first second is =
-    let other : IsCanonicalOfRead s limits second_old second_new (output_text output) = canonical-of_read s formed limits are second_old second_new output second in
-    let tell = files-tell s formed limits first.bytes other.bytes text (output_text output) first.canonical.is_canonical other.canonical.is_canonical in
+-- a whole file has a canonical file, which is the only one
+pub of-whole : (s : Schema) → IsWellFormed s → (limits : Limits) → AreLimits limits → (old new : Option (List ℕ)) (kept : Kept) (input : IsWholeInput s limits old new kept)
+    → (text : List ℕ) × IsCanonicalOfRead s limits old new text × IsCanonicalFile s limits input.bytes text
+of-whole s formed limits are old new kept input =
+    let w = input.whole in
+    let (blocks, canonical, size) = keeps-file s formed limits input.bytes w.given kept w.keeps w.structure w.text w.is_file w.statements_are (tokens_of w.structure) refl w.laid w.statements_within w.source_within w.served in
+    let text : List ℕ = text_with_header kept.header blocks in
+    (text, record { bytes = input.bytes; read = input.read; canonical = only-canonical s formed limits are input.bytes text canonical; in_one_way = in-one_way s formed input.bytes }, canonical)
+
+pub both-compared : (s : Schema) → IsWellFormed s → (limits : Limits) → AreLimits limits → (first_old first_new second_old second_new : Option (List ℕ)) (first second : Kept) (same : Bool) → IsWholeInput s limits first_old first_new first → IsWholeInput s limits second_old second_new second
+    → first.lines ≡ with_lines → second.lines ≡ beside (earlier_of first) → IsTrue same ↔ IsSameAs (earlier_of first) second → Compares s limits first_old first_new second_old second_new same
+both-compared s formed limits are first_old first_new second_old second_new first second same one two full later is =
+    let (text, of_first, canonical) = of-whole s formed limits are first_old first_new first one in
+    let (other, of_second, canonical_) = of-whole s formed limits are second_old second_new second two in
+    let law = keeps-tell_same s formed limits one.bytes two.bytes first second one.whole two.whole full later in
+    let equal : IsTrue same → text ≡ other = λ yes.
+    let (shared, of_one, of_two) = law.0 (is.0 yes) in
+    one-file s formed limits one.bytes text shared canonical of_one ∙ one-file s formed limits two.bytes shared other of_two canonical_ in
+    let told : text ≡ other → IsTrue same = λ alike. is.1 (law.1 (text, canonical, subst (λ (x : List ℕ). IsCanonicalFile s limits two.bytes x) (sym alike) canonical_)) in
+    let tell = files-tell s formed limits of_first.bytes of_second.bytes text other of_first.canonical.is_canonical of_second.canonical.is_canonical in
     record {
       first_text = text;
-      second_text = output_text output;
-      first = first;
-      second = other;
-      if_same = (λ yes. tell.1 (is.0 yes), λ means. is.1 (tell.0 means));
-      if_equal = is;
+      second_text = other;
+      first = of_first;
+      second = of_second;
+      if_same = (λ yes. tell.1 (equal yes), λ means. told (tell.0 means));
+      if_equal = (equal, told);
     }

@@ -5,12 +5,14 @@ use Rattle.std.specs.List.{AllZip, AllByRecursion as Each}
 use Rattle.p21_spec_basics.specs.Limits.{Limits}
 use Rattle.p21_spec_laws.specs.CompleteFile.{Block, Line}
 use Rattle.p21_spec_laws.proofs.Keeps.{keeps-file, keeps-lines}
+use Rattle.p21_spec_laws.specs.Beside.{IsKeptOfWhole}
 use Rattle.p21_spec_laws.specs.Keeping.{IsServedBy, Kept, text_with_header}
 use Rattle.p21_spec_laws.specs.OutputLaws.{lines_of}
-use Rattle.p21_spec_laws.specs.Stored.{StoredEntry}
+use Rattle.p21_spec_laws.specs.Stored.{StoredEntry, with_lines}
 use Rattle.p21_spec_laws.specs.Waiting.{Reference}
 use Rattle.p21_spec_exchange.specs.CanonicalText.{statement_text}
-use Rattle.p21_spec_exchange.specs.Laying.{AreStatementsWithin}
+use Rattle.p21_spec_exchange.specs.Laying.{AreStatementsWithin, Laid}
+use Rattle.p21_spec_exchange.specs.Token.{Token}
 use Rattle.p21_spec_exchange.specs.Statement.{data_start, section}
 use Rattle.p21_spec_file.specs.Accepted.{IsCanonicalFile}
 use Rattle.p21_spec_schema.specs.Schema.{Schema}
@@ -26,10 +28,10 @@ use Rattle.p21_stream.proofs.Ending.{ends, tokens-laid}
 use Rattle.p21_stream.proofs.Instances.{are-instances}
 use Rattle.p21_stream.proofs.Within.{source-within, statements-within}
 use Rattle.p21_stream.specs.Held.{SessionHeld, limits_of as session_limits, schema_of}
-use Rattle.p21_stream.specs.Histories.{CountGives, Stands}
+use Rattle.p21_stream.specs.Histories.{CountGives, Stands, WholeGives}
 use Rattle.p21_stream.specs.Feeding.{IsFedWhole, taken_history}
-use Rattle.p21_stream.specs.Pieces.{CountsEnd, EndsServed}
-use Rattle.p21_stream.specs.ReaderInput.{IsCountedInput}
+use Rattle.p21_stream.specs.Pieces.{CountsEnd, EndsServed, EndsWhole}
+use Rattle.p21_stream.specs.ReaderInput.{IsCountedInput, IsWholeInput}
 use Rattle.p21_stream.specs.Session.{IsLive}
 use Rattle.p21_stream.specs.declared.counting.Counted.{Counted}
 
@@ -73,11 +75,33 @@ end-counted s formed held kept (ended, served) counted instances bytes limits ta
       output = record { header = kept.header; sections = map written blocks; kept = map instance_of stored; statement = 0 };
       accepted = record {
         is_canonical = subst (λ (bytes : List ℕ). IsCanonicalFile s limits taken bytes) (sym text) canonical;
-        instances_are = are-instances s limits taken given (record kept { lines = true; stored = stored }) full w.whole.structure w.whole.text (record { laid = tokens-laid taken given w; is_file = w.whole.is_file }) w.whole.statements_are refl (map instance_of stored) (lines-are stored);
+        instances_are = are-instances s limits taken given (record kept { lines = with_lines; equal = true; stored = stored }) full w.whole.structure w.whole.text (record { laid = tokens-laid taken given w; is_file = w.whole.is_file }) w.whole.statements_are refl (map instance_of stored) (lines-are stored);
       };
       instances_are = instances ∙ sym many ∙ sym (length-map stored instance_of);
       bytes_are = bytes ∙ sym size ∙ sym (ap length text);
     }
+
+-- what is kept of it
+pub end-whole : (s : Schema) (held : statements.Held) (kept whole : Kept) → EndsServed s held kept → whole ≡ kept → EndsWhole s held kept (Ok whole)
+end-whole s held kept whole (ended, served) same limits taken given live =
+    let reading : StatementHistory = record { taken = taken; seen = None; given = given } in
+    let w = ended reading live.reads refl in
+    let within : AreStatementsWithin limits.record_source 0 w.laid.lexemes = subst (λ (most : ℕ). AreStatementsWithin most 0 w.laid.lexemes) (ap (λ p. p.0) live.limits_are) (statements-within held reading live.reads refl w) in
+    let short = source-within held reading live.reads in
+    let limit : (limits_of held).1 ≡ limits.file_source = ap (λ p. p.1) live.limits_are in
+    let (laid, all_within) = subst (λ (ts : List Token). (l : Laid taken ts) × AreStatementsWithin limits.record_source 0 l.lexemes) (sym w.whole.tokens_are) (w.laid, within) in
+    subst (IsKeptOfWhole s limits taken) (sym same) (record {
+      given = given;
+      keeps = live.keeps;
+      structure = w.whole.structure;
+      text = w.whole.text;
+      is_file = w.whole.is_file;
+      statements_are = w.whole.statements_are;
+      laid = laid;
+      statements_within = all_within;
+      source_within = rw (← limit) short;
+      served = served;
+    })
 
 -- ---- by histories
 
@@ -87,10 +111,22 @@ unfolding Stands
 counts s limits held kept was open_ (Ok counted) gives = λ history stands. let none = sym stands.0 ∙ open_ in let going = stands.1 none in (none, gives limits history.taken going.0 going.1)
 counts s limits held kept was open_ (Err refusal) gives = ends s limits held kept was open_ (Err refusal) gives
 
+pub wholes : (s : Schema) (limits : Limits) (held : statements.Held) (kept : Kept) (was : Option Refusal) → was ≡ None → (result : Result Kept Refusal) → EndsWhole s held kept result → WholeGives (record { schema = s; limits = limits; statements = held; kept = kept; refused = was }) result
+unfolding Stands
+wholes s limits held kept was open_ (Ok whole) gives = λ history stands. let none = sym stands.0 ∙ open_ in let going = stands.1 none in (none, gives limits history.taken going.0 going.1)
+wholes s limits held kept was open_ (Err refusal) gives = ends s limits held kept was open_ (Err refusal) gives
+
 -- of the bytes that a reader gave
 pub whole-counted : (old new : Option (List ℕ)) (session : SessionHeld) (counted : Counted) → IsFedWhole old new session → CountGives session (Ok counted) → IsCountedInput (schema_of session) (session_limits session) old new counted
 whole-counted old new session counted whole gives = record {
   bytes = whole.bytes;
   read = whole.read;
   is_counted = (gives (taken_history whole.bytes) whole.stands).1;
+}
+
+pub whole-input : (old new : Option (List ℕ)) (session : SessionHeld) (kept : Kept) → IsFedWhole old new session → WholeGives session (Ok kept) → IsWholeInput (schema_of session) (session_limits session) old new kept
+whole-input old new session kept whole gives = record {
+  bytes = whole.bytes;
+  read = whole.read;
+  whole = (gives (taken_history whole.bytes) whole.stands).1;
 }

@@ -1,12 +1,12 @@
 -- The end of the bytes, by the histories that a session stands for.
-use Rattle.std.proofs.Common.{◌≡◌, ℕ, true, List, Option, Some, None, Result, Ok, Err, refl, sym, ap, subst, ◌∙◌}
+use Rattle.std.proofs.Common.{◌≡◌, ℕ, List, Option, Some, None, Result, Ok, Err, refl, sym, ap, subst, ◌∙◌}
 use Rattle.std.specs.List.{AllByRecursion as Each}
 use Rattle.p21_spec_basics.specs.Limits.{Limits}
 use Rattle.p21_spec_laws.proofs.Ending.{dead-refused}
 use Rattle.p21_spec_laws.specs.CompleteFile.{Block}
 use Rattle.p21_spec_laws.proofs.Keeps.{keeps-accepted}
 use Rattle.p21_spec_laws.specs.Keeping.{AreBlocksOf, IsServedBy, Keeps, Kept, text_with_header}
-use Rattle.p21_spec_laws.specs.Stored.{StoredEntry}
+use Rattle.p21_spec_laws.specs.Stored.{StoredEntry, with_lines}
 use Rattle.p21_spec_laws.specs.Waiting.{Reference}
 use Rattle.p21_spec_exchange.specs.Laying.{AreStatementsWithin, Laid}
 use Rattle.p21_spec_exchange.specs.Statement.{Statement}
@@ -36,7 +36,7 @@ use Rattle.p21_stream.specs.Session.{IsLive}
 
 -- a whole file whose references are served is accepted, and its lines are its canonical file
 pub whole-accepted : (s : Schema) → IsWellFormed s → (limits : Limits) (held : statements.Held) (kept : Kept) (reading : StatementHistory) → IsLive s limits held kept reading → reading.seen ≡ None → AreWholeStatements reading.taken reading.given
-    → Each (λ (r : Reference). IsServedBy s kept.stored r.1) kept.waiting → kept.lines ≡ true → (blocks : List Block) → AreBlocksOf kept blocks → IsCanonicalFile s limits reading.taken (text_with_header kept.header blocks)
+    → Each (λ (r : Reference). IsServedBy s kept.stored r.1) kept.waiting → kept.lines ≡ with_lines → (blocks : List Block) → AreBlocksOf kept blocks → IsCanonicalFile s limits reading.taken (text_with_header kept.header blocks)
 whole-accepted s formed limits held kept reading live none w served lines blocks are =
     let within : AreStatementsWithin limits.record_source 0 w.laid.lexemes = subst (λ (most : ℕ). AreStatementsWithin most 0 w.laid.lexemes) (ap (λ p. p.0) live.limits_are) (statements-within held reading live.reads none w) in
     let short = source-within held reading live.reads in
@@ -46,7 +46,7 @@ whole-accepted s formed limits held kept reading live none w served lines blocks
 pub tokens-laid : (taken : List ℕ) (given : List Statement) (w : AreWholeStatements taken given) → Laid taken (tokens_of w.whole.structure)
 tokens-laid taken given w = subst (λ (ts : List Token). Laid taken ts) (sym w.whole.tokens_are) w.laid
 
-pub end-accepted : (s : Schema) → IsWellFormed s → (held : statements.Held) (kept : Kept) (output : Output) → statements.FinishGives held (Ok tt) → Each (λ (r : Reference). IsServedBy s kept.stored r.1) kept.waiting → kept.lines ≡ true
+pub end-accepted : (s : Schema) → IsWellFormed s → (held : statements.Held) (kept : Kept) (output : Output) → statements.FinishGives held (Ok tt) → Each (λ (r : Reference). IsServedBy s kept.stored r.1) kept.waiting → kept.lines ≡ with_lines
     → ((s : Schema) (limits : Limits) (given : List Statement) → Keeps s limits given kept → IsFileOfKept kept output) → EndGives s held kept (Ok output)
 end-accepted s formed held kept output ends served lines end limits taken given live =
     let reading : StatementHistory = record { taken = taken; seen = None; given = given } in
@@ -58,7 +58,7 @@ end-accepted s formed held kept output ends served lines end limits taken given 
     }
 
 -- what is kept where the statement reader takes the end is that of a whole file
-pub whole-kept : (s : Schema) (held : statements.Held) (kept : Kept) → statements.FinishGives held (Ok tt) → IsBetweenPieces s held kept → kept.lines ≡ true → IsKeptOfFile kept
+pub whole-kept : (s : Schema) (held : statements.Held) (kept : Kept) → statements.FinishGives held (Ok tt) → IsBetweenPieces s held kept → kept.lines ≡ with_lines → IsKeptOfFile kept
 whole-kept s held kept ends is lines =
     let w = ends is.reading is.live.reads is.none_seen in
     record { schema = s; limits = is.limits; given = is.reading.given; keeps = is.live.keeps; structure = w.whole.structure; text = w.whole.text; is_file = w.whole.is_file; statements_are = w.whole.statements_are; lines = lines }

@@ -2,6 +2,7 @@
 use Rattle.std.proofs.Common.{◌≡◌, ◌≢◌, ◌≤◌, ◌+◌, ℕ, List, [], ◌∷◌, ◌++◌, length, take, Some, None, Err, sym, ap, subst, ◌∙◌}
 use Rattle.std.proofs.lemmas.List.{append-nil}
 use Rattle.p21_spec_basics.specs.Limits.{Limits}
+use Rattle.p21_spec_laws.specs.Stored.{with_lines}
 use Rattle.p21_spec_laws.specs.Taken.{AreStatementsTaken}
 use Rattle.p21_spec_laws.proofs.Keeps.{keeps-at_start, keeps-held, keeps-size}
 use Rattle.p21_spec_laws.proofs.Offenders.{offender-dead}
@@ -22,7 +23,7 @@ use Rattle.p21_stream.specs.Laws.{DeadByStatement, DeadByStep, HeldWhileLive, Li
 use Rattle.p21_stream.specs.Session.{IsDeadWithin}
 
 pub live-at_start : LiveAtStart
-live-at_start s limits held reads are = record { reads = reads; limits_are = are; keeps = keeps-at_start s limits }
+live-at_start s limits held reads are = record { reads = reads; limits_are = are; keeps = keeps-at_start s limits with_lines }
 
 pub live-by_token : LiveByToken
 live-by_token s limits held next kept reading tokens piece count live goes same = record {

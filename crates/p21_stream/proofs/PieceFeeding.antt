@@ -1,7 +1,7 @@
 -- A piece, by the histories that a session stands for.
 use Rattle.std.proofs.Common.{◌≡◌, ◌≢◌, ◌<◌, ◌^◌, ◌⊎◌, ℕ, List, [], ◌++◌, Option, Some, None, Ok, Err, inl, inr, refl, sym, ap, subst, ◌∙◌, arith}
 use Rattle.p21_spec_basics.specs.Limits.{Limits}
-use Rattle.p21_spec_laws.proofs.Keeps.{counts-at_start, keeps-at_start}
+use Rattle.p21_spec_laws.proofs.Keeps.{keeps-at_start}
 use Rattle.p21_spec_laws.specs.Keeping.{Keeps, Kept, nothing_kept}
 use Rattle.p21_spec_file.specs.Held.{IsHeld}
 use Rattle.p21_spec_schema.specs.Schema.{Schema}
@@ -46,10 +46,7 @@ nothing-is kept new same nothing = subst IsNothing (sym same) nothing
 
 module _ (s : Schema) (limits : Limits) (held : statements.Held) (kept : Kept) (refused : Option Refusal) (live : statements.IsLive held nothing_read) (counted : limits.file_source < 2 ^ 64) (are : statements.limits_of held ≡ (limits.record_source, limits.file_source)) (nothing : IsNothing kept) (none : refused ≡ None) where
   live-new : IsLive s limits held kept nothing_read
-  live-new = record { reads = live; limits_are = are; keeps = start nothing } where
-    start : IsNothing kept → Keeps s limits [] kept
-    start (inl is) = subst (λ (k : Kept). Keeps s limits [] k) (sym is) (keeps-at_start s limits)
-    start (inr is) = subst (λ (k : Kept). Keeps s limits [] k) (sym is) (counts-at_start s limits)
+  live-new = record { reads = live; limits_are = are; keeps = subst (λ (k : Kept). Keeps s limits [] k) (sym nothing.1) (keeps-at_start s limits nothing.0) }
 
   pub stands-new : Stands (record { schema = s; limits = limits; statements = held; kept = kept; refused = refused }) nothing_taken
   unfolding Stands
@@ -57,8 +54,8 @@ module _ (s : Schema) (limits : Limits) (held : statements.Held) (kept : Kept) (
 
   pub bounded-new : IsBounded (record { schema = s; limits = limits; statements = held; kept = kept; refused = refused })
   bounded-new =
-      let bytes : kept.bytes ≡ 0 = elim nothing [ inl is ↦ ap (λ (k : Kept). k.bytes) is | inr is ↦ ap (λ (k : Kept). k.bytes) is ] in
-      let references : kept.references ≡ 0 = elim nothing [ inl is ↦ ap (λ (k : Kept). k.references) is | inr is ↦ ap (λ (k : Kept). k.references) is ] in
+      let bytes : kept.bytes ≡ 0 = ap (λ (k : Kept). k.bytes) nothing.1 in
+      let references : kept.references ≡ 0 = ap (λ (k : Kept). k.references) nothing.1 in
       record { counted = counted; limits_are = are; kept_within = omega (arith, bytes); needs_within = omega (arith, references); reads = λ same. (nothing_read, refl, live-new); of_bytes = λ r is. absurd (none-some r refused (sym none) is) }
 
 -- ---- a piece that is read

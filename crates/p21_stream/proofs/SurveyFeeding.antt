@@ -9,6 +9,7 @@ use Rattle.p21_spec_basics.specs.Digits.{IsByte}
 use Rattle.p21_spec_basics.specs.Limits.{Limits}
 use Rattle.p21_spec_laws.proofs.TokenPrefixes.{taken-further}
 use Rattle.p21_spec_laws.proofs.Keeps.{keeps-at_start}
+use Rattle.p21_spec_laws.specs.Stored.{with_lines}
 use Rattle.p21_spec_laws.specs.Keeping.{Keeps, Kept, nothing_kept}
 use Rattle.p21_spec_exchange.specs.Statement.{Statement}
 use Rattle.p21_spec_schema.specs.Schema.{Schema}
@@ -88,7 +89,7 @@ surveyed-none s limits now surveying live are kept listed names = record {
       sifts = record {
         passed = [];
         sifted = subst (λ (rs : List Refusal). AreSifted s [] [] rs) (sym listed) none;
-        keeps = subst (λ (k : Kept). Keeps s limits [] k) (sym kept) (keeps-at_start s limits);
+        keeps = subst (λ (k : Kept). Keeps s limits [] k) (sym kept) (keeps-at_start s limits with_lines);
         lines = ap (λ (k : Kept). k.lines) kept;
         names = subst (λ (rs : List Refusal). HaveNames surveying.sieve.names rs) (sym listed) names;
       };

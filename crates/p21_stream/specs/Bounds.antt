@@ -1,6 +1,7 @@
 -- What each session keeps to, whatever it was fed.
-use Rattle.std.specs.Prelude.{◌≡◌, ◌≤◌, ◌<◌, ◌^◌, ◌⊎◌, Option, None, Some, true}
-use Rattle.p21_spec_laws.specs.Keeping.{Kept, nothing_counted, nothing_kept}
+use Rattle.std.specs.Prelude.{◌≡◌, ◌≤◌, ◌<◌, ◌^◌, Option, None, Some}
+use Rattle.p21_spec_laws.specs.Keeping.{Kept, nothing_with}
+use Rattle.p21_spec_laws.specs.Stored.{KeptLines}
 use Rattle.p21_stream_statements.specs.Source.{IsOfBytes}
 use Rattle.p21_stream_statements.specs.declared.refusal.Refusal.{Refusal}
 use Rattle.p21_stream_statements.specs.StatementReader as statements
@@ -18,10 +19,14 @@ pub record IsBounded (held : SessionHeld) : Type 0 where
   pub reads : held.refused ≡ None → (reading : StatementHistory) × (reading.seen ≡ None) × IsLive held.schema held.limits held.statements held.kept reading
   pub of_bytes : (refusal : Refusal) → held.refused ≡ Some refusal → IsOfBytes refusal.fault
 
--- nothing is taken, and lines will be kept, or counted
+-- nothing is taken, whatever will be kept of lines
 abbrev pub IsNothing : Kept → Type 0
-IsNothing kept = (kept ≡ nothing_kept) ⊎ (kept ≡ nothing_counted)
+IsNothing kept = (lines : KeptLines) × (kept ≡ nothing_with lines)
 
--- lines are kept where no byte was refused
-abbrev pub KeepsLines : Option Refusal → Kept → Type 0
-KeepsLines refused kept = refused ≡ None → kept.lines ≡ true
+-- this is kept of lines where no byte was refused
+abbrev pub KeepsLines : KeptLines → Option Refusal → Kept → Type 0
+KeepsLines lines refused kept = refused ≡ None → kept.lines ≡ lines
+
+-- and stays so
+abbrev pub StaysKept : Option Refusal → Kept → Option Refusal → Kept → Type 0
+StaysKept was old is new = (lines : KeptLines) → KeepsLines lines was old → KeepsLines lines is new

@@ -1,6 +1,8 @@
 -- What a session has taken and refused, and what each call adds to it.
 use Rattle.std.specs.Prelude.{◌≡◌, ◌≢◌, ◌≤◌, ℕ, List, [], ◌++◌, length, take, Option, Some, None, Result, Ok, Err}
 use Rattle.p21_spec_basics.specs.Limits.{Limits}
+use Rattle.p21_spec_laws.specs.Beside.{IsKeptOfWhole}
+use Rattle.p21_spec_laws.specs.Keeping.{Kept}
 use Rattle.p21_spec_exchange.specs.Statement.{Statement}
 use Rattle.p21_spec_exchange.specs.Pending.{IsPending}
 use Rattle.p21_spec_file.specs.Accepted.{IsAccepted, IsDead}
@@ -81,6 +83,11 @@ FinishGives held (Err refusal) = refusal.fault ≢ NoMemory → (history : Sessi
 abbrev pub CountGives : SessionHeld → Result Counted Refusal → Type 0
 CountGives held (Ok counted) = (history : SessionHistory) → Stands held history → (history.refusal ≡ None) × IsCounted (schema_of held) (limits_of held) history.taken counted
 CountGives held (Err refusal) = FinishGives held (Err refusal)
+
+-- what is kept at the end of a whole file, for each history that the session stood for
+abbrev pub WholeGives : SessionHeld → Result Kept Refusal → Type 0
+WholeGives held (Ok kept) = (history : SessionHistory) → Stands held history → (history.refusal ≡ None) × IsKeptOfWhole (schema_of held) (limits_of held) history.taken kept
+WholeGives held (Err refusal) = FinishGives held (Err refusal)
 
 -- a session that has refused answers the same at the end
 abbrev pub RefusesAtEnd : SessionHeld → Result Output Refusal → Type 0

@@ -2,6 +2,7 @@
 use Rattle.std.specs.Prelude.{◌≡◌, ◌≢◌, ◌≤◌, ◌<◌, ◌^◌, ℕ, List, ◌++◌, length, take, Option, Some, None, Result, Ok, Err}
 use Rattle.std.specs.List.{AllByRecursion as Each}
 use Rattle.p21_spec_basics.specs.Limits.{Limits}
+use Rattle.p21_spec_laws.specs.Beside.{IsKeptOfWhole}
 use Rattle.p21_spec_laws.specs.Keeping.{IsServedBy, Kept}
 use Rattle.p21_spec_laws.specs.Waiting.{Reference}
 use Rattle.p21_spec_exchange.specs.Pending.{IsPending}
@@ -82,6 +83,11 @@ EndGives s held kept (Err refusal) = refusal.fault ≢ NoMemory → (limits : Li
 -- the bytes end with a whole file, and each reference that waits is served
 abbrev pub EndsServed : Schema → statements.Held → Kept → Type 0
 EndsServed s held kept = statements.FinishGives held (Ok tt) × Each (λ (r : Reference). IsServedBy s kept.stored r.1) kept.waiting
+
+-- what is kept at the end of the bytes, whatever the canonical limits
+abbrev pub EndsWhole : Schema → statements.Held → Kept → Result Kept Refusal → Type 0
+EndsWhole s held kept (Ok whole) = (limits : Limits) (taken : List ℕ) (given : List Statement) → IsLive s limits held kept (record { taken = taken; seen = None; given = given }) → IsKeptOfWhole s limits taken whole
+EndsWhole s held kept (Err refusal) = EndGives s held kept (Err refusal)
 
 -- what is counted at the end of the bytes, whatever the canonical limits
 abbrev pub CountsEnd : Schema → statements.Held → Kept → Result Counted Refusal → Type 0

@@ -2,6 +2,8 @@
 use Rattle.std.specs.Prelude.{Option, ◌≤◌, ◌+◌, ◌⊎◌, ℕ, List, length}
 use Rattle.std.specs.Io.KnownBytes.{Consumes, IsAtEnd}
 use Rattle.p21_spec_basics.specs.Limits.{Limits}
+use Rattle.p21_spec_laws.specs.Beside.{IsKeptOfWhole}
+use Rattle.p21_spec_laws.specs.Keeping.{Kept}
 use Rattle.p21_spec_file.specs.Accepted.{IsAccepted, IsDead}
 use Rattle.p21_spec_schema.specs.Schema.{Schema}
 use Rattle.p21_stream_statements.specs.declared.fault.Fault.{Fault}
@@ -29,6 +31,12 @@ pub record IsCountedInput (s : Schema) (limits : Limits) (old new : Option (List
   pub bytes : List ℕ
   pub read : IsReadWhole old new bytes
   pub is_counted : IsCounted s limits bytes counted
+
+-- the reader was read to its end, and this is kept of the bytes that it gave, which are accepted
+pub record IsWholeInput (s : Schema) (limits : Limits) (old new : Option (List ℕ)) (kept : Kept) : Type 0 where
+  pub bytes : List ℕ
+  pub read : IsReadWhole old new bytes
+  pub whole : IsKeptOfWhole s limits bytes kept
 
 -- no more bytes were taken from the reader than a file may have, and one
 abbrev pub ConsumesAtMost : Limits → Option (List ℕ) → Option (List ℕ) → Type 0

@@ -3,6 +3,7 @@ use Rattle.std.specs.Prelude.{◌≡◌, ◌↔◌, ℕ, List, [], ◌∷◌, �
 use Rattle.std.specs.BTreeSet.{BTreeSet, contains}
 use Rattle.std.specs.Ordering.{nat_cmp}
 use Rattle.p21_spec_basics.specs.Limits.{Limits}
+use Rattle.p21_spec_laws.specs.Stored.{with_lines}
 use Rattle.p21_spec_laws.specs.DeadLaws.{MeansNothing}
 use Rattle.p21_spec_laws.specs.Taken.{names_among}
 use Rattle.p21_spec_laws.specs.Keeping.{Keeps}
@@ -58,5 +59,5 @@ pub record Sifts (s : Schema) (limits : Limits) (given : List Statement) (sieve 
   pub passed : List Statement
   pub sifted : AreSifted s given passed sieve.refusals.items
   pub keeps : Keeps s limits passed sieve.kept
-  pub lines : sieve.kept.lines ≡ true
+  pub lines : sieve.kept.lines ≡ with_lines
   pub names : HaveNames sieve.names sieve.refusals.items

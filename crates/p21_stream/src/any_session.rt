@@ -1,9 +1,12 @@
-ghost use Rattle.std.specs.Prelude.{◌≡◌, ◌≤◌, IfErr, Some};
-ghost use Rattle.p21_spec_laws.specs.Keeping.{nothing_counted, nothing_kept};
+ghost use Rattle.std.specs.Prelude.{◌≡◌, ◌≤◌, ℕ, List, IfErr, IfOk, Some};
+ghost use Rattle.p21_spec_basics.specs.Limits.{Limits as MeantLimits};
+ghost use Rattle.p21_spec_laws.specs.Beside.{IsKeptOfWhole, earlier_of};
+ghost use Rattle.p21_spec_laws.specs.Stored.{KeptLines, beside, with_lines};
+ghost use Rattle.p21_spec_schema.specs.Schema.{Schema as MeantSchema};
 ghost use Rattle.p21_stream_statements.specs.Source.{IsOfBytes};
-ghost use Rattle.p21_stream.specs.Bounds.{IsNothing, KeepsLines};
+ghost use Rattle.p21_stream.specs.Bounds.{IsNothing, KeepsLines, StaysKept};
 ghost use Rattle.p21_stream.specs.Held.{limits_of, refusal_of, schema_of};
-ghost use Rattle.p21_stream.specs.Histories.{CountGives, FeedChecks, FeedGives, FeedNeedsNoMemory, FinishGives, HoldsFor, KeepsSchema, RefusesAgain, RefusesAtEnd, Stands, nothing_taken};
+ghost use Rattle.p21_stream.specs.Histories.{CountGives, FeedChecks, FeedGives, FeedNeedsNoMemory, FinishGives, HoldsFor, KeepsSchema, RefusesAgain, RefusesAtEnd, Stands, WholeGives, nothing_taken};
 ghost use Rattle.p21_stream.specs.Inside.{held_of};
 
 use crate::counting::Counted;
@@ -17,8 +20,8 @@ use p21_values::Limits;
 use std::alloc::Global;
 use std::marker::Model;
 
-/// Reads a file that comes in pieces of any size, checks it against a schema, and keeps its canonical lines, or counts them
-/// alone.
+/// Reads a file that comes in pieces of any size, checks it against a schema, and keeps its canonical lines, counts them alone, or
+/// holds them against those of an earlier file.
 pub(crate) struct AnySession<'s> {
     schema: &'s Schema,
     limits: Limits,
@@ -59,7 +62,7 @@ impl<'s> AnySession<'s> {
         ensures stands { Stands result nothing_taken }
         ensures schema { schema_of result ≡ schema.now }
         ensures limits { limits_of result ≡ limits }
-        ensures lines { KeepsLines result.refused result.kept }
+        ensures lines { KeepsLines with_lines result.refused result.kept }
     {
         AnySession::start(alloc, schema, limits, Kept::new(alloc))
     }
@@ -71,6 +74,24 @@ impl<'s> AnySession<'s> {
         ensures limits { limits_of result ≡ limits }
     {
         AnySession::start(alloc, schema, limits, Kept::counting(alloc))
+    }
+
+    /// A session that has taken nothing, and will hold lines against those of an earlier file, by what is kept of it. It takes no
+    /// memory.
+    pub(crate) fn beside(
+        alloc: Global,
+        schema: &'s Schema,
+        limits: Limits,
+        earlier: Kept,
+    ) -> AnySession<'s>
+        requires whole { (s : MeantSchema) × (limits : MeantLimits) × (bytes : List ℕ) × IsKeptOfWhole s limits bytes earlier }
+        requires lines { earlier.lines ≡ with_lines }
+        ensures stands { Stands result nothing_taken }
+        ensures schema { schema_of result ≡ schema.now }
+        ensures limits { limits_of result ≡ limits }
+        ensures lines { KeepsLines (beside (earlier_of earlier)) result.refused result.kept }
+    {
+        AnySession::start(alloc, schema, limits, Kept::beside(alloc, earlier))
     }
 
     /// A session that has taken nothing, with what will keep or count lines.
@@ -101,7 +122,7 @@ impl<'s> AnySession<'s> {
         ensures refused { IfErr result (λ refusal. refusal_of self.new ≡ Some refusal) }
         ensures kind { IfErr result (λ refusal. IsOfBytes refusal.fault) }
         ensures schema { KeepsSchema self.old self.new }
-        ensures lines { KeepsLines self.old.refused self.old.kept → KeepsLines self.new.refused self.new.kept }
+        ensures lines { StaysKept self.old.refused self.old.kept self.new.refused self.new.kept }
     {
         let schema = self.schema;
         let limits = self.limits;
@@ -132,7 +153,7 @@ impl<'s> AnySession<'s> {
     /// The refusal of an earlier call; else `EndsEarly` or another fault of the end; then that of the first reference, in the
     /// order of the file, to no instance or to one that isn't of the type; `NoMemory`.
     pub(crate) fn finish(self) -> Result<Accepted, Refusal>
-        requires { KeepsLines self.refused self.kept }
+        requires { KeepsLines with_lines self.refused self.kept }
         ensures gives { FinishGives self.entry result }
         ensures again { RefusesAtEnd self.entry result }
         ensures kind { IfErr result (λ refusal. IsOfBytes refusal.fault) }
@@ -160,6 +181,24 @@ impl<'s> AnySession<'s> {
             progress,
         } = self;
         progress.count(schema)
+    }
+
+    /// What is kept at the end of a whole file whose references are served.
+    ///
+    /// # Errors
+    ///
+    /// Those of `finish`.
+    pub(crate) fn whole(self) -> Result<Kept, Refusal>
+        ensures gives { WholeGives self.entry result }
+        ensures lines { (lines : KeptLines) → KeepsLines lines self.entry.refused self.entry.kept → IfOk result (λ kept. kept.lines ≡ lines) }
+        ensures kind { IfErr result (λ refusal. IsOfBytes refusal.fault) }
+    {
+        let AnySession {
+            schema,
+            limits: _,
+            progress,
+        } = self;
+        progress.whole(schema)
     }
 
     /// A refusal at the open statement, for what is no fault of a byte. It takes no memory.

@@ -1,14 +1,19 @@
 //! Two files compared by what they mean.
 ghost use Rattle.std.specs.Prelude.{◌≡◌, ◌≤◌, ◌+◌, IfErr, IfOk, OnOk};
-ghost use Rattle.p21_stream.specs.Answers.{Compares, FailsToCompare, IfFirst, IsCanonicalOfRead, first_failures, second_failures};
+ghost use Rattle.p21_spec_laws.specs.Stored.{KeptLines};
+ghost use Rattle.p21_stream.specs.Answers.{Compares, FailsToCompare, IfFirst, first_failures, second_failures};
+ghost use Rattle.p21_stream.specs.Bounds.{KeepsLines};
 ghost use Rattle.p21_stream.specs.Claim.{Claim};
-ghost use Rattle.p21_stream.specs.ReaderInput.{ConsumesAtMost, RefusesRead, read_failures};
+ghost use Rattle.p21_stream.specs.Held.{limits_of, schema_of};
+ghost use Rattle.p21_stream.specs.Histories.{Stands, nothing_taken};
+ghost use Rattle.p21_stream.specs.ReaderInput.{ConsumesAtMost, IsWholeInput, RefusesRead, read_failures};
 
+use crate::any_session::AnySession;
 use crate::claim::headline;
-use crate::read::accept;
-use crate::text::text_of;
+use crate::read::feed_all;
 use p21_express_tables::Schema;
 use p21_stream_io::Watched;
+use p21_stream_kept::Kept;
 use p21_stream_statements::Refusal;
 use p21_values::Limits;
 use std::alloc::Global;
@@ -50,38 +55,45 @@ pub fn same_meaning<R: Read, S: Read>(
     ensures failed_second { IfErr result (λ answer. second.new.failures ≡ second_failures second.old.failures answer.0 answer.1.fault) }
 {
     headline(schema, limits);
-    let text = match canonical_read(alloc, schema, limits, first) {
-        Ok(text) => text,
+    let keeping = AnySession::keeping(alloc, schema, limits);
+    let earlier = match read_whole(keeping, limits, first) {
+        Ok(kept) => kept,
         Err(refusal) => return Err((Which::First, refusal)),
     };
-    match accept(alloc, schema, limits, second) {
-        Ok(accepted) => Ok(accepted.is_text(&text)),
+    let beside = AnySession::beside(alloc, schema, limits, earlier);
+    match read_whole(beside, limits, second) {
+        Ok(kept) => Ok(kept.is_same()),
         Err(refusal) => Err((Which::Second, refusal)),
     }
 }
 
-/// The canonical file of what a reader gives.
-fn canonical_read<R: Read>(
-    alloc: Global,
-    schema: &Schema,
+/// What a session that is new keeps of what a reader gives, where that is a whole file.
+///
+/// # Errors
+///
+/// Those of `accept`.
+fn read_whole<R: Read>(
+    mut session: AnySession<'_>,
     limits: Limits,
     reader: &mut Watched<R>,
-) -> Result<Vec<u8>, Refusal>
-    ensures ok { IfOk result (λ text. IsCanonicalOfRead schema.now limits (R.remaining reader.old.inner) (R.remaining reader.new.inner) text.items) }
-    ensures err { IfErr result (λ refusal. RefusesRead schema.now limits (R.remaining reader.old.inner) (R.remaining reader.new.inner) refusal.fault) }
+) -> Result<Kept, Refusal>
+    requires new { Stands session nothing_taken }
+    requires limits { limits_of session ≡ limits }
+    ensures ok { IfOk result (λ kept. IsWholeInput (schema_of session.entry) limits (R.remaining reader.old.inner) (R.remaining reader.new.inner) kept) }
+    ensures lines { (lines : KeptLines) → KeepsLines lines session.entry.refused session.entry.kept → IfOk result (λ kept. kept.lines ≡ lines) }
+    ensures err { IfErr result (λ refusal. RefusesRead (schema_of session.entry) limits (R.remaining reader.old.inner) (R.remaining reader.new.inner) refusal.fault) }
     ensures consumed { ConsumesAtMost limits (R.remaining reader.old.inner) (R.remaining reader.new.inner) }
 
     ensures moved { reader.new.moved ≤ reader.old.moved + (limits.file_source + 1) }
     ensures read { OnOk result (reader.new.failures ≡ reader.old.failures) }
     ensures failed { IfErr result (λ refusal. reader.new.failures ≡ read_failures reader.old.failures refusal.fault) }
 {
-    headline(schema, limits);
-    let accepted = match accept(alloc, schema, limits, reader) {
-        Ok(accepted) => accepted,
+    match feed_all(&mut session, reader, limits.file_source()) {
+        Ok(()) => {}
         Err(refusal) => return Err(refusal),
-    };
-    match text_of(alloc, &accepted) {
-        Ok(text) => Ok(text),
+    }
+    match session.whole() {
+        Ok(kept) => Ok(kept),
         Err(refusal) => Err(refusal),
     }
 }

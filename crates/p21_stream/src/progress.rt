@@ -1,5 +1,6 @@
-ghost use Rattle.std.specs.Prelude.{◌≡◌, ◌<◌, ◌^◌, [], IfErr, None, OnOk, Some, Err, true};
+ghost use Rattle.std.specs.Prelude.{◌≡◌, ◌<◌, ◌^◌, [], IfErr, IfOk, None, OnOk, Some, Err};
 ghost use Rattle.p21_spec_basics.specs.Limits.{Limits as MeantLimits};
+ghost use Rattle.p21_spec_laws.specs.Stored.{with_lines};
 ghost use Rattle.p21_grammar.specs.Statements.{statement_of};
 ghost use Rattle.p21_spec_schema.specs.Schema.{Schema as Meant};
 ghost use Rattle.p21_stream_statements.specs.StatementReader.{IsLive, limits_of, nothing_read};
@@ -8,10 +9,10 @@ ghost use Rattle.p21_stream_statements.specs.declared.refusal.Refusal.{Refusal};
 ghost use Rattle.p21_stream_kept.specs.Steps as kept_steps;
 ghost use Rattle.p21_stream_kept.specs.Steps.{StepKeepsBound};
 ghost use Rattle.p21_stream_kept.specs.Taking.{Follows};
-ghost use Rattle.p21_stream.specs.Bounds.{IsBounded, KeepsLines};
-ghost use Rattle.p21_stream.specs.Histories.{CountGives, FeedChecks, FeedGives, FeedNeedsNoMemory, FinishGives, RefusesAgain, RefusesAtEnd};
+ghost use Rattle.p21_stream.specs.Bounds.{IsBounded, KeepsLines, StaysKept};
+ghost use Rattle.p21_stream.specs.Histories.{CountGives, FeedChecks, FeedGives, FeedNeedsNoMemory, FinishGives, RefusesAgain, RefusesAtEnd, WholeGives};
 ghost use Rattle.p21_stream.specs.Inside.{held_in};
-ghost use Rattle.p21_stream.specs.Pieces.{CountsEnd, EndGives, EndsNoToken, EndsServed, IsBetweenPieces, IsUnderWay, NeedsNoMemory, ReadGives, StepGives, TakesWithinPiece};
+ghost use Rattle.p21_stream.specs.Pieces.{CountsEnd, EndGives, EndsNoToken, EndsServed, EndsWhole, IsBetweenPieces, IsUnderWay, NeedsNoMemory, ReadGives, StepGives, TakesWithinPiece};
 ghost use Rattle.p21_transcribe_instance.specs.ExternalSet.{AreExternalSets};
 ghost use Rattle.p21_transcribe_instance.specs.Steps.{IsPlanOf};
 
@@ -93,7 +94,7 @@ impl Progress {
         ensures refused { IfErr result (λ refusal. self.new.refused ≡ Some refusal) }
         ensures kind { IfErr result (λ refusal. IsOfBytes refusal.fault) }
         ensures bounded { IsBounded (held_in schema.now limits self.new) }
-        ensures lines { KeepsLines self.old.refused self.old.kept → KeepsLines self.new.refused self.new.kept }
+        ensures lines { StaysKept self.old.refused self.old.kept self.new.refused self.new.kept }
         ensures plan { IsPlanOf schema.now self.new.plan }
         ensures sets { AreExternalSets schema.now self.new.sets }
     {
@@ -117,7 +118,7 @@ impl Progress {
     /// The refusal of an earlier call; else those of `end`.
     pub(crate) fn finish(self, schema: &Schema) -> Result<Accepted, Refusal>
         requires bounded { (limits : MeantLimits) × IsBounded (held_in schema.now limits self) }
-        requires lines { KeepsLines self.refused self.kept }
+        requires lines { KeepsLines with_lines self.refused self.kept }
         ensures gives { (limits : MeantLimits) → FinishGives (held_in schema.now limits self) result }
         ensures again { (limits : MeantLimits) → RefusesAtEnd (held_in schema.now limits self) result }
         ensures kind { (limits : MeantLimits) → IsBounded (held_in schema.now limits self) → IfErr result (λ refusal. IsOfBytes refusal.fault) }
@@ -156,6 +157,30 @@ impl Progress {
             return Err(refusal);
         }
         count_end(statements, kept, statement, schema)
+    }
+
+    /// What is kept at the end of the bytes, of a whole file whose references are served.
+    ///
+    /// # Errors
+    ///
+    /// The refusal of an earlier call; else those of `check_end`.
+    pub(crate) fn whole(self, schema: &Schema) -> Result<Kept, Refusal>
+        requires { (limits : MeantLimits) × IsBounded (held_in schema.now limits self) }
+        ensures gives { (limits : MeantLimits) → WholeGives (held_in schema.now limits self) result }
+        ensures lines { IfOk result (λ kept. (self.refused ≡ None) × (kept.lines ≡ self.kept.lines)) }
+        ensures kind { (limits : MeantLimits) → IsBounded (held_in schema.now limits self) → IfErr result (λ refusal. IsOfBytes refusal.fault) }
+    {
+        let Progress {
+            statements,
+            kept,
+            statement,
+            refused,
+            ..
+        } = self;
+        if let Some(refusal) = refused {
+            return Err(refusal);
+        }
+        whole_end(statements, kept, statement, schema)
     }
 
     /// The refusal that was answered, if there is one.
@@ -323,7 +348,7 @@ fn end(
     schema: &Schema,
 ) -> Result<Accepted, Refusal>
     requires between { IsBetweenPieces schema.now statements kept }
-    requires lines { kept.lines ≡ true }
+    requires lines { kept.lines ≡ with_lines }
     ensures gives { EndGives schema.now statements kept result }
     ensures kind { IfErr result (λ refusal. IsOfBytes refusal.fault) }
 {
@@ -362,6 +387,28 @@ fn count_end(
         instances: kept.count(),
         bytes: kept.len(),
     })
+}
+
+/// What is kept at the end of the bytes, where no call was refused.
+///
+/// # Errors
+///
+/// Those of `check_end`.
+fn whole_end(
+    statements: StatementReader,
+    mut kept: Kept,
+    statement: u64,
+    schema: &Schema,
+) -> Result<Kept, Refusal>
+    requires { IsBetweenPieces schema.now statements kept }
+    ensures gives { EndsWhole schema.now statements kept result }
+    ensures lines { IfOk result (λ whole. whole.lines ≡ kept.lines) }
+    ensures kind { IfErr result (λ refusal. IsOfBytes refusal.fault) }
+{
+    match check_end(statements, &mut kept, statement, schema) {
+        Ok(()) => Ok(kept),
+        Err(refusal) => Err(refusal),
+    }
 }
 
 /// Whether the bytes end with a whole file whose references are served, where no call was refused.

@@ -1,6 +1,6 @@
 //! Reading a file to its end.
 ghost use Rattle.std.specs.Prelude.{◌≡◌, ◌≤◌, ◌+◌, ◌<◌, length, IfErr, IfOk, Ok, OnOk};
-ghost use Rattle.p21_stream.specs.Bounds.{KeepsLines};
+ghost use Rattle.p21_stream.specs.Bounds.{StaysKept};
 ghost use Rattle.p21_stream.specs.Feeding.{FeedsMore, IsFedWhole, RefusesFedBytes, RefusesPiece, TakesAtMost};
 ghost use Rattle.p21_stream.specs.ReaderInput.{ConsumesAtMost, IsAcceptedInput, IsOfBytes, RefusesRead, read_failures};
 ghost use Rattle.p21_stream.specs.Held.{limits_of, schema_of};
@@ -64,7 +64,7 @@ pub(crate) fn feed_all<R: Read>(
     ensures consumed { ConsumesAtMost (limits_of session.old) (R.remaining reader.old.inner) (R.remaining reader.new.inner) }
 
     ensures schema { KeepsSchema session.old session.new }
-    ensures lines { KeepsLines session.old.refused session.old.kept → KeepsLines session.new.refused session.new.kept }
+    ensures lines { StaysKept session.old.refused session.old.kept session.new.refused session.new.kept }
     ensures moved { reader.new.moved ≤ reader.old.moved + (most + 1) }
     ensures read { OnOk result (reader.new.failures ≡ reader.old.failures) }
     ensures failed { IfErr result (λ refusal. reader.new.failures ≡ read_failures reader.old.failures refusal.fault) }
@@ -96,7 +96,7 @@ fn feed_piece<R: Read>(
     ensures consumed { TakesAtMost (most + 1) (R.remaining reader.old.inner) (R.remaining reader.new.inner) }
 
     ensures schema { KeepsSchema session.old session.new }
-    ensures lines { KeepsLines session.old.refused session.old.kept → KeepsLines session.new.refused session.new.kept }
+    ensures lines { StaysKept session.old.refused session.old.kept session.new.refused session.new.kept }
     ensures moved { IfOk result (λ count. reader.new.moved ≤ reader.old.moved + count) }
     ensures moved_once { reader.new.moved ≤ reader.old.moved + 1 }
     ensures read { OnOk result (reader.new.failures ≡ reader.old.failures) }
@@ -116,7 +116,7 @@ fn feed_piece<R: Read>(
 fn feed(session: &mut AnySession<'_>, piece: &[u8]) -> Result<(), Refusal>
     ensures gives { OnOk result (FeedGives session.old piece.now (Ok tt) session.new) }
     ensures schema { KeepsSchema session.old session.new }
-    ensures lines { KeepsLines session.old.refused session.old.kept → KeepsLines session.new.refused session.new.kept }
+    ensures lines { StaysKept session.old.refused session.old.kept session.new.refused session.new.kept }
     ensures refuses { IfErr result (λ refusal. RefusesPiece session.old piece.now refusal.fault) }
     ensures kind { IfErr result (λ refusal. IsOfBytes refusal.fault) }
 {

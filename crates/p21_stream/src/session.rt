@@ -40,11 +40,12 @@ impl<'s> Model for Session<'s> {
 
     ghost coded = { held_code };
 
+    ghost use Rattle.p21_spec_laws.specs.Stored.{with_lines};
     ghost use Rattle.p21_stream.specs.Bounds.{KeepsLines};
 
     ghost view = { λ a. a.session };
 
-    ghost invariant = { λ a. KeepsLines a.session.refused a.session.kept };
+    ghost invariant = { λ a. KeepsLines with_lines a.session.refused a.session.kept };
 }
 
 impl<'s> Session<'s> {

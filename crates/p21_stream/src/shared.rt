@@ -50,6 +50,7 @@ impl Model for SharedSession {
 
     ghost coded = { held_code };
 
+    ghost use Rattle.p21_spec_laws.specs.Stored.{with_lines};
     ghost use Rattle.p21_stream.specs.Bounds.{IsBounded, KeepsLines};
     ghost use Rattle.p21_stream.specs.Inside.{held_in};
     ghost use Rattle.p21_transcribe_instance.specs.ExternalSet.{AreExternalSets};
@@ -58,7 +59,7 @@ impl Model for SharedSession {
 
     ghost view = { λ a. held_in (arc_value a.schema) a.limits a.progress };
 
-    ghost invariant = { λ a. IsBounded (held_in (arc_value a.schema) a.limits a.progress) × IsPlanOf (arc_value a.schema) a.progress.plan × AreExternalSets (arc_value a.schema) a.progress.sets × KeepsLines a.progress.refused a.progress.kept };
+    ghost invariant = { λ a. IsBounded (held_in (arc_value a.schema) a.limits a.progress) × IsPlanOf (arc_value a.schema) a.progress.plan × AreExternalSets (arc_value a.schema) a.progress.sets × KeepsLines with_lines a.progress.refused a.progress.kept };
 }
 
 impl SharedSession {

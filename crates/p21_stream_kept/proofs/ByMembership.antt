@@ -1,12 +1,13 @@
 -- What is stored of instances, where their memberships have numbers.
-use Rattle.std.proofs.Common.{◌≡◌, ◌<◌, ◌≤◌, ◌∙◌, ℕ, zero, suc, List, [], ◌∷◌, ◌++◌, length, slice_get, Option, Some, Result, Ok, Err, inl, inr, refl, ap, subst, arith}
-use Rattle.std.proofs.lemmas.List.Sorted.{IsPermutation-map}
+use Rattle.std.proofs.Common.{◌≡◌, ◌<◌, ◌≤◌, ◌∙◌, ℕ, zero, suc, List, [], ◌∷◌, ◌++◌, length, slice_get, Option, Some, Result, Ok, Err, inl, inr, refl, ap, subst, sym, arith}
+use Rattle.std.proofs.lemmas.List.Sorted.{Contains-permutation, IsPermutation-map, IsPermutation-sym}
 use Rattle.std.specs.List.{AllByRecursion as Each}
 use Rattle.std.specs.List.Sorted.{IsPermutation}
-use Rattle.std.specs.Prelude.{Contains, OnOk}
-use Rattle.p21_spec_basics.proofs.Members.{Contains-mapped, Each-weaker}
+use Rattle.std.specs.Prelude.{Contains, OnErr, OnOk}
+use Rattle.p21_spec_basics.proofs.Members.{Contains-mapped, Each-member, Each-of_members, Each-weaker}
 use Rattle.p21_spec_laws.specs.Stored.{StoredEntry}
-use Rattle.p21_stream_kept.specs.Inside.{AreOfSections, HaveMemberships, stored_of, stored_with}
+use Rattle.p21_stream_kept.specs.Inside.{AreNamed, AreOfSections, HaveMemberships, stored_of, stored_with}
+use Rattle.p21_stream_output.specs.Output.{IsNamed}
 use Rattle.p21_stream_store.specs.Memberships.{Membership}
 use Rattle.p21_stream_store.specs.Numbering.{Interns}
 use Rattle.p21_stream_store.specs.StoredInstance as store
@@ -46,6 +47,16 @@ stored-pushed old new membership number interned instances all each name own sam
     let P : ℕ → Type 0 = λ n. IsPermutation (record { name = n; section = membership.section; entities = membership.entities; text = text } ∷ stored_of old instances) (stored_of new all) in
     subst P same (stored-more old new membership number interned instances all each own text permuted)
 stored-pushed old new membership number interned instances all each name own same text (Err fault) permuted = tt
+
+-- where lines begin with their names, they do so with one more
+pub named-pushed : {T F : Type 0} (old new : List store.StoredInstance) (name own membership : ℕ) (text : List ℕ) (r : Result T F) → OnOk r (IsPermutation (record { name = own; membership = membership; text = text } ∷ old) new) → OnErr r (new ≡ old) → own ≡ name
+    → AreNamed old → IsNamed name text → AreNamed new
+named-pushed old new name own membership text (Ok value) permuted unchanged same are named =
+    let x : store.StoredInstance = record { name = own; membership = membership; text = text } in
+    let P : store.StoredInstance → Type 0 = λ y. IsNamed y.name y.text in
+    let its : IsNamed own text = subst (λ (n : ℕ). IsNamed n text) (sym same) named in
+    Each-of_members P new (λ y among. Each-member P (x ∷ old) y (its, are) (Contains-permutation new (x ∷ old) y (IsPermutation-sym (x ∷ old) new permuted) among))
+named-pushed old new name own membership text (Err fault) permuted unchanged same are named = subst AreNamed (sym unchanged) are
 
 -- ---- what is found of it
 

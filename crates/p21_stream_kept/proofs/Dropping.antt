@@ -98,6 +98,7 @@ keeps-dropped s limits given kept waiting drops keeps =
       references_are = keeps.references_are;
       bytes_are = keeps.bytes_are;
       framing_is = keeps.framing_is;
+      equal_is = keeps.equal_is;
     }
 
 -- a statement that was taken is kept without them, or with all

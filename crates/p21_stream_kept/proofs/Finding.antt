@@ -2,13 +2,13 @@
 use Rattle.std.proofs.Common.{◌≡◌, ◌+◌, ◌∷◌, ◌++◌, ◌∙◌, List, [], ℕ, length, map, Ok, add-one, ap, refl, sym, subst}
 use Rattle.std.specs.List.{AllByRecursion as Each}
 use Rattle.std.specs.List.Sorted.{IsPermutation}
-use Rattle.std.specs.Prelude.{Bool, Contains}
+use Rattle.std.specs.Prelude.{◌↔◌, Bool, Contains, IsTrue}
 use Rattle.p21_spec_basics.specs.Limits.{Limits}
 use Rattle.p21_canon.proofs.Statements.{statement-instance}
 use Rattle.p21_canon.specs.Statement.{AppendsStatement}
 use Rattle.p21_spec_laws.specs.CompleteFile.{Entry}
 use Rattle.p21_spec_laws.specs.Keeping.{Kept}
-use Rattle.p21_spec_laws.specs.Stored.{StoredEntry, kept_text}
+use Rattle.p21_spec_laws.specs.Stored.{IsAmongEarlier, KeptLines, StoredEntry, kept_text, with_lines}
 use Rattle.p21_spec_laws.specs.Waiting.{Reference}
 use Rattle.p21_spec_laws.proofs.CanonicalLaid.{laid-each_spelled}
 use Rattle.p21_spec_laws.proofs.GraphicTexts.{lines-graphic}
@@ -53,9 +53,9 @@ found-named s n r entities needs text is =
     ((tokens_text (record_tokens is.printed.canonical ++ (semicolon ∷ [])), is.printed.text_is), subst (Each IsGraphic) (sym is.printed.text_is) (lines-graphic statement spelled))
 
 -- where lines are kept, the text that is kept of it begins so too
-pub named-kept : (lines later : Bool) → later ≡ lines → (old new : List StoredInstance) (n : ℕ) (line : List ℕ) → IsNamed n line → AreNamedWhereKept lines old → (AreNamed old → IsNamed n (kept_text lines line) → AreNamed new) → AreNamedWhereKept later new
+pub named-kept : (lines later : KeptLines) → later ≡ lines → (old new : List StoredInstance) (n : ℕ) (line : List ℕ) → IsNamed n line → AreNamedWhereKept lines old → (AreNamed old → IsNamed n (kept_text lines line) → AreNamed new) → AreNamedWhereKept later new
 named-kept lines later same old new n line named was more =
-    record { where_kept = λ yes. more (was.where_kept (sym same ∙ yes)) (subst (λ (b : Bool). IsNamed n (kept_text b line)) (sym (sym same ∙ yes)) named) }
+    record { where_kept = λ yes. more (was.where_kept (sym same ∙ yes)) (subst (λ (b : KeptLines). IsNamed n (kept_text b line)) (sym (sym same ∙ yes)) named) }
 
 -- the same is found, where the lists are the same
 pub found-same : (s : Schema) (n : ℕ) (r : Record) (es fs : List EntityId) (ns ms : List mapping.Need) (xs ys : List ℕ) → fs ≡ es → ms ≡ ns → ys ≡ xs → HasFound s n r (ids_view es) (needs_view ns) xs → HasFound s n r (ids_view fs) (needs_view ms) ys
@@ -70,11 +70,12 @@ found-same s n r es fs ns ms xs ys same_entities same_needs same_text is =
 -- all of it is kept
 pub took-found : (s : Schema) (limits : Limits) (old new : Kept) (n : ℕ) (r : Record) (entities : List ℕ) (needs : List Need) (text : List ℕ) → HasFound s n r entities needs text → (Contains (map (λ (x : StoredEntry). x.name) old.stored) n → ⊥)
     → (waiting : List Reference) → AddsWaiting s old.stored n needs old.waiting waiting → (number : ℕ) → number + 1 ≡ length old.headings
-    → (stored : List StoredEntry) → IsPermutation (record { name = n; section = number; entities = entities; text = kept_text old.lines text } ∷ old.stored) stored → FitsLimits limits (old.bytes + old.framing) (length text)
-    → new ≡ record old { stored = stored; waiting = waiting; references = old.references + length needs; bytes = old.bytes + length text; framing = old.framing + 1 } → StepGives s limits old (instance n r) (Ok tt) new
-took-found s limits old new n r entities needs text is none waiting adds number last stored permuted room same =
+    → (stored : List StoredEntry) → IsPermutation (record { name = n; section = number; entities = entities; text = kept_text old.lines text } ∷ old.stored) stored
+    → (equal : Bool) → IsTrue equal ↔ (IsTrue old.equal × IsAmongEarlier old.lines (n, text)) → FitsLimits limits (old.bytes + old.framing) (length text)
+    → new ≡ record old { equal = equal; stored = stored; waiting = waiting; references = old.references + length needs; bytes = old.bytes + length text; framing = old.framing + 1 } → StepGives s limits old (instance n r) (Ok tt) new
+took-found s limits old new n r entities needs text is none waiting adds number last stored permuted equal is_equal room same =
     let entry : Entry = record { name = n; record_ = r; meaning = is.meaning; needs = needs; text = text } in
     let P : List ℕ → Type 0 = λ es. IsPermutation (record { name = n; section = number; entities = es; text = kept_text old.lines text } ∷ old.stored) stored in
-    let W : List Reference → Kept = λ w. record old { stored = stored; waiting = w; references = old.references + length needs; bytes = old.bytes + length text; framing = old.framing + 1 } in
+    let W : List Reference → Kept = λ w. record old { equal = equal; stored = stored; waiting = w; references = old.references + length needs; bytes = old.bytes + length text; framing = old.framing + 1 } in
     took-instance s limits old new entry (record { meant = is.meant; printed = is.printed; within = room.0 }) none adds.added (left-among s old.stored (λ (x : Need). x) needs adds.added adds.unserved) (left-or_served s old.stored (λ (x : Need). x) needs adds.added adds.unserved) number (sym (add-one number) ∙ last) stored
-    (subst P (sym is.entities_are) permuted) room (same ∙ ap W adds.new_is)
+    (subst P (sym is.entities_are) permuted) equal is_equal room (same ∙ ap W adds.new_is)

@@ -2,7 +2,7 @@
 use Rattle.std.proofs.Common.{◌≡◌, ◌+◌, ◌⊎◌, ◌∙◌, ℕ, suc, List, [], ◌∷◌, ◌++◌, length, map, true, Option, Some, None, Ok, Err, refl, sym, ap, subst}
 use Rattle.std.specs.List.{AllByRecursion as Each}
 use Rattle.std.specs.List.Sorted.{IsPermutation}
-use Rattle.std.specs.Prelude.{◌≢◌, Contains, IfSome, IsNone, is_some}
+use Rattle.std.specs.Prelude.{◌≢◌, ◌↔◌, Bool, Contains, IfSome, IsNone, IsTrue, is_some}
 use Rattle.p21_spec_basics.proofs.Members.{Contains-mapped, Contains-unmapped}
 use Rattle.p21_spec_basics.specs.Limits.{Limits}
 use Rattle.p21_spec_laws.specs.CompleteFile.{Entry}
@@ -12,7 +12,7 @@ use Rattle.p21_spec_laws.specs.UnrefusedStatements.{IsFound}
 use Rattle.p21_spec_laws.specs.Keeping.{IsServedBy, Keeps, Kept, keep_instance}
 use Rattle.p21_spec_laws.specs.Offending.{broken, name_again}
 use Rattle.p21_spec_laws.specs.Stored as claim
-use Rattle.p21_spec_laws.specs.Stored.{StoredEntry}
+use Rattle.p21_spec_laws.specs.Stored.{IsAmongEarlier, StoredEntry}
 use Rattle.p21_spec_exchange.specs.Record.{Record}
 use Rattle.p21_spec_exchange.specs.Statement.{instance}
 use Rattle.p21_spec_file.specs.BrokenRule.{Breaks}
@@ -55,10 +55,11 @@ named-none instances n None none among = absurd (none refl among)
 pub took-instance : (s : Schema) (limits : Limits) (old new : Kept) (entry : Entry) → IsFound s limits entry → (Contains (map (λ (x : StoredEntry). x.name) old.stored) entry.name → ⊥)
     → (added : List Need) → Each (Contains entry.needs) added → Each (λ (need : Need). Contains added need ⊎ IsServedBy s old.stored need) entry.needs
     → (number : ℕ) → suc number ≡ length old.headings → (stored : List StoredEntry) → IsPermutation (claim.stored_of old.lines (number, entry) ∷ old.stored) stored
-    → FitsLimits limits (old.bytes + old.framing) (length entry.text) → new ≡ keep_instance old entry added stored → StepGives s limits old (instance entry.name entry.record_) (Ok tt) new
-took-instance s limits old new entry found none added are_needs waits number last stored permuted room is given keeps =
+    → (equal : Bool) → IsTrue equal ↔ (IsTrue old.equal × IsAmongEarlier old.lines (entry.name, entry.text))
+    → FitsLimits limits (old.bytes + old.framing) (length entry.text) → new ≡ keep_instance old entry added stored equal → StepGives s limits old (instance entry.name entry.record_) (Ok tt) new
+took-instance s limits old new entry found none added are_needs waits number last stored permuted equal is_equal room is given keeps =
     subst (λ (k : Kept). Keeps s limits (given ++ instance entry.name entry.record_ ∷ []) k) (sym is)
-    (keeps-by_instance s limits given old keeps entry found none added are_needs waits number last stored permuted room.1)
+    (keeps-by_instance s limits given old keeps entry found none added are_needs waits number last stored permuted equal is_equal room.1)
 
 -- the instance of the name that is stored was given
 pub instance-again : (s : Schema) (limits : Limits) (old new : Kept) (n : ℕ) (record_ : Record) → Contains (map (λ (x : StoredEntry). x.name) old.stored) n → StepGives s limits old (instance n record_) (Err DuplicateName) new

@@ -10,3 +10,4 @@ pub mod Unserved
 pub mod Finding
 pub mod Following
 pub mod Dropping
+pub mod EarlierLemmas

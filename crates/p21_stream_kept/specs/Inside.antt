@@ -1,14 +1,14 @@
 -- What the fields hold, as pure data.
-use Rattle.std.specs.Prelude.{Bool, ◌≡◌, ◌<◌, ◌≤◌, ◌+◌, ◌^◌, List, length, map, true}
+use Rattle.std.specs.Prelude.{◌≡◌, ◌<◌, ◌≤◌, ◌+◌, ◌^◌, List, length, map}
 use Rattle.p21_spec_laws.specs.Keeping.{Kept}
-use Rattle.p21_spec_laws.specs.Stored.{StoredEntry}
+use Rattle.p21_spec_laws.specs.Stored.{KeptLines, StoredEntry, with_lines}
 use Rattle.p21_spec_laws.specs.Waiting as waiting
 use Rattle.p21_mapping_values.specs.TypedView.{need_view}
 use Rattle.p21_stream_kept.specs.declared.kept.Kept.TheInside.{Inside}
 use Rattle.p21_stream_kept.specs.declared.kept.Reference.{Reference}
 use Rattle.p21_stream_kept.specs.declared.stored.Stored.{Stored}
 use Rattle.p21_stream_store.specs.StoredInstance.{StoredInstance}
-use Rattle.p21_stream_kept.specs.KeptInstances.{instances_of, keeps_lines}
+use Rattle.p21_stream_kept.specs.KeptInstances.{are_equal, instances_of, lines_kept}
 pub use Rattle.p21_stream_output.specs.Ending.{AreNamed, stored_of, stored_with}
 pub use Rattle.p21_stream_output.specs.Filing.{HaveMemberships, AreOfSections}
 
@@ -27,7 +27,8 @@ AreStored a = HaveMemberships a.memberships (instances_of a.instances)
 
 abbrev pub kept_of : Inside → Kept
 kept_of a = record {
-  lines = keeps_lines a.stored.instances;
+  lines = lines_kept a.stored.instances;
+  equal = are_equal a.stored.instances;
   header = a.header.items;
   headings = a.sections;
   stored = stored_in a.stored;
@@ -38,8 +39,8 @@ kept_of a = record {
 }
 
 -- where lines are kept, the text of each instance begins with its name
-pub record AreNamedWhereKept (lines : Bool) (instances : List StoredInstance) : Type 0 where
-  pub where_kept : lines ≡ true → AreNamed instances
+pub record AreNamedWhereKept (lines : KeptLines) (instances : List StoredInstance) : Type 0 where
+  pub where_kept : lines ≡ with_lines → AreNamed instances
 
 -- each instance has the number of a membership, each membership is of a data section, each text that is kept begins with the name
 -- of its instance, 64 bits count the bytes of all lines, and no more references have come than may before those that wait are looked
@@ -47,6 +48,6 @@ pub record AreNamedWhereKept (lines : Bool) (instances : List StoredInstance) : 
 pub record IsWhole (a : Inside) : Type 0 where
   pub memberships : AreStored a.stored
   pub sections : AreOfSections (length a.sections) a.stored.memberships
-  pub named : AreNamedWhereKept (keeps_lines a.stored.instances) (instances_of a.stored.instances)
+  pub named : AreNamedWhereKept (lines_kept a.stored.instances) (instances_of a.stored.instances)
   pub counted : a.bytes + a.framing < 2 ^ 64
   pub patient : a.references ≤ a.waiting.due

@@ -2,6 +2,7 @@ pub mod Prefix
 pub mod Shape
 pub mod Found
 pub mod Sections
+pub mod Earlier
 pub mod KeptInstances
 pub mod Inside
 pub mod Served

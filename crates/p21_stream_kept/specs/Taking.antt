@@ -1,8 +1,9 @@
 -- What is known of the statements before one that is taken, and of those of a whole file.
-use Rattle.std.specs.Prelude.{◌≡◌, ◌<◌, ◌^◌, ℕ, true, List, [], ◌∷◌, ◌++◌, length}
+use Rattle.std.specs.Prelude.{◌≡◌, ◌<◌, ◌^◌, ℕ, List, [], ◌∷◌, ◌++◌, length}
 use Rattle.std.specs.List.{flat_map}
 use Rattle.p21_spec_basics.specs.Limits.{Limits}
 use Rattle.p21_spec_laws.specs.Keeping.{Keeps, Kept}
+use Rattle.p21_spec_laws.specs.Stored.{with_lines}
 use Rattle.p21_spec_exchange.specs.Grammar.{IsFile}
 use Rattle.p21_spec_exchange.specs.Record.{Record}
 use Rattle.p21_spec_exchange.specs.Statement.{Statement, instance, statement_tokens}
@@ -35,4 +36,4 @@ pub record IsKeptOfFile (kept : Kept) : Type 0 where
   pub text : List ℕ
   pub is_file : IsFile structure text
   pub statements_are : statements structure ≡ given
-  pub lines : kept.lines ≡ true
+  pub lines : kept.lines ≡ with_lines

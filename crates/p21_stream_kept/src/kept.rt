@@ -1,7 +1,9 @@
-ghost use Rattle.std.specs.Prelude.{◌≡◌, ◌≢◌, ◌≤◌, ◌↔◌, ◌+◌, Contains, IfErr, IsTrue, OnErr, OnOk, length, map, vec_capacity};
+ghost use Rattle.std.specs.Prelude.{◌≡◌, ◌≢◌, ◌≤◌, ◌↔◌, ◌+◌, [], Contains, IfErr, IsTrue, OnErr, OnOk, length, map, nat_eq, true, vec_capacity};
+ghost use Rattle.std.specs.List.{IsDistinct};
 ghost use Rattle.p21_spec_basics.specs.Limits.{Limits as MeantLimits};
-ghost use Rattle.p21_spec_laws.specs.Keeping.{Keeps, nothing_counted, nothing_kept};
-ghost use Rattle.p21_spec_laws.specs.Stored.{StoredEntry};
+ghost use Rattle.p21_spec_laws.specs.Beside.{IsSameAs, earlier_of};
+ghost use Rattle.p21_spec_laws.specs.Keeping.{Keeps, nothing_counted, nothing_kept, nothing_with};
+ghost use Rattle.p21_spec_laws.specs.Stored.{Earlier as MeantEarlier, StoredEntry, beside, with_lines};
 ghost use Rattle.p21_spec_exchange.specs.Statement.{Statement, data_start, header, instance, section};
 ghost use Rattle.p21_grammar.specs.Statements.{line_of};
 ghost use Rattle.p21_grammar_tree.specs.View.{items_of, part_view, record_view, views};
@@ -11,13 +13,17 @@ ghost use Rattle.p21_spec_schema.specs.Schema.{Schema as MeantSchema};
 ghost use Rattle.p21_stream_output.specs.Ending.{IsFileOfKept};
 ghost use Rattle.p21_stream_statements.specs.Source.{IsOfBytes};
 ghost use Rattle.p21_stream_kept.specs.Inside.{references_of};
+ghost use Rattle.p21_stream_kept.specs.KeptInstances.{are_equal, instances_of, lines_kept};
 ghost use Rattle.p21_stream_kept.specs.Served.{AnswersNeed, AnswersUnserved};
 ghost use Rattle.p21_stream_kept.specs.Steps.{FoundGives, StepGives, StepKeepsBound, TakesLine};
 ghost use Rattle.p21_stream_kept.specs.Taking.{Follows, FollowsFound, IsKeptOfFile};
 
+use crate::beside::Beside;
 use crate::canonical_limits::fits_limits;
+use crate::earlier::Earlier;
 use crate::end::named_sections_of;
 use crate::found::{FoundInstance, find_instance};
+use crate::kept_instances::KeptInstances;
 use crate::schema_name::names_schema;
 use crate::sections::Sections;
 use crate::served::{first_unserved, learn_waiting, refusal_of};
@@ -33,6 +39,7 @@ use p21_grammar_tree::{Part, Record};
 use p21_mapping_values::Need;
 use p21_stream_output::{Accepted, accepted_file};
 use p21_stream_statements::Fault;
+use p21_stream_store::{Instances, NamedMemberships};
 use p21_values::{Canonical, Limits, Name, NoMemory, Text};
 use std::alloc::Global;
 use std::marker::Model;
@@ -96,25 +103,52 @@ impl Kept {
     pub fn new(alloc: Global) -> Kept
         ensures { result ≡ nothing_kept }
     {
-        Kept::nothing(alloc, true)
+        Kept::nothing(alloc, KeptInstances::WithLines(Instances::new(alloc)))
     }
 
     /// The same where the lines of instances won't be kept, but counted. It takes no memory.
     pub fn counting(alloc: Global) -> Kept
         ensures { result ≡ nothing_counted }
     {
-        Kept::nothing(alloc, false)
+        Kept::nothing(alloc, KeptInstances::Counted(NamedMemberships::new(alloc)))
     }
 
-    /// What is kept where nothing was taken.
-    fn nothing(alloc: Global, lines: bool) -> Kept
-        ensures { result ≡ record nothing_kept { lines = lines } }
+    /// The same where the lines of instances won't be kept, but held against those of an earlier file, by what is kept of it.
+    pub fn beside(alloc: Global, earlier: Kept) -> Kept
+        requires keeps { (s : MeantSchema) × (limits : MeantLimits) × (given : List Statement) × Keeps s limits given earlier }
+        requires lines { earlier.lines ≡ with_lines }
+        ensures { result ≡ nothing_with (beside (earlier_of earlier)) }
+    {
+        let Kept {
+            alloc: _,
+            header,
+            sections,
+            stored,
+            waiting: _,
+            servers: _,
+            references: _,
+            bytes: _,
+            framing: _,
+        } = earlier;
+        let Stored {
+            memberships,
+            instances,
+        } = stored;
+        let earlier = Earlier::new(header, sections, memberships, instances.into_lines());
+        Kept::nothing(alloc, KeptInstances::Beside(Beside::new(alloc, earlier)))
+    }
+
+    /// What is kept where nothing was taken, with what will keep the instances.
+    fn nothing(alloc: Global, instances: KeptInstances) -> Kept
+        requires none { instances_of instances ≡ [] }
+        requires equal { are_equal instances ≡ true }
+        ensures { result ≡ nothing_with (lines_kept instances) }
     {
         Kept {
             alloc,
             header: Vec::new(alloc),
             sections: Sections::new(alloc),
-            stored: Stored::new(alloc, lines),
+            stored: Stored::new(alloc, instances),
             waiting: Waiting::new(alloc),
             servers: Servers::new(alloc),
             references: 0,
@@ -408,6 +442,19 @@ impl Kept {
         ensures { AnswersNeed schema.now self.now.stored (need_view need.now) result }
     {
         refusal_of(schema, &self.stored, need)
+    }
+
+    /// Whether the file is the same as the one that was read before it, where there is such a one. It takes no memory.
+    pub fn is_same(&self) -> bool
+        requires { IsDistinct nat_eq (map (λ (x : StoredEntry). x.name) self.now.stored) }
+        ensures { (earlier : MeantEarlier) → self.now.lines ≡ beside earlier → IsTrue result ↔ IsSameAs earlier self.now }
+    {
+        match &self.stored.instances {
+            KeptInstances::Beside(later) => {
+                later.is_same(&self.header, &self.sections, &self.stored.memberships)
+            }
+            _ => false,
+        }
     }
 
     /// The accepted file of what is kept, where lines are, and where all references are served. The statements are those of a whole file, and the

@@ -1,7 +1,9 @@
 //! What a session keeps of the statements of a file that it has taken, and what it tests of header records.
 #![tactic(auto)]
 
+mod beside;
 mod canonical_limits;
+mod earlier;
 mod end;
 mod found;
 mod kept;

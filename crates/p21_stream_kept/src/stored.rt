@@ -1,10 +1,10 @@
 //! The instances that were taken, each with its membership.
-ghost use Rattle.std.specs.Prelude.{◌≡◌, ◌↔◌, ◌<◌, [], ◌∷◌, ℕ, Contains, IsPermutation, IsTrue, OnOk};
-ghost use Rattle.p21_spec_laws.specs.Stored.{kept_text};
+ghost use Rattle.std.specs.Prelude.{◌≡◌, ◌↔◌, ◌<◌, [], ◌∷◌, ℕ, Contains, IsPermutation, IsTrue, OnErr, OnOk};
+ghost use Rattle.p21_spec_laws.specs.Stored.{IsAmongEarlier, kept_text};
 ghost use Rattle.p21_mapping_values.specs.TypedView.{ids_view};
 ghost use Rattle.p21_stream_output.specs.Output.{IsNamed};
 ghost use Rattle.p21_stream_kept.specs.Inside.{AreNamed, AreOfSections, AreStored, stored_in};
-ghost use Rattle.p21_stream_kept.specs.KeptInstances.{instances_of, keeps_lines};
+ghost use Rattle.p21_stream_kept.specs.KeptInstances.{are_equal, instances_of, lines_kept};
 ghost use Rattle.p21_stream_store.specs.StoredInstance.{instance_names};
 
 use crate::found::FoundInstance;
@@ -21,15 +21,14 @@ pub struct Stored {
 }
 
 impl Stored {
-    /// None, which will be kept with their lines or without. It takes no memory.
-    pub(crate) fn new(alloc: Global, lines: bool) -> Stored
+    /// None yet, with what will keep them. It takes no memory.
+    pub(crate) fn new(alloc: Global, instances: KeptInstances) -> Stored
         ensures memberships { result.memberships ≡ [] }
-        ensures none { instances_of result.instances ≡ [] }
-        ensures lines { keeps_lines result.instances ≡ lines }
+        ensures instances { result.instances ≡ instances }
     {
         Stored {
             memberships: Memberships::new(alloc),
-            instances: KeptInstances::new(alloc, lines),
+            instances,
         }
     }
 
@@ -52,9 +51,10 @@ impl Stored {
         requires another { Contains (instance_names (instances_of self.old.instances)) found.now.name → ⊥ }
         ensures memberships { AreStored self.new }
         ensures sections { (many : ℕ) → section < many → AreOfSections many self.old.memberships → AreOfSections many self.new.memberships }
-        ensures named { AreNamed (instances_of self.old.instances) → IsNamed found.now.name (kept_text (keeps_lines self.old.instances) found.now.line.now) → AreNamed (instances_of self.new.instances) }
-        ensures lines { keeps_lines self.new.instances ≡ keeps_lines self.old.instances }
-        ensures ok { OnOk result (IsPermutation (record { name = found.now.name; section = section; entities = ids_view found.now.entities.now; text = kept_text (keeps_lines self.old.instances) found.now.line.now } ∷ stored_in self.old) (stored_in self.new)) }
+        ensures named { AreNamed (instances_of self.old.instances) → IsNamed found.now.name (kept_text (lines_kept self.old.instances) found.now.line.now) → AreNamed (instances_of self.new.instances) }
+        ensures lines { lines_kept self.new.instances ≡ lines_kept self.old.instances }
+        ensures equal { OnOk result (IsTrue (are_equal self.new.instances) ↔ (IsTrue (are_equal self.old.instances) × IsAmongEarlier (lines_kept self.old.instances) (found.now.name, found.now.line.now))) }
+        ensures ok { OnOk result (IsPermutation (record { name = found.now.name; section = section; entities = ids_view found.now.entities.now; text = kept_text (lines_kept self.old.instances) found.now.line.now } ∷ stored_in self.old) (stored_in self.new)) }
     {
         let name = found.name;
         let membership = match self.memberships.add(alloc, section, found.entities) {

@@ -35,6 +35,15 @@ below_to xs rising x place within below i before = let most = never-fall xs risi
 pub behind_from : (xs : List ℕ) → IsStrictlyIncreasing xs → (x place : ℕ) → x ≤ get_or xs place 0 → (i : ℕ) → place ≤ i → i < length xs → x ≤ get_or xs i 0
 behind_from xs rising x place above i behind within = let least = never-fall xs rising place i behind within in omega (arith, least, above)
 
+-- a name that isn't below a bound isn't below the first of rising names that isn't below it either
+pub first-least : (xs : List ℕ) (place least : ℕ) → IsStrictlyIncreasing xs → ((i : ℕ) → i < place → get_or xs i 0 < least) → (y : ℕ) → least ≤ y → Contains xs y → (place < length xs) × (get_or xs place 0 ≤ y)
+first-least xs place least rising before y from (k, within, at) =
+    let here : get_or xs k y ≡ get_or xs k 0 = get_or_default_zero xs k y within in
+    elim (leb_tells place k) [
+      | inl behind ↦ (let low = never-fall xs rising place k behind.1 within in (omega (arith, behind.1, within), omega (arith, low, here, at)))
+      | inr front ↦ absurd (let below = before k front.1 in omega (arith, below, here, at, from))
+    ]
+
 -- only the first that isn't below a name can be it
 pub not_found : (xs : List ℕ) (x place : ℕ) → IsStrictlyIncreasing xs → ((i : ℕ) → i < place → get_or xs i 0 < x) → ((i : ℕ) → place ≤ i → i < length xs → x ≤ get_or xs i 0) → (slice_get xs place ≡ Some x → ⊥) → Contains xs x → ⊥
 not_found xs x place rising before behind other (k, within, at) =

@@ -13,11 +13,11 @@ use Rattle.p21_stream_store.specs.Numbering.{AreNumbered, AreOnce, Interns}
 
 -- ---- lists
 
-at-the-end : {X : Type 0} (xs : List X) (x : X) → slice_get (xs ++ x ∷ []) (length xs) ≡ Some x
+pub at-the-end : {X : Type 0} (xs : List X) (x : X) → slice_get (xs ++ x ∷ []) (length xs) ≡ Some x
 at-the-end [] x = refl
 at-the-end (a ∷ xs) x = at-the-end xs x
 
-at-or-before : {X : Type 0} (xs : List X) (x : X) (i : ℕ) (y : X) → slice_get (xs ++ x ∷ []) i ≡ Some y → (slice_get xs i ≡ Some y) ⊎ ((i ≡ length xs) × (x ≡ y))
+pub at-or-before : {X : Type 0} (xs : List X) (x : X) (i : ℕ) (y : X) → slice_get (xs ++ x ∷ []) i ≡ Some y → (slice_get xs i ≡ Some y) ⊎ ((i ≡ length xs) × (x ≡ y))
 at-or-before [] x zero y e = inr (refl, same_Some x y e)
 at-or-before [] x (suc i) y e = absurd (none-some y e)
 at-or-before (a ∷ xs) x zero y e = inl e
@@ -51,7 +51,7 @@ equal-is Equal e = refl
 equal-is Greater e = absurd (true≢false (sym e))
 
 -- what is found stands at a key that passes the test
-key-found : {K X : Type 0} (test : K → Bool) (entries : List (K × X)) (x : X) → lookup test entries ≡ Some x → (key : K) × (test key ≡ true)
+pub key-found : {K X : Type 0} (test : K → Bool) (entries : List (K × X)) (x : X) → lookup test entries ≡ Some x → (key : K) × (test key ≡ true)
 key-found test [] x e = absurd (none-some x e)
 key-found {K} {X} test (entry ∷ entries) x e = by (test entry.0) refl (key-found test entries x) where
   by : (b : Bool) → test entry.0 ≡ b → (lookup test entries ≡ Some x → (key : K) × (test key ≡ true)) → (key : K) × (test key ≡ true)

@@ -1,5 +1,5 @@
 //! The instances that a session has taken.
-ghost use Rattle.std.specs.Prelude.{◌≡◌, ◌<◌, ℕ, List, [], ◌∷◌, length, slice_get, Contains, IfOk, IfSome, IsNone, IsPermutation, OnErr, OnOk, Some};
+ghost use Rattle.std.specs.Prelude.{◌≡◌, ◌<◌, ◌≤◌, ◌^◌, ℕ, List, [], ◌∷◌, length, slice_get, Contains, IfOk, IfSome, IsNone, IsPermutation, OnErr, OnOk, Some};
 ghost use Rattle.std.specs.List.{range_with_len};
 ghost use Rattle.std.specs.List.Sorted.{IsNonDecreasingBy};
 ghost use Rattle.p21_stream_store.specs.StoredInstance.{StoredInstance, stored_instance, instance_names, name_at};
@@ -105,6 +105,17 @@ impl Instances {
             return Some(membership);
         }
         self.lines.membership_of(name)
+    }
+
+    /// The name and the number of the membership of the first instance whose name is this one or above it, if there is one.
+    pub fn next_from(&self, least: u64) -> Option<(u64, usize)>
+        ensures found { IfSome result (λ found. (least ≤ found.0) × (found.0 < 2 ^ 64)) }
+        ensures some { IfSome result (λ found. (text : List ℕ) × Contains self.now (record { name = found.0; membership = found.1; text = text })) }
+        ensures between { IfSome result (λ found. (other : ℕ) → least ≤ other → other < found.0 → Contains (instance_names self.now) other → ⊥) }
+        ensures none { IsNone result → (other : ℕ) → least ≤ other → Contains (instance_names self.now) other → ⊥ }
+        ensures fits { (other : ℕ) → Contains (instance_names self.now) other → other < 2 ^ 64 }
+    {
+        self.lines.next_from(least)
     }
 
     /// Adds an instance whose name no instance has yet, with the number of its membership and its canonical text.

@@ -19,9 +19,9 @@ pub struct NamedLines {
     // A bit for each small name that has come.
     seen: Vec<u64>,
     pub(crate) rising: Numbers,
-    texts_of_rising: StoredTexts,
+    pub(crate) texts_of_rising: StoredTexts,
     pub(crate) late: LateNames,
-    texts_of_late: StoredTexts,
+    pub(crate) texts_of_late: StoredTexts,
 }
 
 // Written out: crates above call it, where they would prove a derived one field by field.

@@ -36,6 +36,15 @@ pub fn position_in(names: &Numbers, name: u64) -> Option<usize>
     None
 }
 
+/// The position of the first of rising names that isn't below a name; behind all positions where each is below it.
+pub fn first_from(names: &Numbers, name: u64) -> usize
+    requires { IsStrictlyIncreasing names.now }
+    ensures before { (i : ℕ) → i < result → get_or names.now i 0 < name }
+    ensures behind { (i : ℕ) → result ≤ i → i < length names.now → name ≤ get_or names.now i 0 }
+{
+    first_not_below(names, name, guess(names, name))
+}
+
 /// Whether a name stands at a position.
 fn is_at(names: &Numbers, name: u64, place: usize) -> bool
     ensures here { IsTrue result → slice_get names.now place ≡ Some name }

@@ -14,4 +14,4 @@ pub returns-in-Err-finish-clause-consumed : goal.returns-in-Err-finish-clause-co
 returns-in-Err-finish-clause-consumed g c = subst (λ (l : Limits). ConsumesAtMost l (g.R.Read.remaining c.args.reader.now.inner) (g.R.Read.remaining c.feed_all.new.reader.inner)) c.keeping-session.ensures.limits c.in-Ok.ensures.consumed
 
 pub finish-requires : goal.finish-requires
-finish-requires g c = c.in-Ok.ensures.lines c.keeping-session.ensures.lines
+finish-requires g c = c.in-Ok.ensures.lines _ c.keeping-session.ensures.lines

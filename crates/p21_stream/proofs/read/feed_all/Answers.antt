@@ -31,12 +31,12 @@ loop-count-preserved g c =
     record {
       fed = loop-goes_on _ _ _ c.args.session.now c.loop-count.session _ _ _ _ short c.loop-count.invariant.fed c.in-Ok.ensures.schema c.in-Ok.ensures.ok;
       moved = let moved = c.in-Ok.ensures.moved in let before = c.loop-count.invariant.moved in omega arith;
-      lines = λ keeps. c.in-Ok.ensures.lines (c.loop-count.invariant.lines keeps);
+      lines = λ lines keeps. c.in-Ok.ensures.lines lines (c.loop-count.invariant.lines lines keeps);
       failures = c.in-Ok.ensures.read ∙ c.loop-count.invariant.failures;
     }
 
 pub returns-in-Err-clause-lines : goal.returns-in-Err-clause-lines
-returns-in-Err-clause-lines g c = λ keeps. c.in-Err.ensures.lines (c.loop-count.invariant.lines keeps)
+returns-in-Err-clause-lines g c = λ lines keeps. c.in-Err.ensures.lines lines (c.loop-count.invariant.lines lines keeps)
 
 pub returns-then-count-eq0-clause-lines : goal.returns-then-count-eq0-clause-lines
-returns-then-count-eq0-clause-lines g c = λ keeps. c.in-Ok.ensures.lines (c.loop-count.invariant.lines keeps)
+returns-then-count-eq0-clause-lines g c = λ lines keeps. c.in-Ok.ensures.lines lines (c.loop-count.invariant.lines lines keeps)

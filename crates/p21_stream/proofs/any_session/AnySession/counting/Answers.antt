@@ -1,5 +1,5 @@
-use Rattle.std.proofs.Common.{inr}
+use Rattle.p21_spec_laws.specs.Stored.{without_lines}
 use Rattle.p21_stream.proofs.any_session.AnySession.counting.Goals as goal
 
 pub start-requires : goal.start-requires
-start-requires c = inr c.counting.ensures
+start-requires c = (without_lines, c.counting.ensures)

@@ -1,4 +1,5 @@
 use Rattle.std.proofs.Common.{subst, sym}
+use Rattle.p21_spec_laws.specs.Stored.{with_lines}
 use Rattle.p21_stream.specs.Bounds.{KeepsLines}
 use Rattle.p21_stream.specs.Held.{SessionHeld}
 use Rattle.p21_stream.specs.Histories.{FinishGives, RefusesAtEnd}
@@ -17,4 +18,4 @@ pub finish-requires-clause-bounded : goal.finish-requires-clause-bounded
 finish-requires-clause-bounded c = (c.self.inside.limits, c.self.invariant.0)
 
 pub finish-requires-clause-lines : goal.finish-requires-clause-lines
-finish-requires-clause-lines c = subst (λ (h : SessionHeld). KeepsLines h.refused h.kept) (sym c.self.view_is) c.requires
+finish-requires-clause-lines c = subst (λ (h : SessionHeld). KeepsLines with_lines h.refused h.kept) (sym c.self.view_is) c.requires

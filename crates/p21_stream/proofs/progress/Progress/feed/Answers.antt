@@ -56,7 +56,7 @@ pub returns-in-Err-clause-refused : goal.returns-in-Err-clause-refused
 returns-in-Err-clause-refused c = subst (λ (r : Result (Unit {0}) Refusal). IfErr r (λ refusal. Some c.in-Err.refusal ≡ Some refusal)) (sym (c.answered.ensures c.in-Err.refusal refl)) refl
 
 pub returns-in-Ok-clause-lines : goal.returns-in-Ok-clause-lines
-returns-in-Ok-clause-lines c keeps none = c.in-Ok.ensures.lines ∙ keeps (sym c.in-Ok.ensures.refused ∙ none)
+returns-in-Ok-clause-lines c lines keeps none = c.in-Ok.ensures.lines ∙ keeps (sym c.in-Ok.ensures.refused ∙ none)
 
 pub returns-in-Err-clause-lines : goal.returns-in-Err-clause-lines
-returns-in-Err-clause-lines c keeps none = ap (λ (k : Kept). k.lines) c.new.ensures
+returns-in-Err-clause-lines c lines keeps none = cc

@@ -14,4 +14,4 @@ feed-requires-clause-sets c = subst (λ (s : Schema). AreExternalSets s c.self.i
 
 pub invariant_of-self : goal.invariant_of-self
 invariant_of-self c =
-    (subst (λ (s : Schema). IsBounded (held_in s c.self.inside.limits c.feed.new.self)) c.deref.ensures c.feed.ensures.bounded, subst (λ (s : Schema). IsPlanOf s c.feed.new.self.plan) c.deref.ensures c.feed.ensures.plan, subst (λ (s : Schema). AreExternalSets s c.feed.new.self.sets) c.deref.ensures c.feed.ensures.sets, c.feed.ensures.lines c.self.invariant.3)
+    (subst (λ (s : Schema). IsBounded (held_in s c.self.inside.limits c.feed.new.self)) c.deref.ensures c.feed.ensures.bounded, subst (λ (s : Schema). IsPlanOf s c.feed.new.self.plan) c.deref.ensures c.feed.ensures.plan, subst (λ (s : Schema). AreExternalSets s c.feed.new.self.sets) c.deref.ensures c.feed.ensures.sets, c.feed.ensures.lines _ c.self.invariant.3)

@@ -1,7 +1,7 @@
-use Rattle.std.proofs.Common.{List, ℕ, ◌≤◌, refl, subst, sym}
+use Rattle.std.proofs.Common.{List, ℕ, ◌<◌, ◌≤◌, ◌^◌, refl, subst, sym}
 use Rattle.std.specs.List.{Contains}
 use Rattle.std.specs.List.Sorted.{IsStrictlyIncreasing}
-use Rattle.p21_stream_store.proofs.InstanceLemmas.{IsAdded, absent_late, added_behind, added_in_front, added_lengths, also_below, also_seen, still_below, still_seen}
+use Rattle.p21_stream_store.proofs.InstanceLemmas.{IsAdded, absent_late, added_behind, added_in_front, added_lengths, also_below, also_fits, also_seen, still_below, still_seen}
 use Rattle.p21_stream_store.specs.Seen.{MayHaveCome}
 use Rattle.p21_stream_store.proofs.named_lines.NamedLines.push.Goals as goal
 
@@ -11,6 +11,7 @@ invariant_of-self-then-is_above c =
     record { lengths = c.self.invariant.texts_of_rising; names_are = c.in-Ok-add_rising.ensures.names; lines_are = c.in-Ok-add_rising.ensures.lines } in
     record {
       rising = subst (λ (l : List ℕ). IsStrictlyIncreasing l) (sym c.in-Ok-add_rising.ensures.names) (c.if-is_above.ensures.rises refl);
+      rising_fits = subst (λ (l : List ℕ). (name : ℕ) → Contains l name → name < 2 ^ 64) (sym c.in-Ok-add_rising.ensures.names) (also_fits _ _ c.self.invariant.rising_fits c.ranges.name.fits);
       late_below = subst (λ (l : List ℕ). (name : ℕ) → Contains c.self.inside.late name → (other : ℕ) × Contains l other × (name ≤ other)) (sym c.in-Ok-add_rising.ensures.names) (still_below _ _ _ c.self.invariant.late_below);
       texts_of_rising = added_lengths _ _ _ _ _ _ added;
       texts_of_late = c.self.invariant.texts_of_late;
@@ -34,6 +35,7 @@ invariant_of-self-2 c =
     record { lengths = c.self.invariant.texts_of_late; names_are = c.in-Ok-add_late.ensures.names; lines_are = c.in-Ok-add_late.ensures.lines } in
     record {
       rising = c.self.invariant.rising;
+      rising_fits = c.self.invariant.rising_fits;
       late_below = subst (λ (l : List ℕ). (name : ℕ) → Contains l name → (other : ℕ) × Contains c.self.inside.rising other × (name ≤ other)) (sym c.in-Ok-add_late.ensures.names)
           (also_below _ _ _ c.self.invariant.late_below (c.if-is_above.ensures.within refl));
       texts_of_rising = c.self.invariant.texts_of_rising;
@@ -52,6 +54,7 @@ returns-clause-ok c =
 pub invariant_of-self : goal.invariant_of-self
 invariant_of-self c = record {
   rising = c.self.invariant.rising;
+  rising_fits = c.self.invariant.rising_fits;
   late_below = c.self.invariant.late_below;
   texts_of_rising = c.self.invariant.texts_of_rising;
   texts_of_late = c.self.invariant.texts_of_late;
@@ -65,6 +68,7 @@ invariant_of-self-in_default-add_rising c =
     let lines = c.in_default-add_rising.ensures.err.1 in
     record {
       rising = rw names c.self.invariant.rising;
+      rising_fits = rw names c.self.invariant.rising_fits;
       late_below = rw names c.self.invariant.late_below;
       texts_of_rising = rw (names, lines) c.self.invariant.texts_of_rising;
       texts_of_late = c.self.invariant.texts_of_late;
@@ -78,6 +82,7 @@ invariant_of-self-in_default-add_late c =
     let lines = c.in_default-add_late.ensures.err.1 in
     record {
       rising = c.self.invariant.rising;
+      rising_fits = c.self.invariant.rising_fits;
       late_below = rw names c.self.invariant.late_below;
       texts_of_rising = c.self.invariant.texts_of_rising;
       texts_of_late = rw (names, lines) c.self.invariant.texts_of_late;

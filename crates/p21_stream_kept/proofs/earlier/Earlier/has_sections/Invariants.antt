@@ -1,0 +1,12 @@
+use Rattle.std.proofs.Common.{◌<◌, ◌-◌, ◌^◌}
+use Rattle.std.specs.Prelude.{Contains}
+use Rattle.p21_spec_laws.specs.Beside.{IsInSameSection}
+use Rattle.p21_spec_laws.specs.Stored.{StoredEntry}
+use Rattle.p21_stream_kept.specs.Inside.{stored_of}
+use Rattle.p21_stream_kept.proofs.earlier.Earlier.has_sections.Given as goal
+
+abbrev pub invariant-loop-name : goal.invariant-loop-name
+invariant-loop-name l = (y : StoredEntry) → Contains l.self.stored y → y.name < l.least → IsInSameSection l.self l.sections (stored_of l.memberships l.names) y
+
+abbrev pub decreases-loop-name : goal.decreases-loop-name
+decreases-loop-name l = 2 ^ 64 - l.least
