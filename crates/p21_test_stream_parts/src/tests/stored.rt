@@ -66,7 +66,20 @@ fn first_found(instances: &Instances, names: &[u64]) -> Option<u64> {
 }
 
 fn is_at(instances: &Instances, place: usize, name: u64) -> bool {
-    place < instances.len() && instances.get(place).0 == name
+    place < instances.len()
+        && instances.find(name) == Some((instances.membership_at(place), instances.text(place)))
+}
+
+/// The first name that a walk by rising names passes over, or none.
+fn first_passed_over(instances: &Instances, names: &[u64]) -> Option<u64> {
+    let mut least = 0;
+    for name in names {
+        match instances.next_from(least) {
+            Some((found, _)) if found == *name => least = name.saturating_add(1),
+            _ => return Some(*name),
+        }
+    }
+    None
 }
 
 /// The first name at which another instance is written, or none.
@@ -97,6 +110,9 @@ fn wrong_order(alloc: Global, instances: &Instances, names: &[u64]) -> Option<(&
     }
     if order.len() != names.len() {
         return Some(("ordered", order.len() as u64));
+    }
+    if let Some(name) = first_passed_over(instances, names) {
+        return Some(("passed over", name));
     }
     None
 }
