@@ -1,10 +1,11 @@
 #!/bin/sh
-# Times `p21 check` and `p21 canon` beside `sha256sum`, `LC_ALL=C sort` and a plain Rust program that has the file whole in
-# memory (checking/plain.rs): points, points with blanks as some converters write them, a boundary model, and the same shuffled,
+# Times `p21 check`, `p21 canon` and `p21 same` beside `sha256sum`, `LC_ALL=C sort` and a plain Rust program that has the file whole
+# in memory (checking/plain.rs): points, points with blanks as some converters write them, a boundary model, and the same shuffled,
 # of 1,000,000 instances and of a tenth. `check.sh SCHEMA FILE..` adds one file of the instances of real ones, which have one
 # data section each and are accepted under that schema; the plain program doesn't know it. Prints a table: the least processor
-# time of several runs, of `check` also as a multiple of that of `sha256sum` and of the plain program, of `canon` as a multiple
-# of that of `check`, and the peak resident memory beside the canonical text.
+# time of several runs, that of each command also as a multiple of that of `sha256sum`, and of `check` of that of the plain
+# program; and the peak resident memory of `check`, that of `canon` beside the canonical text, and of `same` beside `canon`.
+# `same` reads the file twice.
 # Needs rt, rustc and python3. A folder in TMPDIR with 200 MB of room, best in memory, takes the files.
 
 benchmarks=$(dirname -- "$(readlink -f -- "$0")")
@@ -52,14 +53,15 @@ def cells(found, made):
 
 with tempfile.TemporaryDirectory() as folder:
     path = os.path.join(folder, "file")
-    names = ("check", "canon", "plain check", "plain canon", "sha256sum", "sort")
-    print(f"| file | instances | MB | {' | '.join(f'{name}, ms' for name in names)} | check to sha256sum | check to plain"
-          " | canon to check | peak of check, MB | peak to canonical | peak of plain, MB |")
-    print("|" + "---|" * (len(names) + 9))
+    names = ("check", "canon", "same", "plain check", "plain canon", "sha256sum", "sort")
+    print(f"| file | instances | MB | {' | '.join(f'{name}, ms' for name in names)} | {' | '.join(f'{name} to sha256sum' for name in names[:3])}"
+          " | check to plain | peak of check, MB | canon to canonical text | same to canon | peak of plain, MB |")
+    print("|" + "---|" * (len(names) + 11))
     for name, schema, size in files(path):
         programs = {
             "check": [P21, "check", schema, path],
             "canon": [P21, "canon", schema, path],
+            "same": [P21, "same", schema, path, path],
             "sha256sum": ["sha256sum", path],
             "sort": ["sort", path],
         }
@@ -70,14 +72,14 @@ with tempfile.TemporaryDirectory() as folder:
         if not found or said.count(said[0]) != len(said):
             sys.exit(f"{name}: {said}")
         best = {which: min(seconds(words) for _ in range(RUNS)) for which, words in programs.items()}
-        peak = peak_memory(programs["check"])
+        peak, kept, beside = (peak_memory(programs[which]) for which in names[:3])
         plain = peak_memory(programs["plain check"]) / 1e6 if "plain check" in programs else None
         to_plain = best["check"] / best["plain check"] if "plain check" in best else None
         print(
             f"| {name} | {int(found[1]):,} | {size / 1e6:.1f} | "
             + cells((best[which] * 1e3 if which in best else None for which in names), "{:.0f}")
-            + f" | {cells((best['check'] / best['sha256sum'], to_plain, best['canon'] / best['check']), '{:.2f}')}"
-            f" | {peak / 1e6:.1f} | {peak / int(found[2]):.2f} | {cells([plain], '{:.1f}')} |",
+            + f" | {cells((*(best[which] / best['sha256sum'] for which in names[:3]), to_plain), '{:.2f}')}"
+            f" | {peak / 1e6:.1f} | {kept / int(found[2]):.2f} | {beside / kept:.2f} | {cells([plain], '{:.1f}')} |",
             flush=True,
         )
 PROGRAM
