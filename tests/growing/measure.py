@@ -108,14 +108,14 @@ ROWS = [
     Row("constraints_of_one_entity", 100, ENTITIES // 2),
     *(Row(name, 500, 400_000) for name in ("inverse_attributes", "functions_in_functions")),
 ]
-# Seen with an unproved build that is as fast as the proved one within a tenth (benchmarks/unproved.py --as-proved).
+# Seen with the proved program on a machine that did nothing else, 28 November 2026.
 OPEN = {
-    "chain_that_redeclares": Open(0.7, 1.5, 2.35, "5.0 s, 2127 MB"),
-    "large_sets_in_turn": Open(1.9, 0.2, 5.11, "2.0 s, 33 MB"),
-    "lists_of_lists": Open(0.9, 1.1, 1.79, "0.3 s, 86 MB"),
-    "lists_in_lists": Open(1.1, 0.7, 1.60, "0.4 s, 55 MB"),
-    "sets_32_deep": Open(1.4, 0.7, 0.86, "0.4 s, 31 MB"),
-    "attributes_one_by_one": Open(0.7, 1.1, 6.55, "1.7 s, 328 MB"),
+    "chain_that_redeclares": Open(0.6, 1.5, 2.35, "4.4 s, 2125 MB"),
+    "large_sets_in_turn": Open(1.4, 0.2, 5.11, "1.5 s, 33 MB"),
+    "lists_of_lists": Open(0.9, 1.0, 1.79, "0.4 s, 86 MB"),
+    "lists_in_lists": Open(1.0, 0.7, 1.60, "0.4 s, 55 MB"),
+    "sets_32_deep": Open(1.0, 0.7, 0.86, "0.2 s, 31 MB"),
+    "attributes_one_by_one": Open(0.5, 1.1, 6.55, "0.7 s, 328 MB"),
 }
 
 
