@@ -1,7 +1,6 @@
 -- The text of a number among the blocks.
-use Rattle.std.proofs.Common.{◌≡◌, ◌+◌, ◌-◌, ◌≤◌, ◌<◌, ℕ, zero, suc, Bool, true, false, List, [], ◌∷◌, ◌++◌, length, get_or, refl, sym, ap, subst, ◌∙◌, arith}
+use Rattle.std.proofs.Common.{◌≡◌, ◌+◌, ◌-◌, ◌≤◌, ◌<◌, ℕ, zero, suc, List, [], ◌∷◌, ◌++◌, length, get_or, refl, sym, ap, subst, ◌∙◌, arith}
 use Rattle.std.proofs.lemmas.List.{append_assoc, append-nil, length-append}
-use Rattle.std.specs.Bool.{MatchBool}
 use Rattle.std.specs.List.{slice_get}
 use Rattle.p21_stream_store.specs.Blocks.{AreFirsts, block_texts, first_at}
 use Rattle.p21_stream_store.specs.declared.texts.FullBlock.{FullBlock}
@@ -32,37 +31,37 @@ first_at-start from (f ∷ rest) end_ a = a.0
 pub length-block_texts : (from : ℕ) (full : List FullBlock) (end_ : ℕ) → AreFirsts from full end_ → from + length (block_texts full) ≡ end_
 length-block_texts from [] end_ a = omega (arith, a)
 length-block_texts from (f ∷ rest) end_ a =
-    let later = length-block_texts (from + length f.block) rest end_ a.1 in
+    let later = length-block_texts (from + length f.block.texts) rest end_ a.1 in
     simp length-append (omega (arith, later))
 
 pub from_first : (from : ℕ) (full : List FullBlock) (end_ i : ℕ) → AreFirsts from full end_ → from ≤ first_at full end_ i
 from_first from [] end_ i a = omega (arith, a)
 from_first from (f ∷ rest) end_ zero a = omega (arith, a.0)
 from_first from (f ∷ rest) end_ (suc i) a =
-    let later = from_first (from + length f.block) rest end_ i a.1 in
+    let later = from_first (from + length f.block.texts) rest end_ i a.1 in
     omega (arith, later)
 
 -- the number lies in the block at this index
 pub in_block : (from : ℕ) (full : List FullBlock) (end_ at i : ℕ) (d : FullBlock) → AreFirsts from full end_ → at < length full → first_at full end_ at ≤ i → i < first_at full end_ (suc at)
-    → (i - (get_or full at d).first < length (get_or full at d).block) × (slice_get (block_texts full) (i - from) ≡ slice_get (get_or full at d).block (i - (get_or full at d).first))
+    → (i - (get_or full at d).first < length (get_or full at d).block.texts) × (slice_get (block_texts full) (i - from) ≡ slice_get (get_or full at d).block.texts (i - (get_or full at d).first))
 in_block from [] end_ at i d a h low high = absurd (omega (arith, h))
 in_block from (f ∷ rest) end_ zero i d a h low high =
-    let next : first_at rest end_ 0 ≡ from + length f.block = first_at-start (from + length f.block) rest end_ a.1 in
-    let within : i - f.first < length f.block = omega (arith, a.0, low, high, next) in
+    let next : first_at rest end_ 0 ≡ from + length f.block.texts = first_at-start (from + length f.block.texts) rest end_ a.1 in
+    let within : i - f.first < length f.block.texts = omega (arith, a.0, low, high, next) in
     let same : i - from ≡ i - f.first = omega (arith, a.0) in
-    (within, ap (λ (n : ℕ). slice_get (f.block ++ block_texts rest) n) same ∙ get-append_left f.block (block_texts rest) (i - f.first) within)
+    (within, ap (λ (n : ℕ). slice_get (f.block.texts ++ block_texts rest) n) same ∙ get-append_left f.block.texts (block_texts rest) (i - f.first) within)
 in_block from (f ∷ rest) end_ (suc at) i d a h low high =
-    let later = in_block (from + length f.block) rest end_ at i d a.1 (omega (arith, h)) low high in
-    let behind = from_first (from + length f.block) rest end_ at a.1 in
-    (later.0, get-append_right f.block (block_texts rest) (i - from) (i - (from + length f.block)) (omega (arith, low, behind)) ∙ later.1)
+    let later = in_block (from + length f.block.texts) rest end_ at i d a.1 (omega (arith, h)) low high in
+    let behind = from_first (from + length f.block.texts) rest end_ at a.1 in
+    (later.0, get-append_right f.block.texts (block_texts rest) (i - from) (i - (from + length f.block.texts)) (omega (arith, low, behind)) ∙ later.1)
 
-pub block_texts-more : (full : List FullBlock) (f : FullBlock) → block_texts (full ++ f ∷ []) ≡ block_texts full ++ f.block
-block_texts-more [] f = append-nil f.block
-block_texts-more (g ∷ rest) f = ap (λ (l : List (List ℕ)). g.block ++ l) (block_texts-more rest f) ∙ sym (append_assoc g.block (block_texts rest) f.block)
+pub block_texts-more : (full : List FullBlock) (f : FullBlock) → block_texts (full ++ f ∷ []) ≡ block_texts full ++ f.block.texts
+block_texts-more [] f = append-nil f.block.texts
+block_texts-more (g ∷ rest) f = ap (λ (l : List (List ℕ)). g.block.texts ++ l) (block_texts-more rest f) ∙ sym (append_assoc g.block.texts (block_texts rest) f.block.texts)
 
-pub firsts_more : (from : ℕ) (full : List FullBlock) (end_ : ℕ) (f : FullBlock) (new_end : ℕ) → AreFirsts from full end_ → f.first ≡ end_ → new_end ≡ end_ + length f.block → AreFirsts from (full ++ f ∷ []) new_end
+pub firsts_more : (from : ℕ) (full : List FullBlock) (end_ : ℕ) (f : FullBlock) (new_end : ℕ) → AreFirsts from full end_ → f.first ≡ end_ → new_end ≡ end_ + length f.block.texts → AreFirsts from (full ++ f ∷ []) new_end
 firsts_more from [] end_ f new_end a first e = (first ∙ a, omega (arith, e, a))
-firsts_more from (g ∷ rest) end_ f new_end a first e = (a.0, firsts_more (from + length g.block) rest end_ f new_end a.1 first e)
+firsts_more from (g ∷ rest) end_ f new_end a first e = (a.0, firsts_more (from + length g.block.texts) rest end_ f new_end a.1 first e)
 
 -- ---- as the code reads them
 
@@ -76,8 +75,8 @@ first_at-read full end_ i f h e = first_at-get_or full end_ i f h ∙ ap (λ (g 
 -- the block that is found at an index
 pub record IsFound (full : List FullBlock) (i : ℕ) (f : FullBlock) : Type 0 where
   pub starts : f.first ≤ i
-  pub within : i - f.first < length f.block
-  pub text : slice_get (block_texts full) i ≡ slice_get f.block (i - f.first)
+  pub within : i - f.first < length f.block.texts
+  pub text : slice_get (block_texts full) i ≡ slice_get f.block.texts (i - f.first)
 
 pub found : (full : List FullBlock) (end_ low high i : ℕ) (f : FullBlock) → AreFirsts 0 full end_ → (low < high) × (high ≤ length full) × (first_at full end_ low ≤ i) × (i < first_at full end_ high) → high - low ≤ 1 → f ≡ get_or full low f → IsFound full i f
 found full end_ low high i f a inv near e =
@@ -86,7 +85,7 @@ found full end_ low high i f a inv near e =
     let first : first_at full end_ low ≡ f.first = first_at-read full end_ low f inside e in
     let upper : i < first_at full end_ (suc low) = subst (λ (n : ℕ). i < first_at full end_ n) next inv.3 in
     let both = in_block 0 full end_ low i f a inside inv.2 upper in
-    let Both : FullBlock → Type 0 = λ g. (i - g.first < length g.block) × (slice_get (block_texts full) (i - 0) ≡ slice_get g.block (i - g.first)) in
+    let Both : FullBlock → Type 0 = λ g. (i - g.first < length g.block.texts) × (slice_get (block_texts full) (i - 0) ≡ slice_get g.block.texts (i - g.first)) in
     let here = subst Both (sym e) both in
     record {
       starts = omega (arith, inv.2, first);
@@ -106,53 +105,19 @@ front_same full end_ i last seen a e h =
     let size = length-block_texts 0 full end_ a in
     ap (λ (l : List (List ℕ)). slice_get l i) (sym e) ∙ get-append_left (block_texts full) last i (omega (arith, size, h))
 
--- the last block becomes full, and a text begins the next one
-pub record IsNextBlock (full : List FullBlock) (end_ : ℕ) (last : List (List ℕ)) (text : List ℕ) (new_full : List FullBlock) (new_end : ℕ) (new_last : List (List ℕ)) : Type 0 where
-  pub block : FullBlock
-  pub first_is : block.first ≡ end_
-  pub texts_are : block.block ≡ last
-  pub full_is : new_full ≡ full ++ block ∷ []
-  pub end_is : new_end ≡ end_ + length last
-  pub last_is : new_last ≡ text ∷ []
+-- the last block becomes full, and an empty one follows
+module _ (full new_full : List FullBlock) (end_ : ℕ) (last : List (List ℕ)) (block : FullBlock) (first : block.first ≡ end_) (texts : block.block.texts ≡ last) (is : new_full ≡ full ++ block ∷ []) where
+  pub next_firsts : (size : ℕ) → size ≡ length last → AreFirsts 0 full end_ → AreFirsts 0 new_full (end_ + size)
+  next_firsts size size_is a = rw is (firsts_more 0 full end_ block (end_ + size) a first (ap (λ (n : ℕ). end_ + n) (size_is ∙ ap length (sym texts))))
 
-pub next_firsts : (full : List FullBlock) (end_ : ℕ) (last : List (List ℕ)) (text : List ℕ) (new_full : List FullBlock) (new_end : ℕ) (new_last : List (List ℕ))
-    → AreFirsts 0 full end_ → IsNextBlock full end_ last text new_full new_end new_last → AreFirsts 0 new_full new_end
-next_firsts full end_ last text new_full new_end new_last a n =
-    rw n.full_is (firsts_more 0 full end_ n.block new_end a n.first_is (n.end_is ∙ ap (λ (l : List (List ℕ)). end_ + length l) (sym n.texts_are)))
+  pub next_same : (empty : List (List ℕ)) → empty ≡ [] → block_texts new_full ++ empty ≡ block_texts full ++ last
+  next_same empty none =
+      ap (λ (l : List (List ℕ)). block_texts new_full ++ l) none ∙ append-nil (block_texts new_full)
+      ∙ ap block_texts is ∙ block_texts-more full block ∙ ap (λ (l : List (List ℕ)). block_texts full ++ l) texts
 
-pub next_seen : (full : List FullBlock) (end_ : ℕ) (last : List (List ℕ)) (text : List ℕ) (new_full : List FullBlock) (new_end : ℕ) (new_last seen : List (List ℕ))
-    → block_texts full ++ last ≡ seen → IsNextBlock full end_ last text new_full new_end new_last → block_texts new_full ++ new_last ≡ seen ++ text ∷ []
-next_seen full end_ last text new_full new_end new_last seen e n =
-    ap (λ (l : List FullBlock). block_texts l ++ new_last) n.full_is
-    ∙ ap (λ (l : List (List ℕ)). l ++ new_last) (block_texts-more full n.block ∙ ap (λ (l : List (List ℕ)). block_texts full ++ l) n.texts_are ∙ e)
-    ∙ ap (λ (l : List (List ℕ)). seen ++ l) n.last_is
-
--- the next block, from what the calls of the code say
-pub next_block : (full new_full : List FullBlock) (end_ size new_end : ℕ) (last kept taken : List (List ℕ)) (new_last empty : List (List ℕ)) (text : List ℕ)
-    → kept ≡ last → taken ≡ kept → new_full ≡ full ++ record { first = end_; block = taken } ∷ [] → new_end ≡ end_ + size → size ≡ length kept → empty ≡ [] → new_last ≡ empty ++ text ∷ []
-    → IsNextBlock full end_ last text new_full new_end new_last
-next_block full new_full end_ size new_end last kept taken new_last empty text e1 e2 e3 e4 e5 e6 e7 =
-    record {
-      block = record { first = end_; block = taken };
-      first_is = refl;
-      texts_are = e2 ∙ e1;
-      full_is = e3;
-      end_is = e4 ∙ ap (λ (n : ℕ). end_ + n) (e5 ∙ ap length e1);
-      last_is = e7 ∙ ap (λ (l : List (List ℕ)). l ++ text ∷ []) e6;
-    }
-
-pub at_false : (P Q : Type 0) (b : Bool) → MatchBool b P Q → b ≡ false → Q
-at_false P Q true m e = cc
-at_false P Q false m e = m
-
-pub at_true : (P Q : Type 0) (b : Bool) → MatchBool b P Q → b ≡ true → P
-at_true P Q true m e = m
-at_true P Q false m e = cc
-
--- the number behind all texts is no larger than the count of the texts
-pub end_within : (full : List FullBlock) (end_ size : ℕ) (last kept seen : List (List ℕ)) → AreFirsts 0 full end_ → block_texts full ++ last ≡ seen → kept ≡ last → size ≡ length kept → end_ + size ≡ length seen
-end_within full end_ size last kept seen a e same is =
+-- the number behind all texts is the count of the texts
+pub end_within : (full : List FullBlock) (end_ size : ℕ) (last seen : List (List ℕ)) → AreFirsts 0 full end_ → block_texts full ++ last ≡ seen → size ≡ length last → end_ + size ≡ length seen
+end_within full end_ size last seen a e is =
     let blocks = length-block_texts 0 full end_ a in
     let whole : length (block_texts full) + length last ≡ length seen = sym (length-append (block_texts full) last) ∙ ap length e in
-    let own = is ∙ ap length same in
-    omega (arith, blocks, whole, own)
+    omega (arith, blocks, whole, is)

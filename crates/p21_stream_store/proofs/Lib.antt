@@ -1,10 +1,9 @@
 mod BlockLemmas
 mod InstanceLemmas
-mod LateLemmas
+mod PositionLemmas
 mod LineLemmas
 mod StoredTextLemmas
-mod NameLemmas
-mod NumberLemmas
+mod RunLemmas
 mod SeenLemmas
 mod NotedLemmas
 mod NamedMembershipLemmas

@@ -1,13 +1,13 @@
 -- Memberships that are noted.
-use Rattle.std.proofs.Common.{◌≡◌, ℕ, Bool, true, false, List, ◌∷◌, Option, Some, MatchBool, inl, inr, refl, sym, ap, subst, ◌∙◌, arith}
+use Rattle.std.proofs.Common.{◌≡◌, ℕ, Bool, true, false, List, ◌∷◌, None, Some, MatchBool, inl, inr, refl, sym, ap, subst, ◌∙◌, arith}
 use Rattle.std.proofs.lemmas.Bool.Decides.{eqb_tells}
-use Rattle.std.proofs.lemmas.List.Sorted.{Contains-permutation}
+use Rattle.std.proofs.lemmas.List.Sorted.{Contains-permutation, IsPermutation-map, IsPermutation-sym}
 use Rattle.std.specs.List.{Contains}
 use Rattle.std.specs.List.Sorted.{IsPermutation}
-use Rattle.p21_spec_basics.proofs.Members.{Contains-later}
-use Rattle.p21_stream_store.specs.Noted.{AreNoted, IsStoredWith, NotesAtMost}
+use Rattle.p21_spec_basics.proofs.Members.{Contains-cases, Contains-later}
+use Rattle.p21_stream_store.specs.Noted.{AreAllNoted, AreNoted, IsStoredWith, NotesAtMost}
 use Rattle.p21_stream_store.specs.Positions.{Changes, IsSame, position_marked}
-use Rattle.p21_stream_store.specs.StoredInstance.{StoredInstance, stored_instance}
+use Rattle.p21_stream_store.specs.StoredInstance.{StoredInstance, instance_names, stored_instance}
 use Rattle.p21_stream_store.specs.declared.pages.Pages.{Pages}
 
 notes-at_most : (done : Bool) (old new : Pages ℕ) (name membership : ℕ) → MatchBool done (Changes (position_marked old) name (Some membership) (position_marked new)) (new ≡ old) → NotesAtMost (position_marked old) name membership (position_marked new)
@@ -31,4 +31,20 @@ still_noted old grown new done name membership text stored more are same notes a
   | inr here ↦
       let first : Contains (stored_instance name (membership, text) ∷ stored) (stored_instance name (membership, text)) = (0, omega arith, refl) in
       subst (λ (n : ℕ). IsStoredWith more n number) (sym here.0) (subst (λ (k : ℕ). IsStoredWith more name k) (sym here.1) (text, Contains-permutation _ _ _ added first))
+]
+
+-- one more is noted
+pub all_still_noted : (old grown new : Pages ℕ) (name membership : ℕ) (text : List ℕ) (stored more : List StoredInstance) → AreAllNoted (position_marked old) stored → IsSame (position_marked old) (position_marked grown)
+    → Changes (position_marked grown) name (Some membership) (position_marked new) → IsPermutation (stored_instance name (membership, text) ∷ stored) more → AreAllNoted (position_marked new) more
+all_still_noted old grown new name membership text stored more all same changes added other there none = elim (eqb_tells other name) [
+  | inl equal ↦ (
+      let value : position_marked new name ≡ None = subst (λ (n : ℕ). position_marked new n ≡ None) equal.1 none in
+      let noted = changes.0 in
+      cc)
+  | inr differs ↦
+      let names = IsPermutation-sym _ _ (IsPermutation-map (λ (x : StoredInstance). x.name) _ _ added) in
+      elim (Contains-cases name (instance_names stored) other (Contains-permutation _ _ other names there)) [
+        | inl equal ↦ absurd (differs.1 (sym equal))
+        | inr before ↦ all other before (sym (same other) ∙ sym (changes.1 other differs.1) ∙ none)
+      ]
 ]

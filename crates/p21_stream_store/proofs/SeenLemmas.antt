@@ -1,10 +1,12 @@
 -- Bits of names.
-use Rattle.std.proofs.Common.{◌≡◌, ◌≢◌, ◌<◌, ◌/◌, ◌%◌, ◌*◌, ◌^◌, ℕ, List, length, inl, inr, sym, ap, subst, ◌∙◌, bit_or, slice_set, w64}
+use Rattle.std.proofs.Common.{◌≡◌, ◌≢◌, ◌<◌, ◌/◌, ◌%◌, ◌*◌, ◌^◌, ℕ, List, [], ◌∷◌, ◌++◌, length, inl, inr, sym, ap, subst, ◌∙◌, bit_or, slice_set, w64}
 use Rattle.std.proofs.lemmas.Bool.Decides.{eqb_tells}
 use Rattle.std.proofs.lemmas.List.{get_or-set_same}
+use Rattle.std.proofs.lemmas.List.Elements.{Contains-push_cases}
 use Rattle.std.proofs.lemmas.Nat.Bits.{bit_at_set_other, bit_at_set_same}
 use Rattle.std.specs.Prelude.{slice_index_or}
 use Rattle.std.specs.Int.{bit_at}
+use Rattle.std.specs.List.{Contains}
 use Rattle.p21_stream_store.specs.Seen.{MayHaveCome}
 
 -- the words with a bit more in one of them
@@ -32,3 +34,14 @@ noted_others old grown new index same bits words name seen low = elim (eqb_tells
 ] where
   still : MayHaveCome grown name
   still less = ap (λ (w : ℕ). bit_at w (name % 64)) (same (name / 64)) ∙ seen less
+
+-- ---- names that have come
+
+-- each name is still seen
+pub still_seen : (names words new : List ℕ) → ((name : ℕ) → Contains names name → MayHaveCome words name) → ((other : ℕ) → MayHaveCome words other → MayHaveCome new other) → (name : ℕ) → Contains names name → MayHaveCome new name
+still_seen names words new seen stay name has = stay name (seen name has)
+
+-- one more name is seen too
+pub also_seen : (names all words new : List ℕ) (x : ℕ) → all ≡ names ++ x ∷ [] → ((name : ℕ) → Contains names name → MayHaveCome words name) → ((other : ℕ) → MayHaveCome words other → MayHaveCome new other) → MayHaveCome new x → (name : ℕ) → Contains all name → MayHaveCome new name
+also_seen names all words new x is seen stay noted name has =
+    elim (Contains-push_cases names x name (subst (λ (l : List ℕ). Contains l name) is has)) [ inl before ↦ stay name (seen name before) | inr same ↦ subst (MayHaveCome new) same noted ]

@@ -1,10 +1,11 @@
 -- Texts one behind the other: where each starts and ends, and what one more text adds.
-use Rattle.std.proofs.Common.{◌≡◌, ◌+◌, ◌-◌, ◌≤◌, ◌<◌, ℕ, zero, suc, List, [], ◌∷◌, ◌++◌, length, take, drop, get_or, Some, refl, sym, ap, ◌∙◌, arith, add-one}
+use Rattle.std.proofs.Common.{◌≡◌, ◌+◌, ◌-◌, ◌≤◌, ◌<◌, ℕ, zero, suc, List, [], ◌∷◌, ◌++◌, length, take, drop, get_or, Some, Vec, vec_capacity, vec_len, refl, sym, ap, ◌∙◌, arith, add-one}
 use Rattle.std.proofs.lemmas.List.{length-append, length-drop, length-take, take-append-le, drop-append-le}
 use Rattle.std.proofs.Math.Seq.{drop-append_seam, take-append_seam}
 use Rattle.std.specs.List.{slice_get}
 use Rattle.p21_spec_basics.proofs.Members.{rest_is}
-use Rattle.p21_stream_store.specs.Texts.{texts_of, AreStarts, AreStartsFrom}
+use Rattle.std.specs.declared.alloc.Global.{Global}
+use Rattle.p21_stream_store.specs.Texts.{texts_of, AreStarts, AreStartsFrom, room_in}
 
 pub length-texts_of : (starts bytes : List ℕ) → length (texts_of starts bytes) ≡ length starts
 length-texts_of [] bytes = refl
@@ -110,3 +111,21 @@ are_starts (s ∷ more) bytes a h = a
 pub block_starts_more : (starts bytes text new_starts new_bytes : List ℕ) → AreStarts starts bytes → IsMore starts bytes text new_starts new_bytes → AreStarts new_starts new_bytes
 block_starts_more starts bytes text new_starts new_bytes a m =
     rw (m.starts_are, m.bytes_are, m.start_is) (are_starts _ _ (starts_more starts bytes text (from_starts starts bytes a)) (simp length-append (omega arith)))
+
+-- ---- room for one more text
+
+-- a text of fewer bytes than this has a place for its start, which 16 bits hold, and room for its bytes
+pub has_place : (starts bytes : Vec ℕ Global) (size : ℕ) → size < room_in starts bytes → (vec_len starts < vec_capacity starts) × (vec_len bytes < 65536) × (vec_len bytes + size ≤ vec_capacity bytes)
+has_place starts bytes size below = by (vec_capacity starts - vec_len starts) refl (65536 - vec_len bytes) refl below where
+  by : (more : ℕ) → vec_capacity starts - vec_len starts ≡ more → (rest : ℕ) → 65536 - vec_len bytes ≡ rest → size < elim more [ zero ↦ 0 | suc m ↦ elim rest [ zero ↦ 0 | suc r ↦ vec_capacity bytes + 1 - vec_len bytes ] ]
+      → (vec_len starts < vec_capacity starts) × (vec_len bytes < 65536) × (vec_len bytes + size ≤ vec_capacity bytes)
+  by zero e rest f less = absurd (omega (arith, less))
+  by (suc m) e zero f less = absurd (omega (arith, less))
+  by (suc m) e (suc r) f less = (omega (arith, e), omega (arith, f), omega (arith, less))
+
+pub has_room : (starts bytes : Vec ℕ Global) (size : ℕ) → vec_len starts < vec_capacity starts → vec_len bytes < 65536 → vec_len bytes + size ≤ vec_capacity bytes → size < room_in starts bytes
+has_room starts bytes size place low room = by (vec_capacity starts - vec_len starts) refl (65536 - vec_len bytes) refl where
+  by : (more : ℕ) → vec_capacity starts - vec_len starts ≡ more → (rest : ℕ) → 65536 - vec_len bytes ≡ rest → size < elim more [ zero ↦ 0 | suc m ↦ elim rest [ zero ↦ 0 | suc r ↦ vec_capacity bytes + 1 - vec_len bytes ] ]
+  by zero e rest f = absurd (omega (arith, place, e))
+  by (suc m) e zero f = absurd (omega (arith, low, f))
+  by (suc m) e (suc r) f = omega (arith, room)

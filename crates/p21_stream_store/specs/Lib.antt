@@ -1,11 +1,13 @@
 -- What is stored of the instances that were taken.
 pub mod Texts
 pub mod Blocks
-pub mod NamedLines
+pub mod StoredTexts
 pub mod StoredInstance
+pub mod NamedLines
 pub mod Lines
 pub mod Pages
 pub mod Tables
+pub mod Runs
 pub mod Positions
 pub mod Noted
 pub mod NamedMemberships

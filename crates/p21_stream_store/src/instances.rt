@@ -17,18 +17,24 @@ pub struct Instances {
     lines: NamedLines,
     // At each name one more than the number of its membership, if that is noted, or 0.
     noted: Pages<u8>,
+    // The membership of each instance is noted.
+    all_noted: bool,
 }
 
 // Written out: crates above call it, where they would prove a derived one field by field.
 impl Drop for Instances {
     fn drop(self) {
-        let Instances { lines: _, noted: _ } = self;
+        let Instances {
+            lines: _,
+            noted: _,
+            all_noted: _,
+        } = self;
     }
 }
 
 impl Model for Instances {
-    ghost use Rattle.std.specs.Prelude.{List};
-    ghost use Rattle.p21_stream_store.specs.Noted.{AreNoted};
+    ghost use Rattle.std.specs.Prelude.{List, IsTrue};
+    ghost use Rattle.p21_stream_store.specs.Noted.{AreAllNoted, AreNoted};
     ghost use Rattle.p21_stream_store.specs.Positions.{position_marked};
     ghost use Rattle.p21_stream_store.specs.StoredInstance.{StoredInstance};
 
@@ -36,7 +42,7 @@ impl Model for Instances {
 
     ghost view = { λ a. a.lines };
 
-    ghost invariant = { λ a. AreNoted (position_marked a.noted) a.lines };
+    ghost invariant = { λ a. AreNoted (position_marked a.noted) a.lines × (IsTrue a.all_noted → AreAllNoted (position_marked a.noted) a.lines) };
 }
 
 impl Instances {
@@ -47,6 +53,7 @@ impl Instances {
         Instances {
             lines: NamedLines::new(alloc),
             noted: Pages::new(alloc),
+            all_noted: true,
         }
     }
 
@@ -57,8 +64,7 @@ impl Instances {
         self.lines.len()
     }
 
-    /// The number of the membership of the instance at a position. The positions are counted in the order of coming where all
-    /// names rose; else those with names that came late stand behind the others.
+    /// The number of the membership of the instance at a position. The positions are counted in the order of coming.
     pub fn membership_at(&self, place: usize) -> usize
         requires { place < length self.now }
         ensures { (found : StoredInstance) × (slice_get self.now place ≡ Some found) × (found.membership ≡ result) }
@@ -74,7 +80,7 @@ impl Instances {
         self.lines.text(place)
     }
 
-    /// The positions of all instances by rising names. Names that rose as they came take no memory; others cost no sort.
+    /// The positions of all instances by rising names. Where names rose as they came, they take no memory; else they cost no sort.
     ///
     /// # Errors
     ///
@@ -86,8 +92,7 @@ impl Instances {
         self.lines.order(alloc)
     }
 
-    /// The number of the membership and the canonical text of the instance of this name, if there is one. A name that rises
-    /// costs no search.
+    /// The number of the membership and the canonical text of the instance of this name, if there is one.
     pub fn find(&self, name: u64) -> Option<(usize, &[u8])>
         ensures some { IfSome result (λ found. Contains self.now (record { name = name; membership = found.0; text = found.1.now })) }
         ensures none { IsNone result → Contains (instance_names self.now) name → ⊥ }
@@ -95,14 +100,17 @@ impl Instances {
         self.lines.find(name)
     }
 
-    /// The number of the membership of the instance of this name, if there is one. A small name costs no search, nor does one
-    /// that rises.
+    /// The number of the membership of the instance of this name, if there is one. Where those of all
+    /// instances are noted, as mostly, it takes one look.
     pub fn membership_of(&self, name: u64) -> Option<usize>
         ensures some { IfSome result (λ membership. (text : List ℕ) × Contains self.now (record { name = name; membership = membership; text = text })) }
         ensures none { IsNone result → Contains (instance_names self.now) name → ⊥ }
     {
         if let Some(membership) = noted_membership(&self.noted, name) {
             return Some(membership);
+        }
+        if self.all_noted {
+            return None;
         }
         self.lines.membership_of(name)
     }
@@ -135,8 +143,11 @@ impl Instances {
         let Ok(()) = self.lines.push(name, membership, text) else {
             return Err(NoMemory);
         };
+        if note_membership(&mut self.noted, name, membership) {
+            return Ok(());
+        }
         // Where there is no place to note it, the name is looked up among the lines.
-        let _ = note_membership(&mut self.noted, name, membership);
+        self.all_noted = false;
         Ok(())
     }
 }

@@ -4,12 +4,11 @@
 
 mod entity_sets;
 mod instances;
-mod late;
 mod lines;
 mod memberships;
+mod name_table;
 mod named_lines;
 mod named_memberships;
-mod names;
 mod noted;
 mod numbers;
 mod order;

@@ -1,27 +1,21 @@
 //! Lines of instances by name.
-ghost use Rattle.std.specs.Prelude.{◌≡◌, ◌+◌, ◌<◌, ◌^◌, ℕ, List, [], ◌∷◌, ◌++◌, length, slice_get, Contains, IfSome, IsNone, IsPermutation, IsTrue, OnErr, OnOk, Some};
-ghost use Rattle.std.specs.List.Sorted.{IsStrictlyIncreasing};
-ghost use Rattle.p21_stream_store.specs.StoredInstance.{StoredInstance, stored_instance, instance_names, name_at};
+ghost use Rattle.std.specs.Prelude.{◌≡◌, ◌+◌, ◌<◌, ◌^◌, ℕ, List, [], ◌∷◌, length, slice_get, Contains, IfSome, IsNone, IsPermutation, OnErr, OnOk, Some};
+ghost use Rattle.p21_stream_store.specs.StoredInstance.{StoredInstance, instance_names};
 
-use crate::late::LateNames;
-use crate::names::{is_above, position_in};
-use crate::numbers::Numbers;
+use crate::name_table::NameTable;
 use crate::seen::{may_have_come, note};
 use crate::stored_texts::StoredTexts;
 use p21_values::NoMemory;
 use std::alloc::Global;
 use std::marker::Model;
 
-/// Instances by name, each with its canonical text and the number of its membership. Those whose names rise, as in nearly
-/// every file, are stored in their order and take no index; a name that is below one in front of it stands in a table or a
-/// tree.
+/// Instances by name in the order in which they came, each with its canonical text and the number of its membership. The texts
+/// stay where they were written, and a table has the position of each name.
 pub struct NamedLines {
     // A bit for each small name that has come.
     seen: Vec<u64>,
-    pub(crate) rising: Numbers,
-    pub(crate) texts_of_rising: StoredTexts,
-    pub(crate) late: LateNames,
-    pub(crate) texts_of_late: StoredTexts,
+    pub(crate) names: NameTable,
+    pub(crate) texts: StoredTexts,
 }
 
 // Written out: crates above call it, where they would prove a derived one field by field.
@@ -29,23 +23,20 @@ impl Drop for NamedLines {
     fn drop(self) {
         let NamedLines {
             seen: _,
-            rising: _,
-            texts_of_rising: _,
-            late: _,
-            texts_of_late: _,
+            names: _,
+            texts: _,
         } = self;
     }
 }
 
 impl Model for NamedLines {
     ghost use Rattle.std.specs.Prelude.{List};
-    ghost use Rattle.p21_stream_store.specs.StoredInstance.{StoredInstance};
+    ghost use Rattle.p21_stream_store.specs.NamedLines.{IsSound};
+    ghost use Rattle.p21_stream_store.specs.StoredInstance.{StoredInstance, stored_instances};
 
     ghost Value = { List StoredInstance };
 
-    ghost use Rattle.p21_stream_store.specs.NamedLines.{IsSound, all_lines};
-
-    ghost view = { all_lines };
+    ghost view = { λ a. stored_instances a.names a.texts.lines };
 
     ghost invariant = { IsSound };
 }
@@ -57,10 +48,8 @@ impl NamedLines {
     {
         NamedLines {
             seen: Vec::new(alloc),
-            rising: Numbers::new(alloc),
-            texts_of_rising: StoredTexts::new(alloc),
-            late: LateNames::new(alloc),
-            texts_of_late: StoredTexts::new(alloc),
+            names: NameTable::new(alloc),
+            texts: StoredTexts::new(alloc),
         }
     }
 
@@ -76,20 +65,15 @@ impl NamedLines {
         ensures len { result ≡ length self.now }
         ensures small { result + 2 ^ 32 < 2 ^ 64 }
     {
-        self.rising.count() + self.late.len()
+        self.names.len()
     }
 
-    /// The number of the membership of the instance at a position. The positions are counted in the order of coming where all
-    /// names rose; else those with names that came late stand behind the others.
+    /// The number of the membership of the instance at a position. The positions are counted in the order of coming.
     pub fn membership_at(&self, place: usize) -> usize
         requires { place < length self.now }
         ensures { (found : StoredInstance) × (slice_get self.now place ≡ Some found) × (found.membership ≡ result) }
     {
-        let first = self.texts_of_rising.len();
-        if place < first {
-            return self.texts_of_rising.membership(place);
-        }
-        self.texts_of_late.membership(place - first)
+        self.texts.membership(place)
     }
 
     /// The canonical text of the instance at a position.
@@ -97,35 +81,21 @@ impl NamedLines {
         requires { place < length self.now }
         ensures { (found : StoredInstance) × (slice_get self.now place ≡ Some found) × (found.text ≡ result.now) }
     {
-        let first = self.texts_of_rising.len();
-        if place < first {
-            return self.texts_of_rising.text(place);
-        }
-        self.texts_of_late.text(place - first)
+        self.texts.text(place)
     }
 
-    /// The number of the membership and the canonical text of the instance of this name, if there is one. A name that rises
-    /// costs no search.
+    /// The number of the membership and the canonical text of the instance of this name, if there is one.
     pub fn find(&self, name: u64) -> Option<(usize, &[u8])>
         ensures some { IfSome result (λ found. Contains self.now (record { name = name; membership = found.0; text = found.1.now })) }
         ensures none { IsNone result → Contains (instance_names self.now) name → ⊥ }
     {
-        if !may_have_come(&self.seen, name) {
-            return None;
-        }
-        if is_above(&self.rising, name) {
-            return None;
-        }
-        if let Some(place) = self.late.position_of(name) {
-            return Some(self.texts_of_late.get(place));
-        }
-        match position_in(&self.rising, name) {
-            Some(place) => Some(self.texts_of_rising.get(place)),
+        match self.names.position_of(name) {
+            Some(place) => Some(self.texts.get(place)),
             None => None,
         }
     }
 
-    /// The number of the membership of the instance of this name, if there is one. A name that rises costs no search.
+    /// The number of the membership of the instance of this name, if there is one.
     #[inline]
     pub fn membership_of(&self, name: u64) -> Option<usize>
         ensures some { IfSome result (λ membership. (text : List ℕ) × Contains self.now (record { name = name; membership = membership; text = text })) }
@@ -137,25 +107,20 @@ impl NamedLines {
         self.membership_found(name)
     }
 
-    /// The same by the names alone, without a look at their bits.
+    /// The same by the table, without a look at the bits.
     #[inline(never)]
     fn membership_found(&self, name: u64) -> Option<usize>
         ensures some { IfSome result (λ membership. (text : List ℕ) × Contains self.now (record { name = name; membership = membership; text = text })) }
         ensures none { IsNone result → Contains (instance_names self.now) name → ⊥ }
     {
-        if is_above(&self.rising, name) {
-            return None;
-        }
-        if let Some(place) = self.late.position_of(name) {
-            return Some(self.texts_of_late.membership(place));
-        }
-        match position_in(&self.rising, name) {
-            Some(place) => Some(self.texts_of_rising.membership(place)),
+        match self.names.position_of(name) {
+            Some(place) => Some(self.texts.membership(place)),
             None => None,
         }
     }
 
-    /// Adds an instance whose name no instance has yet, with the number of its membership and its canonical text.
+    /// Adds an instance whose name no instance has yet, with the number of its membership and its canonical text. All room is
+    /// asked for before anything is added.
     ///
     /// # Errors
     ///
@@ -168,76 +133,13 @@ impl NamedLines {
         let Ok(()) = note(&mut self.seen, name) else {
             return Err(NoMemory);
         };
-        if is_above(&self.rising, name) {
-            let Ok(()) = add_rising(
-                &mut self.rising,
-                &mut self.texts_of_rising,
-                name,
-                membership,
-                text,
-            ) else {
-                return Err(NoMemory);
-            };
-            return Ok(());
-        }
-        let Ok(()) = add_late(
-            &mut self.late,
-            &mut self.texts_of_late,
-            name,
-            membership,
-            text,
-        ) else {
+        let Ok(()) = self.texts.reserve(text.len()) else {
             return Err(NoMemory);
         };
+        let Ok(()) = self.names.push(name) else {
+            return Err(NoMemory);
+        };
+        self.texts.push_reserved(membership, text);
         Ok(())
-    }
-}
-
-/// Adds a name with its membership and its text. An `Err` changes nothing.
-fn add_rising(
-    names: &mut Numbers,
-    lines: &mut StoredTexts,
-    name: u64,
-    membership: usize,
-    text: &[u8],
-) -> Result<(), NoMemory>
-    ensures names { OnOk result (names.new ≡ names.old ++ name ∷ []) }
-    ensures lines { OnOk result (lines.new ≡ lines.old ++ (membership, text.now) ∷ []) }
-    ensures err { OnErr result ((names.new ≡ names.old) × (lines.new ≡ lines.old)) }
-{
-    let Ok(()) = names.push(name as usize) else {
-        return Err(NoMemory);
-    };
-    match lines.push(membership, text) {
-        Ok(()) => Ok(()),
-        Err(fault) => {
-            names.pop();
-            Err(fault)
-        }
-    }
-}
-
-/// Adds a name that isn't there yet, with its membership and its text. An `Err` changes nothing.
-fn add_late(
-    names: &mut LateNames,
-    lines: &mut StoredTexts,
-    name: u64,
-    membership: usize,
-    text: &[u8],
-) -> Result<(), NoMemory>
-    requires { Contains names.old name → ⊥ }
-    ensures names { OnOk result (names.new ≡ names.old ++ name ∷ []) }
-    ensures lines { OnOk result (lines.new ≡ lines.old ++ (membership, text.now) ∷ []) }
-    ensures err { OnErr result ((names.new ≡ names.old) × (lines.new ≡ lines.old)) }
-{
-    let Ok(()) = names.push(name) else {
-        return Err(NoMemory);
-    };
-    match lines.push(membership, text) {
-        Ok(()) => Ok(()),
-        Err(fault) => {
-            names.pop(name);
-            Err(fault)
-        }
     }
 }

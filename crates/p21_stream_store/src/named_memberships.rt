@@ -64,8 +64,7 @@ impl NamedMemberships {
         self.count as usize + self.others.count()
     }
 
-    /// The number of the membership of the instance of this name, if there is one. A small name costs no search, nor does one
-    /// that rises.
+    /// The number of the membership of the instance of this name, if there is one. Mostly it is noted.
     pub fn membership_of(&self, name: u64) -> Option<usize>
         ensures some { IfSome result (λ membership. (text : List ℕ) × Contains self.now (record { name = name; membership = membership; text = text })) }
         ensures none { IsNone result → Contains (instance_names self.now) name → ⊥ }

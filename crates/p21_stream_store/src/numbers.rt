@@ -1,5 +1,5 @@
 //! Numbers of any size, in as few bytes as hold them.
-ghost use Rattle.std.specs.Prelude.{◌≡◌, ◌+◌, ◌<◌, ◌≤◌, ◌-◌, ◌^◌, [], ◌∷◌, ◌++◌, length, slice_get, take, OnErr, OnOk, Some};
+ghost use Rattle.std.specs.Prelude.{◌≡◌, ◌+◌, ◌<◌, ◌≤◌, ◌^◌, [], ◌∷◌, ◌++◌, length, slice_get, OnErr, OnOk, Some};
 
 use crate::rows::{Layer, Row};
 use crate::runs::Run;
@@ -8,15 +8,15 @@ use p21_values::NoMemory;
 use std::alloc::Global;
 use std::marker::Model;
 
-/// Numbers behind the run.
-type Behind = Layer<u8, Layer<u16, Layer<ThreeBytes, Layer<u32, Vec<usize>>>>>;
+/// Numbers in their order, each in a width that holds it.
+pub type Widths = Layer<u8, Layer<u16, Layer<ThreeBytes, Layer<u32, Vec<usize>>>>>;
 
-/// Numbers in their order. Those that rise by one from the first take no memory. Each behind them takes one byte up to the
+/// Numbers in their order. Those that rise by equal steps from the first take no memory. Each behind them takes one byte up to the
 /// first that a byte doesn't hold; that one and those behind it take two, and so on over three and four to eight.
 #[derive(Drop)]
 pub struct Numbers {
     run: Run,
-    behind: Behind,
+    behind: Widths,
 }
 
 impl Model for Numbers {
@@ -24,7 +24,7 @@ impl Model for Numbers {
 
     ghost Value = { List ℕ };
 
-    ghost view = { λ a. a.run ++ ⟦<Behind as Row>⟧.numbers a.behind };
+    ghost view = { λ a. a.run ++ ⟦<Widths as Row>⟧.numbers a.behind };
 }
 
 impl Numbers {
@@ -34,21 +34,13 @@ impl Numbers {
     {
         Numbers {
             run: Run::new(),
-            behind: Behind::new(alloc),
+            behind: Widths::new(alloc),
         }
     }
 
     /// How many numbers there are.
     pub fn len(&self) -> usize
         ensures { result ≡ length self.now }
-    {
-        self.count()
-    }
-
-    /// How many numbers there are, as `len` says, and that sums of such counts stay in 64 bits.
-    pub(crate) fn count(&self) -> usize
-        ensures len { result ≡ length self.now }
-        ensures small { result + 2 ^ 32 < 2 ^ 63 }
     {
         self.run.len() + self.behind.len()
     }
@@ -77,17 +69,8 @@ impl Numbers {
         if self.behind.is_empty() && self.run.push(number) {
             return Ok(());
         }
-        self.behind.push(number)
-    }
-
-    /// Takes the last number away.
-    pub fn pop(&mut self)
-        ensures { self.new ≡ take (length self.old - 1) self.old }
-    {
-        if self.behind.is_empty() {
-            self.run.pop();
-            return;
-        }
-        self.behind.pop();
+        self.behind.make_place()?;
+        self.behind.put(number);
+        Ok(())
     }
 }

@@ -112,14 +112,15 @@ impl<T: Copy + Drop> Pages<T> {
 }
 
 impl Pages<u32> {
-    /// The first name from this one on whose number isn't 0, and its number.
-    pub fn next_from(&self, from: u64) -> Option<(u64, u32)>
+    /// The first name from this one on whose number isn't 0, and its number. Where there is none up to a last name, none may be
+    /// answered, and no page behind is looked at.
+    pub fn next_from(&self, from: u64, last: u64) -> Option<(u64, u32)>
         ensures found { IfSome result (λ found. (from ≤ found.0) × (found.1 ≡ number_in 0 self.now.pages.items found.0) × (found.1 ≡ 0 → ⊥)) }
         ensures between { IfSome result (λ found. (other : ℕ) → from ≤ other → other < found.0 → number_in 0 self.now.pages.items other ≡ 0) }
-        ensures none { IsNone result → (other : ℕ) → from ≤ other → other < 2 ^ 64 → number_in 0 self.now.pages.items other ≡ 0 }
+        ensures none { IsNone result → (other : ℕ) → from ≤ other → other ≤ last → number_in 0 self.now.pages.items other ≡ 0 }
     {
         let mut name = from as usize;
-        while name / PAGE < self.pages.len() {
+        while name as u64 <= last && name / PAGE < self.pages.len() {
             let first = name - name % PAGE;
             if let Some((index, number)) = next_in(&self.pages[name / PAGE], name % PAGE) {
                 return Some(((first + index) as u64, number));

@@ -1,7 +1,7 @@
 //! Numbers one behind the other, each in a width that holds it.
-ghost use Rattle.std.specs.Prelude.{◌≡◌, ◌<◌, ◌≤◌, ◌-◌, ◌^◌, ◌+◌, ℕ, List, [], ◌∷◌, ◌++◌, length, map, slice_get, take, OnErr, OnOk, Some, false, true};
+ghost use Rattle.std.specs.Prelude.{◌≡◌, ◌<◌, ◌≤◌, ◌-◌, ◌^◌, ◌+◌, ℕ, List, [], ◌∷◌, ◌++◌, length, map, min, slice_get, vec_capacity, vec_len, OnOk, Some, false, true};
 
-use crate::room::add;
+use crate::room::make_room;
 use crate::widths::Width;
 use p21_values::NoMemory;
 use std::alloc::Global;
@@ -12,6 +12,9 @@ pub trait Row: Drop {
 
     // So many numbers it holds at most.
     ghost most: { ℕ };
+
+    // It has room for so many more at least.
+    ghost room: { Self → ℕ };
 
     /// A list without numbers. It takes no memory.
     fn new(alloc: Global) -> Self
@@ -33,24 +36,27 @@ pub trait Row: Drop {
         requires { place < length (numbers self.now) }
         ensures { slice_get (numbers self.now) place ≡ Some result };
 
-    /// Adds a number.
+    /// Makes room for one number more, whatever its width.
     ///
     /// # Errors
     ///
-    /// `NoMemory`, which changes nothing.
-    fn push(&mut self, number: usize) -> Result<(), NoMemory>
-        ensures ok { OnOk result (numbers self.new ≡ numbers self.old ++ number ∷ []) }
-        ensures err { OnErr result (numbers self.new ≡ numbers self.old) };
+    /// `NoMemory`. No number changes.
+    fn make_place(&mut self) -> Result<(), NoMemory>
+        ensures same { numbers self.new ≡ numbers self.old }
+        ensures ok { OnOk result (0 < room self.new) };
 
-    /// Takes the last number away.
-    fn pop(&mut self)
-        ensures { numbers self.new ≡ take (length (numbers self.old) - 1) (numbers self.old) };
+    /// Adds a number, for which there is room.
+    fn put(&mut self, number: usize)
+        requires { 0 < room self.old }
+        ensures { numbers self.new ≡ numbers self.old ++ number ∷ [] };
 }
 
 impl Row for Vec<usize> {
     ghost numbers = { λ row. row.items };
 
     ghost most = { 2 ^ 60 };
+
+    ghost room = { λ row. vec_capacity row - vec_len row };
 
     fn new(alloc: Global) -> Vec<usize> {
         Vec::new(alloc)
@@ -68,12 +74,12 @@ impl Row for Vec<usize> {
         self[place]
     }
 
-    fn push(&mut self, number: usize) -> Result<(), NoMemory> {
-        add(self, number)
+    fn make_place(&mut self) -> Result<(), NoMemory> {
+        make_room(self)
     }
 
-    fn pop(&mut self) {
-        Vec::pop(self);
+    fn put(&mut self, number: usize) {
+        self.push_reserved(number);
     }
 }
 
@@ -92,6 +98,8 @@ impl<T: Width + Drop, R: Row> Row for Layer<T, R> {
     ghost numbers = { λ layer. map T.value layer.narrow.items ++ R.numbers layer.wide };
 
     ghost most = { 2 ^ 60 + R.most };
+
+    ghost room = { λ layer. min (vec_capacity layer.narrow - vec_len layer.narrow) (R.room layer.wide) };
 
     fn new(alloc: Global) -> Layer<T, R> {
         Layer {
@@ -116,20 +124,18 @@ impl<T: Width + Drop, R: Row> Row for Layer<T, R> {
         self.wide.get(place - first)
     }
 
-    fn push(&mut self, number: usize) -> Result<(), NoMemory> {
-        if self.wide.is_empty() && self.narrow.len() < MOST_OF_A_WIDTH {
-            if let Some(narrow) = T::of(number) {
-                return add(&mut self.narrow, narrow);
-            }
-        }
-        self.wide.push(number)
+    fn make_place(&mut self) -> Result<(), NoMemory> {
+        make_room(&mut self.narrow)?;
+        self.wide.make_place()
     }
 
-    fn pop(&mut self) {
-        if self.wide.is_empty() {
-            self.narrow.pop();
-            return;
+    fn put(&mut self, number: usize) {
+        if self.wide.is_empty() && self.narrow.len() < MOST_OF_A_WIDTH {
+            if let Some(narrow) = T::of(number) {
+                self.narrow.push_reserved(narrow);
+                return;
+            }
         }
-        self.wide.pop();
+        self.wide.put(number);
     }
 }

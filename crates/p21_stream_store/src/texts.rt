@@ -1,9 +1,9 @@
 //! Texts by number. They lie in blocks that don't move when more come.
-ghost use Rattle.std.specs.Prelude.{◌≡◌, ◌+◌, ◌*◌, ◌<◌, ◌≤◌, ◌^◌, ℕ, [], ◌∷◌, ◌++◌, length, slice_get, vec_capacity, vec_len, IfOk, IfSome, OnErr, OnOk, MatchBool, Some, is_some, true};
+ghost use Rattle.std.specs.Prelude.{◌≡◌, ◌+◌, ◌*◌, ◌<◌, ◌≤◌, ◌^◌, ℕ, [], ◌∷◌, ◌++◌, length, slice_get, max, vec_capacity, vec_len, IfOk, IsTrue, OnOk, Some, true};
 ghost use Rattle.p21_stream_store.specs.Blocks.{AreFirsts, block_texts, first_at};
 ghost use Rattle.p21_stream_store.specs.Texts.{AreStartsFrom, texts_of};
 
-use crate::room::{add, make_room};
+use crate::room::make_room;
 use p21_values::NoMemory;
 use std::alloc::Global;
 use std::marker::Model;
@@ -12,40 +12,35 @@ use std::mem;
 /// The bytes of a block, apart from those of a text that is longer and has a block of its own. So 16 bits hold each start.
 const BLOCK: usize = 65_536;
 
-/// Adds a text that starts behind the bytes. The first one makes room for a whole block. An `Err` changes nothing.
-fn put(starts: &mut Vec<u16>, bytes: &mut Vec<u8>, start: u16, text: &[u8]) -> Result<(), NoMemory>
-    ensures starts { OnOk result (starts.new.items ≡ starts.old.items ++ start ∷ []) }
-    ensures bytes { OnOk result (bytes.new.items ≡ bytes.old.items ++ text.now) }
-    ensures err { OnErr result ((starts.new.items ≡ starts.old.items) × (bytes.new.items ≡ bytes.old.items)) }
-    ensures room_of_starts { (m : ℕ) → vec_capacity starts.old ≤ m → 32 ≤ m → 2 * vec_len starts.old ≤ m → vec_capacity starts.new ≤ m }
+/// Makes room for a text of this size and where it starts, in a block that takes it. The first one makes room for a whole block.
+///
+/// # Errors
+///
+/// `NoMemory`. Nothing is added.
+fn make_place(starts: &mut Vec<u16>, bytes: &mut Vec<u8>, size: usize) -> Result<(), NoMemory>
+    ensures starts { starts.new.items ≡ starts.old.items }
+    ensures bytes { bytes.new.items ≡ bytes.old.items }
+    ensures place { OnOk result (vec_len starts.new < vec_capacity starts.new) }
+    ensures room { OnOk result (vec_len bytes.new + size ≤ vec_capacity bytes.new) }
+    ensures most_starts { (m : ℕ) → vec_capacity starts.old ≤ m → 32 ≤ m → 2 * vec_len starts.old ≤ m → vec_capacity starts.new ≤ m }
+    ensures most_bytes { vec_capacity bytes.new ≤ max (vec_capacity bytes.old) (vec_len bytes.old + max 65536 size) }
 {
-    let size = if starts.is_empty() {
-        BLOCK.max(text.len())
-    } else {
-        text.len()
-    };
-    bytes.reserve(size)?;
-    add(starts, start)?;
-    if bytes.extend_from_slice(text).is_err() {
-        starts.pop();
-        return Err(NoMemory);
-    }
-    Ok(())
+    let least = if starts.is_empty() { BLOCK } else { 0 };
+    bytes.reserve_exact(least.max(size))?;
+    make_room(starts)
 }
 
-/// Where the next text starts, behind so many texts and bytes; none where a text of this size doesn't fit.
-fn start_of(texts: usize, used: usize, size: usize) -> Option<u16>
+/// Whether a block of so many texts and bytes takes a text of this size: 16 bits hold its start, and the block gets no larger by it
+/// than a block is.
+fn takes(texts: usize, used: usize, size: usize) -> bool
     requires { texts ≡ 0 → used ≡ 0 }
-    ensures start { IfSome result (λ start. start ≡ used) }
-    ensures first { texts ≡ 0 → is_some result ≡ true }
+    ensures low { IsTrue result → used < 65536 }
+    ensures first { texts ≡ 0 → result ≡ true }
 {
     if texts == 0 {
-        return Some(0);
+        return true;
     }
-    if used >= BLOCK || size > BLOCK - used {
-        return None;
-    }
-    Some(used as u16)
+    used < BLOCK && size <= BLOCK - used
 }
 
 /// The text of a number among those that start at these positions of the bytes.
@@ -71,12 +66,11 @@ struct Block {
 }
 
 impl Model for Block {
-    ghost use Rattle.std.specs.Prelude.{List, ℕ};
-    ghost use Rattle.p21_stream_store.specs.Texts.{texts_of, AreStarts};
+    ghost use Rattle.p21_stream_store.specs.Texts.{HeldTexts, room_in, texts_of, AreStarts};
 
-    ghost Value = { List (List ℕ) };
+    ghost Value = { HeldTexts };
 
-    ghost view = { λ a. texts_of a.starts.items a.bytes.items };
+    ghost view = { λ a. record { texts = texts_of a.starts.items a.bytes.items; room = room_in a.starts a.bytes } };
 
     ghost invariant = { λ a. AreStarts a.starts.items a.bytes.items };
 }
@@ -84,7 +78,7 @@ impl Model for Block {
 impl Block {
     /// A list without texts. It takes no memory.
     fn new(alloc: Global) -> Block
-        ensures { result ≡ [] }
+        ensures { result.texts ≡ [] }
     {
         Block {
             starts: Vec::new(alloc),
@@ -94,39 +88,54 @@ impl Block {
 
     /// How many texts there are.
     fn len(&self) -> usize
-        ensures { result ≡ length self.now }
+        ensures { result ≡ length self.now.texts }
     {
         self.starts.len()
     }
 
     /// The text of a number.
     fn get(&self, index: usize) -> &[u8]
-        requires { index < length self.now }
-        ensures { slice_get self.now index ≡ Some result.now }
+        requires { index < length self.now.texts }
+        ensures { slice_get self.now.texts index ≡ Some result.now }
     {
         text_at(&self.starts, &self.bytes, index)
     }
 
     /// Gives back the room for further starts.
     fn close(&mut self)
-        ensures { self.new ≡ self.old }
+        ensures { self.new.texts ≡ self.old.texts }
     {
         self.starts.shrink_to_fit();
     }
 
-    /// Adds a text, if it fits; says whether it did. An `Err` changes nothing.
-    fn push(&mut self, text: &[u8]) -> Result<bool, NoMemory>
-        ensures added { IfOk result (λ added. MatchBool added (self.new ≡ self.old ++ text.now ∷ []) (self.new ≡ self.old)) }
-        ensures first { self.old ≡ [] → IfOk result (λ added. added ≡ true) }
-        ensures err { OnErr result (self.new ≡ self.old) }
+    /// Makes room for a text of this size, if the block takes it; says whether it does.
+    ///
+    /// # Errors
+    ///
+    /// `NoMemory`. No text is added.
+    fn reserve(&mut self, size: usize) -> Result<bool, NoMemory>
+        ensures same { self.new.texts ≡ self.old.texts }
+        ensures room { IfOk result (λ taken. IsTrue taken → size < self.new.room) }
+        ensures first { self.old.texts ≡ [] → IfOk result (λ taken. taken ≡ true) }
     {
-        let Some(start) = start_of(self.starts.len(), self.bytes.len(), text.len()) else {
+        if !takes(self.starts.len(), self.bytes.len(), size) {
             return Ok(false);
-        };
-        let Ok(()) = put(&mut self.starts, &mut self.bytes, start, text) else {
+        }
+        let Ok(()) = make_place(&mut self.starts, &mut self.bytes, size) else {
             return Err(NoMemory);
         };
         Ok(true)
+    }
+
+    /// Adds a text, for which there is room.
+    fn push_reserved(&mut self, text: &[u8])
+        requires { length text.now < self.old.room }
+        ensures { self.new.texts ≡ self.old.texts ++ text.now ∷ [] }
+    {
+        self.starts.push_reserved(self.bytes.len() as u16);
+        let Ok(()) = self.bytes.extend_from_slice(text) else {
+            unreachable!();
+        };
     }
 }
 
@@ -188,12 +197,13 @@ pub struct Texts {
 }
 
 impl Model for Texts {
-    ghost use Rattle.std.specs.Prelude.{List, ℕ, ◌++◌};
+    ghost use Rattle.std.specs.Prelude.{◌++◌};
+    ghost use Rattle.p21_stream_store.specs.Texts.{HeldTexts};
     ghost use Rattle.p21_stream_store.specs.Blocks.{block_texts, AreFirsts};
 
-    ghost Value = { List (List ℕ) };
+    ghost Value = { HeldTexts };
 
-    ghost view = { λ a. block_texts a.full.items ++ a.last };
+    ghost view = { λ a. record { texts = block_texts a.full.items ++ a.last.texts; room = a.last.room } };
 
     ghost invariant = { λ a. AreFirsts 0 a.full.items a.end };
 }
@@ -201,7 +211,7 @@ impl Model for Texts {
 impl Texts {
     /// A list without texts. It takes no memory.
     pub fn new(alloc: Global) -> Texts
-        ensures { result ≡ [] }
+        ensures { result.texts ≡ [] }
     {
         Texts {
             alloc,
@@ -213,8 +223,8 @@ impl Texts {
 
     /// The text of a number.
     pub fn get(&self, index: usize) -> &[u8]
-        requires { index < length self.now }
-        ensures { slice_get self.now index ≡ Some result.now }
+        requires { index < length self.now.texts }
+        ensures { slice_get self.now.texts index ≡ Some result.now }
     {
         if index < self.end {
             return text_in(&self.full, index, self.end);
@@ -222,35 +232,43 @@ impl Texts {
         self.last.get(index - self.end)
     }
 
-    /// Adds a text.
+    /// Makes room for a text of this size. If the last block doesn't take it, a new one follows.
     ///
     /// # Errors
     ///
-    /// `NoMemory`, which changes nothing.
-    pub fn push(&mut self, text: &[u8]) -> Result<(), NoMemory>
-        requires { length self.old < 2 ^ 64 }
-        ensures ok { OnOk result (self.new ≡ self.old ++ text.now ∷ []) }
-        ensures err { OnErr result (self.new ≡ self.old) }
+    /// `NoMemory`. No text is added.
+    pub fn reserve(&mut self, size: usize) -> Result<(), NoMemory>
+        requires { length self.old.texts < 2 ^ 64 }
+        ensures same { self.new.texts ≡ self.old.texts }
+        ensures ok { OnOk result (size < self.new.room) }
     {
-        match self.last.push(text) {
+        match self.last.reserve(size) {
             Ok(true) => return Ok(()),
             Ok(false) => {}
             Err(fault) => return Err(fault),
         }
         let mut block = Block::new(self.alloc);
-        match block.push(text) {
+        match block.reserve(size) {
             Ok(true) => {}
             Ok(false) => unreachable!(),
             Err(fault) => return Err(fault),
         }
         make_room(&mut self.full)?;
-        let size = self.last.len();
+        let count = self.last.len();
         self.last.close();
         self.full.push_reserved(FullBlock {
             first: self.end,
             block: mem::replace(&mut self.last, block),
         });
-        self.end += size;
+        self.end += count;
         Ok(())
+    }
+
+    /// Adds a text, for which there is room.
+    pub fn push_reserved(&mut self, text: &[u8])
+        requires { length text.now < self.old.room }
+        ensures { self.new.texts ≡ self.old.texts ++ text.now ∷ [] }
+    {
+        self.last.push_reserved(text);
     }
 }

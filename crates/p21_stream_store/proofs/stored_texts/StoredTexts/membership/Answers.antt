@@ -1,18 +1,11 @@
-use Rattle.std.proofs.Common.{List, ℕ, [], length, ap, sym, get_or, ◌∙◌, arith}
+use Rattle.std.proofs.Common.{[], ap}
 use Rattle.std.proofs.lemmas.Option.{slice_get-get_or}
-use Rattle.std.specs.List.{slice_get}
-use Rattle.p21_stream_store.proofs.StoredTextLemmas.{length-side, side-get}
+use Rattle.p21_stream_store.proofs.StoredTextLemmas.{got, within, within_other}
+use Rattle.p21_stream_store.specs.StoredTexts.{HeldLines}
 use Rattle.p21_stream_store.proofs.stored_texts.StoredTexts.membership.Goals as goal
 
 pub get-requires : goal.get-requires
-get-requires c =
-    let seen = ap length c.self.view_is in
-    let size = length-side c.self.inside.memberships c.self.inside.texts c.self.invariant in
-    omega (arith, seen, size)
+get-requires c = within _ _ _ (ap (λ (held : HeldLines). held.lines) c.self.view_is) c.self.invariant c.args.index c.requires
 
 pub returns : goal.returns
-returns c =
-    let seen = ap length c.self.view_is in
-    let size = length-side c.self.inside.memberships c.self.inside.texts c.self.invariant in
-    let got = slice_get-get_or c.self.inside.texts c.args.index [] (omega (arith, seen, size, c.self.invariant)) in
-    (get_or c.self.inside.texts c.args.index [], ap (λ (l : List (ℕ × List ℕ)). slice_get l c.args.index) (sym c.self.view_is) ∙ side-get c.self.inside.memberships c.self.inside.texts c.args.index _ _ c.get.ensures got)
+returns c = (_, got _ _ _ (ap (λ (held : HeldLines). held.lines) c.self.view_is) c.args.index _ _ c.get.ensures (slice_get-get_or _ c.args.index [] (within_other _ _ _ (ap (λ (held : HeldLines). held.lines) c.self.view_is) c.self.invariant c.args.index c.requires)))
