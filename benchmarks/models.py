@@ -104,6 +104,23 @@ def merged(paths):
     return head, parts
 
 
+def commented(lines):
+    """The same instances with a comment in front of each delimiter, and a line feed behind it."""
+    return [re.sub(r"([=(),])", r"/* \1 */\1\n", line) for line in lines]
+
+
+def padded(lines):
+    """The same instances with zeros in front of each name."""
+    return [re.sub(r"#(\d+)", lambda name: f"#{name[1]:0>12}", line) for line in lines]
+
+
+def leaves(count):
+    """Instances with one leaf in external mapping, which go token by token."""
+    return [
+        f"#{n}=(CARTESIAN_POINT((1.,2.,3.))GEOMETRIC_REPRESENTATION_ITEM()REPRESENTATION_ITEM(''));\n" for n in range(1, count + 1)
+    ]
+
+
 def write(path, lines, head=HEAD):
     """A file of these instances. Answers how many bytes it has."""
     with open(path, "w", encoding="latin-1") as file:

@@ -4,8 +4,8 @@
     benchmarks/ways.py [SCHEMA FILE..]      without these, the files of the other benchmarks, of 10,000 instances each
 
 The program has no counter, so valgrind counts the calls by which a session keeps an instance that came token by token; the
-others of an accepted file went the shorter way. Each instance whose name has a zero in front has to be counted: that shows
-that the program has these functions apart, and not inlined. P21 names another program than ./p21. Needs valgrind.
+others of an accepted file went the shorter way. Each instance with one leaf that is written in external mapping has to be counted:
+that shows that the program has these functions apart, and not inlined. P21 names another program than ./p21. Needs valgrind.
 """
 
 import os
@@ -23,6 +23,9 @@ COUNT = 10_000
 TAKES, KEEPS = ("p21_stream_kept::kept::Kept::take_instance", "p21_stream::progress::take"), "p21_stream_kept::kept::Kept::keep_found"
 FILES = {
     "points": models.points,
+    "points with blanks": lambda count: models.spaced(models.points(count)),
+    "points with comments": lambda count: models.commented(models.points(count)),
+    "points, names with zeros": lambda count: models.padded(models.points(count)),
     "boundary model": models.boundary,
     "boundary model, shuffled": lambda count: models.shuffled(models.boundary(count)),
     "oriented edges": models.edges,
@@ -68,9 +71,9 @@ def ways(schema, path, folder):
 
 
 def is_counted(folder):
-    """Does the program have these functions apart? Then an instance whose name has a zero in front is counted."""
+    """Does the program have these functions apart? Then an instance with one leaf in external mapping is counted."""
     made = f"{folder}/file"
-    models.write(made, [line.replace("#", "#0", 1) for line in models.points(100)])
+    models.write(made, models.leaves(100))
     return ways(models.SCHEMA, made, folder)[1] == 100
 
 

@@ -30,13 +30,13 @@ use Rattle.p21_stream_kept.specs.Steps.{FoundGives}
 use Rattle.p21_stream_kept.specs.Taking.{FollowsFound}
 use Rattle.p21_stream.proofs.Going.{dead-behind}
 use Rattle.p21_stream.proofs.Pieces.{follows-behind}
-use Rattle.p21_stream.specs.Passing.{HasEntities, IsFoundIn}
-use Rattle.p21_stream.specs.declared.passing.Set.{Set}
-use Rattle.p21_stream.specs.declared.passing.Set.TheVariants.{Numbered, Own}
+use Rattle.p21_stream.specs.Passing.{IsFoundIn}
 use Rattle.p21_stream.specs.Pieces.{EndsNoToken, IsUnderWay, NeedsNoMemory, StepGives}
 use Rattle.p21_tokens.specs.Histories.{AreSeparators}
 use Rattle.p21_transcribe.specs.Gaps.{PassesSeparators}
-use Rattle.p21_transcribe_instance.specs.Instance.{TakesInstance}
+use Rattle.p21_transcribe_instance.specs.Instance.{HasEntities, TakesInstance}
+use Rattle.p21_transcribe_instance.specs.declared.instance.Set.{Set}
+use Rattle.p21_transcribe_instance.specs.declared.instance.Set.TheVariants.{Numbered, Own}
 use Rattle.p21_transcribe_instance.specs.declared.taken.Taken.{Taken}
 use Rattle.p21_transcribe_instance.specs.TakenValues.{LaidBefore}
 

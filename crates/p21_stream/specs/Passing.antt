@@ -3,7 +3,6 @@ use Rattle.std.specs.Prelude.{◌≡◌, ℕ, zero, suc, List, [], ◌∷◌, Op
 use Rattle.p21_spec_basics.specs.Limits.{Limits}
 use Rattle.p21_spec_laws.specs.Keeping.{Kept}
 use Rattle.p21_spec_exchange.specs.Record.{Record}
-use Rattle.p21_express_graph.specs.Rising.{IsOwnRising}
 use Rattle.p21_spec_file.specs.Reference.{Need}
 use Rattle.p21_mapping.specs.Checked.{needs_view}
 use Rattle.p21_spec_schema.specs.Schema.{Schema}
@@ -11,11 +10,9 @@ use Rattle.p21_stream_statements.specs.declared.refusal.Refusal.{Refusal}
 use Rattle.p21_stream_statements.specs.StatementReader as statements
 use Rattle.p21_stream_statements.specs.PassingOver.{AreInstances}
 use Rattle.p21_stream_kept.specs.Found.{HasFound}
-use Rattle.p21_transcribe_instance.specs.ExternalSet.{IsNumberedSet}
+use Rattle.p21_transcribe_instance.specs.Instance.{HasEntities}
 use Rattle.p21_transcribe_instance.specs.declared.taken.Taken.{Taken}
 use Rattle.p21_stream.specs.declared.passing.Passing.{Passing}
-use Rattle.p21_stream.specs.declared.passing.Set.{Set}
-use Rattle.p21_stream.specs.declared.passing.Set.TheVariants.{Numbered, Own}
 use Rattle.p21_stream.specs.Pieces.{StepGives}
 
 -- The bytes are an instance of this name, whose set are these entities; this is its canonical text, and these are its needs
@@ -23,11 +20,6 @@ pub record IsFoundIn (s : Schema) (n : ℕ) (entities bytes text : List ℕ) (ne
   pub record_ : Record
   pub are : AreInstances bytes ((n, record_) ∷ [])
   pub found : HasFound s n record_ entities needs text
-
--- the entities of a set of an instance, where sets are stored by number
-abbrev pub HasEntities : Schema → List (List ℕ) → Set → List ℕ → Type 0
-HasEntities s sets (Own e) entities = IsOwnRising s e.0 entities
-HasEntities s sets (Numbered at) entities = IsNumberedSet sets at entities
 
 -- what is found stands at the beginning of a piece; what is taken are its canonical text and its needs
 abbrev pub FindsInstance : Schema → List (List ℕ) → Passing → List ℕ → Taken → Type 0

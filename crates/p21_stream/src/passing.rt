@@ -5,9 +5,10 @@ ghost use Rattle.p21_spec_schema.specs.Schema.{Schema as Meant};
 ghost use Rattle.p21_stream_statements.specs.Source.{IsOfBytes};
 ghost use Rattle.p21_stream_statements.specs.StatementReader.{limits_of};
 ghost use Rattle.p21_stream_kept.specs.Steps.{StepKeepsBound};
-ghost use Rattle.p21_stream.specs.Passing.{FindsInstance, HasEntities, PassGives, some_count};
+ghost use Rattle.p21_stream.specs.Passing.{FindsInstance, PassGives, some_count};
 ghost use Rattle.p21_stream.specs.Pieces.{EndsNoToken, IsUnderWay, NeedsNoMemory, TakesWithinPiece};
 ghost use Rattle.p21_tokens.specs.Histories.{AreSeparators};
+ghost use Rattle.p21_transcribe_instance.specs.Instance.{HasEntities};
 ghost use Rattle.p21_transcribe_instance.specs.Steps.{IsPlanOf};
 ghost use Rattle.p21_transcribe_instance.specs.ExternalSet.{AreExternalSets};
 
@@ -17,7 +18,7 @@ use p21_express_tables::Schema;
 use p21_stream_kept::FoundInstance;
 use p21_stream_statements::{Fault, Refusal};
 use p21_transcribe::{Draft, behind_separators};
-use p21_transcribe_instance::{Plan, Sets, Taken, append_external, append_instance};
+use p21_transcribe_instance::{Plan, Set, Sets, Taken, take_instance};
 use p21_values::{Limits, Name};
 
 /// The most bytes of a canonical line that is made so.
@@ -29,15 +30,6 @@ pub(crate) struct Passing {
     pub(crate) name: Name,
     pub(crate) set: Set,
     pub(crate) count: usize,
-}
-
-/// The set of an instance that was found.
-#[derive(Clone, Copy)]
-pub(crate) enum Set {
-    /// Of internal mapping: the closure of this entity.
-    Own(EntityId),
-    /// Of external mapping: the set of this number among those that are stored.
-    Numbered(usize),
 }
 
 impl Progress {
@@ -178,14 +170,14 @@ pub(crate) fn find(
         return None;
     }
     forget(taken);
-    match append_instance(schema, plan, piece, taken) {
-        Some(instance) => Some(Passing {
-            name: instance.name,
-            set: Set::Own(instance.entity),
-            count: piece.len() - instance.rest.len(),
-        }),
-        None => find_external(schema, sets, piece, taken),
-    }
+    let Some(instance) = take_instance(schema, plan, sets, piece, taken) else {
+        return None;
+    };
+    Some(Passing {
+        name: instance.name,
+        set: instance.set,
+        count: piece.len() - instance.rest.len(),
+    })
 }
 
 /// Whether there is room for a canonical line. Where an instance begins, it is made.
@@ -223,30 +215,6 @@ fn begins_instance(piece: &[u8]) -> bool
         Some((first, _)) => *first == b'#',
         None => false,
     }
-}
-
-/// Finds, in the same way, an instance of external mapping.
-#[inline(never)]
-fn find_external(
-    schema: &Schema,
-    sets: &mut Sets,
-    piece: &[u8],
-    taken: &mut Taken,
-) -> Option<Passing>
-    requires { AreExternalSets schema.now sets.old }
-    ensures found { IfSome result (λ found. FindsInstance schema.now sets.new found piece.now taken.new) }
-    ensures within { IfSome result (λ found. found.count ≤ length piece.now) }
-    ensures sets { AreExternalSets schema.now sets.new }
-{
-    forget(taken);
-    let Some(instance) = append_external(schema, sets, piece, taken) else {
-        return None;
-    };
-    Some(Passing {
-        name: instance.name,
-        set: Set::Numbered(instance.set),
-        count: piece.len() - instance.rest.len(),
-    })
 }
 
 /// Gives up what an instance left in the line and the references.

@@ -63,7 +63,7 @@ pub(crate) fn append_exponent(exponent: i32, draft: &mut Draft) -> bool
 
 /// Writes the exponent at a place: where the text ends behind it.
 #[inline(always)]
-fn write_exponent(exponent: i32, room: &mut [u8], at: usize) -> usize
+pub(crate) fn write_exponent(exponent: i32, room: &mut [u8], at: usize) -> usize
     requires small { nat_abs exponent < 100 }
     requires room { at + LONGEST ≤ length room.old }
     ensures text { take result room.new ≡ take at room.old ++ exponent_spelling exponent }

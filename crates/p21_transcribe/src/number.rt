@@ -31,7 +31,7 @@ pub fn append_whole(bytes: &[u8], draft: &mut Draft) -> Option<usize>
 
 /// Appends the whole number of the first so many bytes, which are digits, or a part of it; says whether there was room.
 #[inline(always)]
-fn append_digits(negative: bool, bytes: &[u8], count: usize, draft: &mut Draft) -> bool
+pub(crate) fn append_digits(negative: bool, bytes: &[u8], count: usize, draft: &mut Draft) -> bool
     requires some { 0 < count }
     requires within { count ≤ length bytes.now }
     requires digits { AllDigits (take count bytes.now) }

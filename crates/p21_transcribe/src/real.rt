@@ -175,10 +175,7 @@ fn append_at_power(
     if power < -99 || power > 99 {
         return false;
     }
-    if !draft.append_significand(negative, unsigned, places) {
-        return false;
-    }
-    append_exponent(power, draft)
+    draft.append_scaled(negative, unsigned, places, power)
 }
 
 /// Appends the canonical spelling of the number that these digits before and behind the point stand for, times ten to the

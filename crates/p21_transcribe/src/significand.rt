@@ -1,35 +1,40 @@
-//! The significand of a real, written by whole rows of bytes, of which some count.
-ghost use Rattle.std.specs.Prelude.{◌≡◌, ◌+◌, ◌<◌, ◌≤◌, [], ◌∷◌, ◌++◌, length, take, slice_index, if◌then◌else◌};
+//! The significand of a real, written by whole rows of bytes, of which some count, and its exponent behind it.
+ghost use Rattle.std.specs.Prelude.{◌≡◌, ◌+◌, ◌<◌, ◌≤◌, [], ◌∷◌, ◌++◌, length, nat_abs, take, slice_index, if◌then◌else◌};
+ghost use Rattle.p21_spec_exchange.specs.Spelling.{exponent_spelling};
 ghost use Rattle.p21_transcribe.specs.Places.{HasPlaces};
 ghost use Rattle.p21_transcribe.specs.Appending.{AppendsAllOrNone};
 ghost use Rattle.p21_transcribe.specs.Significands.{further_digits, significand};
 
 use crate::draft::{Draft, WIDE, write_wide};
+use crate::exponent::write_exponent;
 use crate::places::Places;
 
-/// The room that is asked for: a minus, a digit and the point, and two rows.
-const ROOM_OF_A_SIGNIFICAND: usize = 3 * WIDE;
+/// The room that is asked for: a minus, a digit and the point, and two rows; more than a significand with its exponent has.
+const ROOM_OF_A_REAL: usize = 3 * WIDE;
 
 impl Draft {
-    /// Appends a minus or none, the first digit that counts, the point, and the others that count; says whether there was
-    /// room.
+    /// Appends a minus or none, the first digit that counts, the point, the others that count, and an exponent of at most two
+    /// digits; says whether there was room.
     #[inline(always)]
-    pub(crate) fn append_significand(
+    pub(crate) fn append_scaled(
         &mut self,
         negative: bool,
         bytes: &[u8],
         places: &Places,
+        power: i32,
     ) -> bool
         requires places { HasPlaces bytes.now 0 places.now.point places.now.end places.now.first places.now.behind }
         requires some { 0 < places.now.behind }
         requires bytes { WIDE + WIDE ≤ length bytes.now }
-        ensures { AppendsAllOrNone result (significand negative bytes.now 0 places.now.point places.now.first places.now.behind) self.old self.new }
+        requires small { nat_abs power < 100 }
+        ensures { AppendsAllOrNone result (significand negative bytes.now 0 places.now.point places.now.first places.now.behind ++ exponent_spelling power) self.old self.new }
     {
         let used = self.used;
-        if self.room.len() - used < ROOM_OF_A_SIGNIFICAND {
+        if self.room.len() - used < ROOM_OF_A_REAL {
             return false;
         }
-        self.used = write_significand(negative, bytes, 0, places, &mut self.room, used);
+        let end = write_significand(negative, bytes, 0, places, &mut self.room, used);
+        self.used = write_exponent(power, &mut self.room, end);
         true
     }
 }
@@ -50,6 +55,7 @@ fn write_significand(
     requires bytes { at + WIDE + WIDE ≤ length bytes.now }
     requires room { used + WIDE + WIDE + WIDE ≤ length room.old }
     ensures text { take result room.new ≡ take used room.old ++ ((if negative then 45 ∷ [] else []) ++ slice_index bytes.now (at + places.now.first) ∷ 46 ∷ further_digits bytes.now at places.now.point places.now.first places.now.behind) }
+    ensures within { result ≤ used + WIDE + WIDE }
     ensures len { length room.new ≡ length room.old }
 {
     let first = places.first;

@@ -42,9 +42,11 @@ use Rattle.p21_transcribe_instance.proofs.LaidRuns.{laid-spelled, takes-join}
 use Rattle.p21_transcribe_instance.proofs.Plain.{placed-plain}
 use Rattle.p21_transcribe_instance.proofs.Rows.{HasMeaning, has-meaning}
 use Rattle.p21_transcribe_instance.proofs.Texts.{AreMeant, canonical-fit, canonical-spelled, canonical-stand, canonical_at, line-is}
+use Rattle.p21_transcribe_instance.proofs.Stepping.{enclosed}
 use Rattle.p21_transcribe_instance.specs.Instance.{TakesInstance}
-use Rattle.p21_transcribe_instance.specs.TakenParameters.{IsPlacedParameter, PlacedParameter, TakesTokens, TakesEntity, TakesSteps, body_text, body_tokens, needs_at, params_at, places_at, texts_at}
-use Rattle.p21_transcribe_instance.specs.Steps.{AreStepsAt, MayStandAlone}
+use Rattle.p21_transcribe_instance.specs.TakenParameters.{IsPlacedParameter, PlacedParameter, TakesTokens, TakesEntity, TakesOpenedEntity, TakesParameters, TakesSteps, body_text, body_tokens, needs_at, params_at, places_at, texts_at}
+use Rattle.p21_transcribe_instance.specs.Prepared.{PreparedStep}
+use Rattle.p21_transcribe_instance.specs.Steps.{ArePreparedAt, AreStepsAt, MayStandAlone}
 use Rattle.p21_transcribe_instance.specs.declared.step.Step.{Step}
 use Rattle.p21_transcribe_instance.specs.declared.taken.Taken.{Taken}
 use Rattle.p21_transcribe_instance.specs.TakenValues.{LaidBefore, with_text}
@@ -148,7 +150,7 @@ pub entity-is : (s : Schema) (e : ℕ) (word : List ℕ) → EntityNamed s e wor
 entity-is s e word (x, at, is) = slice_get_within s.entities e x at
 
 -- the parts of an instance one behind the other
-pub instance-taken : (s : Schema) → IsWellFormed s → HoldsTogether s → (n e : ℕ) (entities : List ℕ) → IsOwnRising s e entities → MayStandAlone s e → (steps : List Step)
+instance-taken : (s : Schema) → IsWellFormed s → HoldsTogether s → (n e : ℕ) (entities : List ℕ) → IsOwnRising s e entities → MayStandAlone s e → (steps : List Step)
     → AreStepsAt s (order s e) (places s e) steps
     → (bytes keyed behind rest : List ℕ) (old : Taken) (headed worded : List ℕ) (new : Taken)
     → TakesTokens (token.name n ∷ token.equals ∷ []) (name_spelling n ++ 61 ∷ []) bytes keyed old.draft headed → TakesEntity s e keyed behind headed worded
@@ -179,3 +181,12 @@ instance-taken s formed holds n e entities rising may steps are bytes keyed behi
       text_is = text-is s formed holds e is may word named ps h.each h.places_are entities rising n (laid-spelled bytes rest (statement_tokens (instance n (simple part))) laid) text (line-is s n word ps);
       appended = all.appended;
     }
+
+-- an instance whose parameters are taken behind its name, `=`, its keyword and `(`
+pub internal-taken : (s : Schema) → IsWellFormed s → HoldsTogether s → (n e : ℕ) (bytes keyed inside rest : List ℕ) (old : Taken) (headed opened : List ℕ) (new : Taken)
+    → TakesTokens (token.name n ∷ token.equals ∷ []) (name_spelling n ++ 61 ∷ []) bytes keyed old.draft headed → TakesOpenedEntity s e keyed inside headed opened
+    → TakesParameters s e inside rest (with_text opened old) new → (entities : List ℕ) × IsOwnRising s e entities × TakesInstance s n entities bytes rest old new
+internal-taken s formed holds n e bytes keyed inside rest old headed opened new head first h =
+    let are : AreStepsAt s (order s e) (places s e) h.steps = subst (λ (steps : List PreparedStep). ArePreparedAt s (order s e) (places s e) steps) (sym h.steps_are) h.row_is.steps_are in
+    let body = enclosed s h.steps first.behind inside h.takes.behind rest (with_text first.between old) opened h.takes.between new first.opened h.takes.places h.takes.ended in
+    (h.row.entities, h.row_is.entities_are, instance-taken s formed holds n e h.row.entities h.row_is.entities_are h.row_is.may h.steps are bytes keyed first.behind rest old headed first.between new head first.entity body)

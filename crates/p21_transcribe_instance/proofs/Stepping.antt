@@ -10,6 +10,7 @@ use Rattle.p21_spec_exchange.specs.Token as token
 use Rattle.p21_spec_exchange.specs.Token.{Token}
 use Rattle.p21_spec_file.specs.Reference as meant
 use Rattle.p21_spec_file.specs.ValueText.{value_text, with_commas, with_commas_between}
+use Rattle.p21_express_graph.specs.declared.number.EntityId.{EntityId}
 use Rattle.p21_mapping_values.specs.TypedView.{need_view}
 use Rattle.p21_mapping_values.specs.declared.need.Need.{Need}
 use Rattle.p21_spec_schema.specs.Order.{order, places}
@@ -18,8 +19,9 @@ use Rattle.p21_spec_schema.specs.Schema.{Place, Schema}
 use Rattle.p21_transcribe.specs.Gaps.{PassesSeparators}
 use Rattle.p21_transcribe.specs.LeadingToken.{Transcribes}
 use Rattle.p21_transcribe_instance.proofs.LaidRuns.{takes-join, takes-mark}
-use Rattle.p21_transcribe_instance.specs.TakenParameters.{AreStepsIn, IsPlacedParameter, PlacedParameter, TakesTokens, TakesEntity, TakesDelimiter, TakesInside, TakesOpenedEntity, TakesPlaces, TakesStep, TakesSteps, body_text, body_tokens, needs_at, params_at, texts_at}
-use Rattle.p21_transcribe_instance.specs.Steps.{AreStepsAt, IsStepAt, IsStepForSome}
+use Rattle.p21_transcribe_instance.specs.TakenParameters.{AreStepsIn, IsPlacedParameter, PlacedParameter, TakesTokens, TakesEntity, TakesDelimiter, TakesOpenedEntity, TakesOpening, TakesParameters, TakesPlaces, TakesStep, TakesSteps, body_text, body_tokens, needs_at, params_at, texts_at}
+use Rattle.p21_transcribe_instance.specs.Prepared.{Prepared, PreparedStep}
+use Rattle.p21_transcribe_instance.specs.Steps.{ArePreparedAt, AreStepsAt, IsRow, IsStepAt, IsStepForSome, step_view}
 use Rattle.p21_transcribe_instance.specs.declared.step.Step.{Step}
 use Rattle.p21_transcribe_instance.proofs.Laid.{laid-join, param-behind}
 use Rattle.p21_transcribe_instance.specs.declared.taken.Taken.{Taken}
@@ -42,8 +44,9 @@ each-in s [] k x is below are = absurd (omega (arith, below))
 each-in s (step ∷ steps) zero x is below are = subst (IsStepForSome s) (sym is) (first-in s step steps are)
 each-in s (step ∷ steps) (suc k) x is below are = each-in s steps k x is (omega (arith, below)) (others-in s step steps are)
 
-pub row-in : (s : Schema) (e : ℕ) (steps : List Step) → AreStepsAt s (order s e) (places s e) steps → AreStepsIn s steps
-row-in s e steps are = (order s e, places s e, are)
+-- the steps of a row
+pub row-in : (s : Schema) (e : ℕ) (row : Prepared) (steps : List Step) → map step_view steps ≡ row.steps → IsRow s e row → AreStepsIn s steps
+row-in s e row steps same is = (order s e, places s e, subst (λ (xs : List PreparedStep). ArePreparedAt s (order s e) (places s e) xs) (sym same) is.steps_are)
 
 -- the last of some steps speaks of the last of their places
 pub record HasLast (s : Schema) (entities : List ℕ) (places : List Place) (steps : List Step) (step : Step) : Type 0 where
@@ -194,11 +197,12 @@ enclosed s steps bytes inside behind rest old opened between new mark takes ende
     takes-join (token.left ∷ []) (ts ++ (token.right ∷ token.semicolon ∷ [])) (40 ∷ []) (t ++ (41 ∷ 59 ∷ [])) bytes inside rest old.draft opened new.draft open_ closed in
     record { placed = h.placed; each = h.each; places_are = h.places_are; added = h.added; needs_are = h.needs_are; added_are = h.added_are; laid = all.laid; text_is = all.appended }
 
--- behind the parenthesis in front
-pub inside-taken : (s : Schema) (steps : List Step) (bytes behind rest : List ℕ) (old between : Taken) (new : List ℕ)
-    → TakesSteps s params_tokens with_commas_between steps bytes behind old between
-    → TakesTokens (token.right ∷ token.semicolon ∷ []) (41 ∷ 59 ∷ []) behind rest between.draft new → TakesInside s steps bytes rest old (with_text new between)
-inside-taken s steps bytes behind rest old between new takes ended = record { behind = behind; between = between.draft; places = takes; ended = ended }
+-- behind the parenthesis in front, at the attributes of an entity
+pub parameters-taken : (s : Schema) (e : ℕ) (row : Prepared) (steps : List Step) (bytes behind rest : List ℕ) (old between : Taken) (new : List ℕ) → IsRow s e row
+    → map step_view steps ≡ row.steps → TakesSteps s params_tokens with_commas_between steps bytes behind old between
+    → TakesTokens (token.right ∷ token.semicolon ∷ []) (41 ∷ 59 ∷ []) behind rest between.draft new → TakesParameters s e bytes rest old (with_text new between)
+parameters-taken s e row steps bytes behind rest old between new is same takes ended =
+    record { row = row; row_is = is; steps = steps; steps_are = same; takes = record { behind = behind; between = between.draft; places = takes; ended = ended } }
 
 -- ---- what is appended and added
 
@@ -246,3 +250,7 @@ leaf-goes_on bytes count one old new h = (spelling one, h.appended)
 pub opened-goes_on : (s : Schema) (e : ℕ) (bytes rest old new : List ℕ) → TakesOpenedEntity s e bytes rest old new → Continues old new
 opened-goes_on s e bytes rest old new h =
     continues-join old h.between new (entity-goes_on s e bytes h.behind old h.between h.entity) (mark-goes_on 40 h.behind rest h.between new h.opened)
+
+pub opening-goes_on : (s : Schema) (o : Option EntityId) (bytes rest old new : List ℕ) → TakesOpening s o bytes rest old new → Continues old new
+opening-goes_on s (Some e) bytes rest old new h = opened-goes_on s e.0 bytes rest old new h
+opening-goes_on s None bytes rest old new h = mark-goes_on 40 bytes rest old new h

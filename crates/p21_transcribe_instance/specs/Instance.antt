@@ -10,6 +10,9 @@ use Rattle.p21_spec_file.specs.Meaning.{Typed}
 use Rattle.p21_mapping_values.specs.declared.need.Need.{Need}
 use Rattle.p21_mapping_values.specs.TypedView.{need_view}
 use Rattle.p21_spec_schema.specs.Schema.{Schema}
+use Rattle.p21_transcribe_instance.specs.ExternalSet.{IsNumberedSet}
+use Rattle.p21_transcribe_instance.specs.declared.instance.Set.{Set}
+use Rattle.p21_transcribe_instance.specs.declared.instance.Set.TheVariants.{Numbered, Own}
 use Rattle.p21_transcribe_instance.specs.declared.taken.Taken.{Taken}
 use Rattle.p21_transcribe_instance.specs.TakenValues.{LaidBefore}
 
@@ -29,6 +32,11 @@ pub record TakesInstance (s : Schema) (n : ℕ) (entities bytes rest : List ℕ)
   pub text_is : IsInstanceText s n record_ text
   pub appended : new.draft ≡ old.draft ++ text
 
--- an instance of internal mapping is taken, whose set are this entity and its supertypes
-abbrev pub TakesOwnInstance : Schema → ℕ → ℕ → List ℕ → List ℕ → Taken → Taken → Type 0
-TakesOwnInstance s n e bytes rest old new = (entities : List ℕ) × IsOwnRising s e entities × TakesInstance s n entities bytes rest old new
+-- the entities of the set of an instance, where those of external mapping are kept by number
+abbrev pub HasEntities : Schema → List (List ℕ) → Set → List ℕ → Type 0
+HasEntities s sets (Own e) entities = IsOwnRising s e.0 entities
+HasEntities s sets (Numbered at) entities = IsNumberedSet sets at entities
+
+-- an instance is taken that has this set
+abbrev pub TakesInstanceOf : Schema → ℕ → List (List ℕ) → Set → List ℕ → List ℕ → Taken → Taken → Type 0
+TakesInstanceOf s n sets set bytes rest old new = (entities : List ℕ) × HasEntities s sets set entities × TakesInstance s n entities bytes rest old new

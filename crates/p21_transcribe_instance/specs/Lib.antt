@@ -4,7 +4,6 @@ pub mod ArrangedElements
 pub mod Elements
 pub mod TakenValues
 pub mod Instance
-pub mod NumberedInstance
 pub mod Reals
 pub mod Records
 pub mod TakenParameters

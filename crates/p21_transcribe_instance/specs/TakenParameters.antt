@@ -1,5 +1,5 @@
 -- The parts of an instance that is taken straight from its bytes.
-use Rattle.std.specs.Prelude.{◌≡◌, ℕ, ◌≤◌, List, [], ◌∷◌, ◌++◌, map}
+use Rattle.std.specs.Prelude.{◌≡◌, ℕ, ◌≤◌, List, [], ◌∷◌, ◌++◌, None, Option, Some, map}
 use Rattle.std.specs.List.{AllByRecursion as Each, flat_map}
 use Rattle.p21_spec_laws.specs.Needs.{FitsAtWithNeeds}
 use Rattle.p21_spec_exchange.specs.Nesting.{depth}
@@ -8,11 +8,13 @@ use Rattle.p21_spec_exchange.specs.Token.{Token, keyword, left, right, semicolon
 use Rattle.p21_spec_file.specs.Reference as meant
 use Rattle.p21_spec_file.specs.Value.{Value}
 use Rattle.p21_spec_file.specs.ValueText.{value_text, with_commas_between}
+use Rattle.p21_express_graph.specs.declared.number.EntityId.{EntityId}
 use Rattle.p21_mapping_values.specs.declared.need.Need.{Need}
 use Rattle.p21_mapping_values.specs.TypedView.{need_view}
 use Rattle.p21_spec_schema.specs.PlaceType.{PlaceType, TypeAt}
 use Rattle.p21_spec_schema.specs.Schema.{EntityNamed, Place, Schema}
-use Rattle.p21_transcribe_instance.specs.Steps.{AreStepsAt, IsStepFor}
+use Rattle.p21_transcribe_instance.specs.Prepared.{Prepared}
+use Rattle.p21_transcribe_instance.specs.Steps.{AreStepsAt, IsRow, IsStepFor, step_view}
 use Rattle.p21_transcribe_instance.specs.declared.step.Step.{Step}
 use Rattle.p21_transcribe_instance.specs.declared.taken.Taken.{Taken}
 use Rattle.p21_transcribe_instance.specs.TakenValues.{LaidBefore, PassesDelimiter, TakesWithNeeds, with_text}
@@ -37,6 +39,11 @@ pub record TakesOpenedEntity (s : Schema) (e : ℕ) (bytes rest old new : List �
   pub between : List ℕ
   pub entity : TakesEntity s e bytes behind old between
   pub opened : TakesDelimiter 40 behind rest between new
+
+-- the opening of a record: the keyword of an entity with a `(`, or a `(` alone
+abbrev pub TakesOpening : Schema → Option EntityId → List ℕ → List ℕ → List ℕ → List ℕ → Type 0
+TakesOpening s (Some e) bytes rest old new = TakesOpenedEntity s e.0 bytes rest old new
+TakesOpening s None bytes rest old new = TakesDelimiter 40 bytes rest old new
 
 -- a parameter at a place, the value that it stands for there, and what it needs
 pub record PlacedParameter : Type 0 where
@@ -104,3 +111,11 @@ pub record TakesInside (s : Schema) (steps : List Step) (bytes rest : List ℕ) 
   pub between : List ℕ
   pub places : TakesSteps s params_tokens with_commas_between steps bytes behind old (with_text between new)
   pub ended : TakesTokens (right ∷ semicolon ∷ []) (41 ∷ 59 ∷ []) behind rest between new.draft
+
+-- the same at the attributes of an entity, where an instance may have the entity and its supertypes as its set
+pub record TakesParameters (s : Schema) (e : ℕ) (bytes rest : List ℕ) (old new : Taken) : Type 0 where
+  pub row : Prepared
+  pub row_is : IsRow s e row
+  pub steps : List Step
+  pub steps_are : map step_view steps ≡ row.steps
+  pub takes : TakesInside s steps bytes rest old new

@@ -1,8 +1,8 @@
-//! The keyword of an instance of internal mapping (ISO 10303-21, mapping of EXPRESS entity data types: internal mapping).
+//! What stands in front of the parameters of an instance (ISO 10303-21, mapping of EXPRESS entity data types).
 ghost use Rattle.std.specs.Prelude.{◌≡◌, ◌<◌, ◌≤◌, IfNone, IfSome, length, slice_index};
 ghost use Rattle.p21_express_graph.specs.Resolved.{IsEntity};
 ghost use Rattle.p21_spec_schema.specs.Schema.{Schema as Meant};
-ghost use Rattle.p21_transcribe_instance.specs.TakenParameters.{TakesEntity, TakesOpenedEntity};
+ghost use Rattle.p21_transcribe_instance.specs.TakenParameters.{TakesEntity, TakesOpenedEntity, TakesOpening};
 ghost use Rattle.p21_transcribe_instance.specs.Steps.{IsPlanOf};
 ghost use Rattle.p21_values.specs.Canonical.{Continues};
 
@@ -15,27 +15,51 @@ use p21_transcribe::{Draft, append_keyword, behind_separators};
 use p21_values::NoMemory;
 use std::simd::prelude::*;
 
-/// Appends the keyword at the front and the `(` behind it, where the keyword is the name of an entity that instances of internal
-/// mapping may have: the entity, and what stands behind the `(`. An entity that isn't prepared is.
+/// Appends what stands in front of the parameters at the front: of internal mapping the keyword of an entity that such instances
+/// may have, with a `(`, and of external mapping a `(` alone. Answers the entity, if there is one, and what stands behind the `(`.
+/// An entity that isn't prepared is.
 #[inline(always)]
-pub(crate) fn append_entity<'a>(
+pub(crate) fn append_opening<'a>(
     schema: &Schema,
     plan: &mut Plan,
     bytes: &'a [u8],
     draft: &mut Draft,
-) -> Option<(EntityId, &'a [u8])>
+) -> Option<(Option<EntityId>, &'a [u8])>
     requires { IsPlanOf schema.now plan.old }
-    ensures some { IfSome result (λ found. TakesOpenedEntity schema.now found.0.0 bytes.now found.1.now draft.old draft.new) }
+    ensures some { IfSome result (λ found. TakesOpening schema.now found.0 bytes.now found.1.now draft.old draft.new) }
     ensures none { IfNone result (Continues draft.old draft.new) }
     ensures plan { IsPlanOf schema.now plan.new }
 {
     match append_guessed(plan, bytes, draft) {
-        Some(found) => Some(found),
-        None => append_found(schema, plan, bytes, draft),
+        Some((entity, inside)) => Some((Some(entity), inside)),
+        None => append_other_opening(schema, plan, bytes, draft),
     }
 }
 
-/// The same by a guess, where the entity is prepared, and no separator stands before the keyword or behind it.
+/// The same with no guess.
+#[inline(never)]
+fn append_other_opening<'a>(
+    schema: &Schema,
+    plan: &mut Plan,
+    bytes: &'a [u8],
+    draft: &mut Draft,
+) -> Option<(Option<EntityId>, &'a [u8])>
+    requires { IsPlanOf schema.now plan.old }
+    ensures some { IfSome result (λ found. TakesOpening schema.now found.0 bytes.now found.1.now draft.old draft.new) }
+    ensures none { IfNone result (Continues draft.old draft.new) }
+    ensures plan { IsPlanOf schema.now plan.new }
+{
+    match append_delimiter(b'(', bytes, draft) {
+        Some(inside) => Some((None, inside)),
+        None => {
+            let (entity, inside) = append_entity(schema, plan, bytes, draft)?;
+            Some((Some(entity), inside))
+        }
+    }
+}
+
+/// Appends the keyword and the `(` behind it by a guess, where the entity is prepared, and no separator stands before the keyword or
+/// behind it: the entity, and what stands behind the `(`.
 #[inline(always)]
 fn append_guessed<'a>(
     plan: &Plan,
@@ -76,9 +100,8 @@ fn parenthesis_in(bytes: &[u8]) -> Option<usize>
     Some(count)
 }
 
-/// The same by a look-up.
-#[inline(never)]
-fn append_found<'a>(
+/// The same by a look-up. An entity that isn't prepared is.
+fn append_entity<'a>(
     schema: &Schema,
     plan: &mut Plan,
     bytes: &'a [u8],

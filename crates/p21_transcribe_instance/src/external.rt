@@ -1,7 +1,6 @@
-//! The statement of an instance of external mapping (ISO 10303-21, data sections; mapping of EXPRESS entity data types:
-//! external mapping).
+//! The simple records of an instance of external mapping, and the end of its statement (ISO 10303-21, mapping of EXPRESS entity
+//! data types: external mapping).
 ghost use Rattle.std.specs.Prelude.{◌≡◌, ◌+◌, ◌≤◌, IfNone, IfSome, length};
-ghost use Rattle.p21_transcribe_instance.specs.NumberedInstance.{TakesNumberedInstance};
 ghost use Rattle.p21_transcribe_instance.specs.Records.{TakesNumbered};
 ghost use Rattle.p21_transcribe_instance.specs.ExternalSet.{AreExternalSets};
 ghost use Rattle.p21_transcribe_instance.specs.TakenValues.{KeepsNeeds};
@@ -9,53 +8,18 @@ ghost use Rattle.p21_values.specs.Canonical.{Continues};
 
 use crate::ahead::entities_ahead;
 use crate::external_set::is_external_set;
-use crate::head::append_head;
 use crate::parts::append_record;
-use crate::separated_delimiter::append_delimiter;
 use crate::sets::Sets;
 use crate::taken::Taken;
 use p21_express_tables::Schema;
-use p21_values::{Name, NoMemory};
+use p21_values::NoMemory;
 use std::alloc::Global;
 use std::sync::ArcSlice;
 
-/// An instance of external mapping that was taken: its name, the number of its set, and what stands behind its `;`.
-#[derive(Debug, Clone, Copy)]
-pub struct External<'a> {
-    pub name: Name,
-    pub set: usize,
-    pub rest: &'a [u8],
-}
-
-/// Appends the canonical line of the instance of external mapping at the front, without a line feed, and adds its references,
-/// in the order in which they are named. A set that isn't kept yet is looked at, and kept. None where the instance isn't taken
-/// this way, and where memory is refused, which is noted in the draft; then the text and the references go on from those before.
-pub fn append_external<'a>(
-    schema: &Schema,
-    sets: &mut Sets,
-    bytes: &'a [u8],
-    taken: &mut Taken,
-) -> Option<External<'a>>
-    requires { AreExternalSets schema.now sets.old }
-    ensures some { IfSome result (λ found. TakesNumberedInstance schema.now found.name sets.new found.set bytes.now found.rest.now taken.old taken.new) }
-    ensures draft { IfNone result (Continues taken.old.draft taken.new.draft) }
-    ensures needs { IfNone result (KeepsNeeds taken.old.needs.items taken.new.needs.items) }
-    ensures sets { AreExternalSets schema.now sets.new }
-    ensures one { length sets.new ≤ length sets.old + 1 }
-{
-    let (number, behind) = append_head(bytes, &mut taken.draft)?;
-    let inside = append_delimiter(b'(', behind, &mut taken.draft)?;
-    let (set, rest) = append_records(schema, sets, inside, taken)?;
-    Some(External {
-        name: Name(number),
-        set,
-        rest,
-    })
-}
-
 /// Appends the simple records of an instance, by a guess of their set, else by that which their keywords name: the number of the
 /// set, and what stands behind the `;`.
-fn append_records<'a>(
+#[inline(never)]
+pub(crate) fn append_simple_records<'a>(
     schema: &Schema,
     sets: &mut Sets,
     bytes: &'a [u8],

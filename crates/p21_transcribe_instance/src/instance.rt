@@ -1,52 +1,91 @@
-//! The statement of an instance (ISO 10303-21, data sections; mapping of EXPRESS entity data types: internal mapping).
-ghost use Rattle.std.specs.Prelude.{IfNone, IfSome};
-ghost use Rattle.p21_transcribe_instance.specs.Instance.{TakesOwnInstance};
+//! The statement of an instance (ISO 10303-21, data sections; mapping of EXPRESS entity data types).
+ghost use Rattle.std.specs.Prelude.{[], ◌∷◌, ◌++◌, ◌+◌, ◌≤◌, IfNone, IfSome, length};
+ghost use Rattle.p21_spec_exchange.specs.Spelling.{name_spelling};
+ghost use Rattle.p21_spec_exchange.specs.Token.{equals, name};
+ghost use Rattle.p21_transcribe_instance.specs.ExternalSet.{AreExternalSets};
+ghost use Rattle.p21_transcribe_instance.specs.Instance.{TakesInstanceOf};
 ghost use Rattle.p21_transcribe_instance.specs.Steps.{IsPlanOf};
+ghost use Rattle.p21_transcribe_instance.specs.TakenParameters.{TakesTokens};
 ghost use Rattle.p21_transcribe_instance.specs.TakenValues.{KeepsNeeds};
 ghost use Rattle.p21_values.specs.Canonical.{Continues};
 
-use crate::body::append_body;
-use crate::entity::append_entity;
-use crate::head::append_head;
+use crate::entity::append_opening;
+use crate::external::append_simple_records;
+use crate::internal::append_parameters;
 use crate::plan::Plan;
+use crate::separated_delimiter::append_delimiter;
+use crate::sets::Sets;
 use crate::taken::Taken;
 use p21_express_graph::EntityId;
 use p21_express_tables::Schema;
+use p21_transcribe::{Draft, append_name, behind_separators};
 use p21_values::Name;
 
-/// An instance that was taken: its name, the entity whose closure its set is, and what stands behind its `;`.
+/// The set of an instance that was taken.
+#[derive(Debug, Clone, Copy)]
+pub enum Set {
+    /// Of internal mapping: the closure of this entity.
+    Own(EntityId),
+    /// Of external mapping: the set of this number among those that are kept.
+    Numbered(usize),
+}
+
+/// An instance that was taken: its name, its set, and what stands behind its `;`.
 #[derive(Debug, Clone, Copy)]
 pub struct Instance<'a> {
     pub name: Name,
-    pub entity: EntityId,
+    pub set: Set,
     pub rest: &'a [u8],
 }
 
 /// Appends the canonical line of the instance at the front, without a line feed, and adds its references, in the order in
-/// which they are named. An entity that isn't prepared is. None where the instance isn't taken this way, and where memory is
-/// refused, which is noted in the draft; then the text and the references go on from those before.
+/// which they are named. An entity that isn't prepared is, and a set of external mapping that isn't kept yet is looked at, and
+/// kept. None where the instance isn't taken this way, and where memory is refused, which is noted in the draft; then the text
+/// and the references go on from those before.
 #[inline(always)]
-pub fn append_instance<'a>(
+pub fn take_instance<'a>(
     schema: &Schema,
     plan: &mut Plan,
+    sets: &mut Sets,
     bytes: &'a [u8],
     taken: &mut Taken,
 ) -> Option<Instance<'a>>
-    requires { IsPlanOf schema.now plan.old }
-    ensures some { IfSome result (λ found. TakesOwnInstance schema.now found.name found.entity.0 bytes.now found.rest.now taken.old taken.new) }
+    requires plan { IsPlanOf schema.now plan.old }
+    requires sets { AreExternalSets schema.now sets.old }
+    ensures some { IfSome result (λ found. TakesInstanceOf schema.now found.name sets.new found.set bytes.now found.rest.now taken.old taken.new) }
     ensures draft { IfNone result (Continues taken.old.draft taken.new.draft) }
     ensures needs { IfNone result (KeepsNeeds taken.old.needs.items taken.new.needs.items) }
     ensures plan { IsPlanOf schema.now plan.new }
+    ensures sets { AreExternalSets schema.now sets.new }
+    ensures one { length sets.new ≤ length sets.old + 1 }
 {
     schema.well_formed();
     schema.holds_together();
-    let (number, keyed) = append_head(bytes, &mut taken.draft)?;
-    let (entity, inside) = append_entity(schema, plan, keyed, &mut taken.draft)?;
-    let row = plan.row(entity)?;
-    let rest = append_body(schema, &row.steps, inside, taken)?;
-    Some(Instance {
-        name: Name(number),
-        entity,
-        rest,
-    })
+    let (number, behind) = append_name_and_equals(bytes, &mut taken.draft)?;
+    let (opening, inside) = append_opening(schema, plan, behind, &mut taken.draft)?;
+    let name = Name(number);
+    match opening {
+        Some(entity) => {
+            let rest = append_parameters(schema, plan, entity, inside, taken)?;
+            let set = Set::Own(entity);
+            Some(Instance { name, set, rest })
+        }
+        None => {
+            let (at, rest) = append_simple_records(schema, sets, inside, taken)?;
+            let set = Set::Numbered(at);
+            Some(Instance { name, set, rest })
+        }
+    }
+}
+
+/// Appends the name at the front and the `=` behind it: its number, and what stands behind them.
+#[inline(always)]
+fn append_name_and_equals<'a>(bytes: &'a [u8], draft: &mut Draft) -> Option<(u64, &'a [u8])>
+    ensures some { IfSome result (λ head. TakesTokens (name head.0 ∷ equals ∷ []) (name_spelling head.0 ++ 61 ∷ []) bytes.now head.1.now draft.old draft.new) }
+    ensures none { IfNone result (Continues draft.old draft.new) }
+{
+    let front = behind_separators(bytes);
+    let (count, number) = append_name(front, draft)?;
+    let rest = append_delimiter(b'=', &front[count..], draft)?;
+    Some((number, rest))
 }

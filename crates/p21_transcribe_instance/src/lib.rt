@@ -7,15 +7,15 @@
 mod aggregate;
 mod ahead;
 mod bare;
-mod body;
 mod choice;
 mod delimiter;
+mod end;
 mod entity;
 mod external;
 mod external_set;
 mod guess;
-mod head;
 mod instance;
+mod internal;
 mod keyword;
 mod length;
 mod order;
@@ -34,8 +34,7 @@ mod step;
 mod taken;
 mod value;
 
-pub use external::{External, append_external};
-pub use instance::{Instance, append_instance};
+pub use instance::{Instance, Set, take_instance};
 pub use plan::Plan;
 pub use sets::Sets;
 pub use taken::Taken;

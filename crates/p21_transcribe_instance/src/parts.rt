@@ -9,7 +9,7 @@ ghost use Rattle.p21_transcribe_instance.specs.TakenParameters.{TakesEntity};
 ghost use Rattle.p21_transcribe_instance.specs.TakenValues.{KeepsNeeds};
 ghost use Rattle.p21_values.specs.Canonical.{Continues};
 
-use crate::body::append_end;
+use crate::end::append_end;
 use crate::own_parameters::append_own_parameters;
 use crate::same::are_same;
 use crate::separated_delimiter::append_delimiter;

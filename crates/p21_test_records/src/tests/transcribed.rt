@@ -1,48 +1,35 @@
 use super::schemas::DEMO;
 use super::*;
-use p21_express_graph::EntityId;
-use p21_transcribe_instance::{Plan, Sets, Taken, append_external, append_instance};
+use p21_transcribe_instance::{Plan, Set, Sets, Taken, take_instance};
 
 /// No canonical line here has more bytes.
 const ROOM: usize = 64;
 
-/// Whether the plan has a row of the entity, which is named so.
-fn is_known(schema: &Schema, plan: &mut Plan, entity: EntityId) -> bool {
-    plan.row(entity).is_some() && plan.entity(schema, b"POINT") == Some(entity)
+/// Whether the plan has a row of the entity, which is named POINT, or the set is kept.
+fn is_known(schema: &Schema, plan: &mut Plan, sets: &Sets, set: Set) -> bool {
+    match set {
+        Set::Own(entity) => {
+            plan.row(entity).is_some() && plan.entity(schema, b"POINT") == Some(entity)
+        }
+        Set::Numbered(at) => sets.get(at).is_some(),
+    }
 }
 
-/// Appends an instance of internal mapping whose entity is named POINT: whether it is taken whole.
-fn append_point(alloc: Global, schema: &Schema, text: &[u8], taken: &mut Taken) -> bool {
+/// Appends an instance: whether it is taken whole, and its set is known.
+fn append(alloc: Global, schema: &Schema, text: &[u8], taken: &mut Taken) -> bool {
     let mut plan = Plan::new(alloc);
-    match append_instance(schema, &mut plan, text, taken) {
-        Some(found) => found.rest.is_empty() && is_known(schema, &mut plan, found.entity),
-        None => false,
-    }
-}
-
-/// Appends an instance of external mapping: whether it is taken whole, and its set is kept.
-fn append_several(alloc: Global, schema: &Schema, text: &[u8], taken: &mut Taken) -> bool {
     let mut sets = Sets::new(alloc);
-    match append_external(schema, &mut sets, text, taken) {
-        Some(found) => found.rest.is_empty() && sets.get(found.set).is_some(),
+    match take_instance(schema, &mut plan, &mut sets, text, taken) {
+        Some(found) => found.rest.is_empty() && is_known(schema, &mut plan, &sets, found.set),
         None => false,
     }
-}
-
-/// Appends an instance of either mapping.
-fn append_either(alloc: Global, schema: &Schema, text: &[u8], taken: &mut Taken) -> bool {
-    if append_point(alloc, schema, text, taken) {
-        return true;
-    }
-    taken.draft.cut(0);
-    append_several(alloc, schema, text, taken)
 }
 
 /// Whether an instance is taken straight from its bytes, with this canonical line.
 fn is_taken(alloc: Global, schema: &Schema, text: &[u8], wanted: &[u8]) -> bool {
     let mut taken = Taken::new(alloc);
     taken.draft.make_room(ROOM).is_ok()
-        && append_either(alloc, schema, text, &mut taken)
+        && append(alloc, schema, text, &mut taken)
         && taken.draft.between(0, taken.draft.len()) == wanted
 }
 
@@ -66,7 +53,15 @@ fn first_left(rt: &HostRuntime, schema: &str, rows: Rows) -> &'static str {
 const USUAL: Rows = &[
     ("#2 = POINT($, 1.0, 10.E-1);", "#2=POINT($,1.,1.);"),
     (
+        "\n#2 /* two */ = /* a point */ POINT ( $ , 1.0 , 10.E-1 ) ;",
+        "#2=POINT($,1.,1.);",
+    ),
+    (
         "#1=(MARKED(.RED.)POINT(1.0,2.)SHAPE($));",
+        "#1=(MARKED(.RED.)POINT(1.,2.)SHAPE($));",
+    ),
+    (
+        "#1 = ( MARKED ( .RED. ) POINT ( 1.0 , 2. ) SHAPE /* none */ ( $ ) ) ;",
         "#1=(MARKED(.RED.)POINT(1.,2.)SHAPE($));",
     ),
 ];

@@ -72,6 +72,8 @@ fn first_wrong(alloc: Global, rows: Rows) -> &'static str {
 
 const TOKENS: Rows = &[
     (Call::Name, "#207=", 4, "#207"),
+    (Call::Name, "#000207)", 7, "#207"),
+    (Call::Name, "#00,", 3, "#0"),
     (
         Call::Text,
         "'it''s \\X2\\00E9\\X0\\',",
