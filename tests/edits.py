@@ -1,8 +1,9 @@
 #!/usr/bin/env python3
-"""Whether each wrong body can be tried, in the gate (crates/CRATE/must-fail) and beside it (tests/wrong_bodies/CRATE): its
-crate is there, each text behind `old: ` stands once in the file that `file: ` names, where a further pair is looked for in
-what the earlier ones made, something is changed, and no name of a crate stands in both places. The status is 1 where
-that isn't so. It says nothing of whether the prover refuses them.
+"""Whether each wrong body can be tried, in the gate (crates/CRATE/must-fail) and beside it (tests/wrong_bodies/CRATE), and each
+bug by hand (tests/bugs/CRATE): its crate is there, each text behind `old: ` stands once in the file that `file: ` names, where a
+further pair is looked for in what the earlier ones made, something is changed, and no name of a crate stands in two places. Of
+each bug tests/bugs/CRATE.tsv says by what it is found. The status is 1 where that isn't so. It says nothing of whether the
+prover refuses them.
 """
 
 import pathlib
@@ -47,20 +48,44 @@ def edits():
             yield path.parts[-1 - above], path.stem, path
 
 
+def bugs():
+    """Each bug by hand: its crate, its name and its path."""
+    for path in sorted(ROOT.glob("tests/bugs/*/*.edit")):
+        yield path.parts[-2], path.stem, path
+
+
+def wrong_with_bugs():
+    """What keeps bugs from being tried, and which have no line in the list of their crate; a line each."""
+    listed = {
+        (path.stem, line.split("\t")[0])
+        for path in ROOT.glob("tests/bugs/*.tsv")
+        for line in path.read_text().splitlines()
+    }
+    for crate, name, path in bugs():
+        wrong = wrong_with(ROOT / "crates" / crate, path.read_text())
+        if wrong or (crate, name) not in listed:
+            yield f"{path.relative_to(ROOT)}: {wrong or 'its list says nothing of it'}"
+    for crate, name in sorted(listed - {(crate, name) for crate, name, _ in bugs()}):
+        yield f"tests/bugs/{crate}.tsv: there is no {name}"
+
+
 def main():
     count = {True: 0, False: 0}
-    seen = set()
+    seen = {(crate, name) for crate, name, _ in bugs()}
     failed = 0
+    for line in wrong_with_bugs():
+        failed += 1
+        print(line)
     for crate, name, path in edits():
         wrong = wrong_with(ROOT / "crates" / crate, path.read_text())
         if (crate, name) in seen:
-            wrong = "the gate has one of this name"
+            wrong = "the gate or the bugs have one of this name"
         seen.add((crate, name))
         count[path.parent.name == "must-fail"] += 1
         if wrong:
             failed += 1
             print(f"{path.relative_to(ROOT)}: {wrong}")
-    print(f"{count[True]} wrong bodies in the gate, {count[False]} beside it, {failed} failed")
+    print(f"{count[True]} wrong bodies in the gate, {count[False]} beside it, {sum(1 for _ in bugs())} bugs by hand, {failed} failed")
     return int(failed > 0 or not all(count.values()))
 
 

@@ -6,6 +6,7 @@ prover must refuse each of them.
   tests/wrong_bodies.sh --stale                     names those that aren't shown to be refused, a line each
   tests/wrong_bodies.sh --count                     counts those, and fails where one of the gate's is among them
   tests/wrong_bodies.sh --from LOG                  takes what `rt ci` said, over the sources as they stand, into the record
+  tests/wrong_bodies.sh --bugs [CRATE[/NAME]..]     tries the bugs of tests/bugs, and holds each against what is noted of it there
 
 tests/wrong_bodies/refused.txt is the record: a line for each edit that was refused, with its crate, its name and a checksum
 of what it was tried over: the edit, the src, specs and proofs of its crate, and the src and specs of all crates below.
@@ -14,8 +15,8 @@ tried, so that a run that is broken off goes on where it was. Where the prover r
 what the edit took away, no clause was tried: the line ends with `by_name`, and the edit isn't shown to be refused.
 
 Where the toolchain keeps proofs, `rt ci CRATE` tries the edits of a crate together, over one proof of the crate. Elsewhere
-each is checked as `rt must-fail` does it, over what `rt check` or `rt lib` left in the crate's `out`; where there is nothing,
-the crate is proved first. An edit takes 8 to 50 seconds of a processor.
+many are tried in one check (together.py), over what `rt check` or `rt lib` left in the crate's `out`; where there is nothing,
+the crate is proved first. An edit takes a few seconds of a processor, and by itself 8 to 50.
 """
 
 import functools
@@ -37,7 +38,8 @@ OPTIONS = ("--gate", "--stale", "--count")
 BY_NAME = "by_name"
 
 sys.path.insert(0, str(ROOT / "tests"))
-from edits import edits  # noqa: E402
+import together  # noqa: E402
+from edits import bugs, edits  # noqa: E402
 
 
 # ---- the record
@@ -155,15 +157,14 @@ def said_by_gate(folder, crate, paths):
 
 
 def said_by_prover(crate, paths):
-    """What `rt must-fail` says of edits of one crate, each over the kept work of the crate."""
+    """What the prover says of edits of one crate, many in one check, over the kept work of the crate."""
     rt = tool()
     if not (CRATES / crate / "out" / "incremental").is_dir():
         subprocess.run(["rt", "check"], cwd=CRATES / crate, stdout=subprocess.DEVNULL, check=True)
     found = next(it for it in rt.rtlib.crates_below(str(ROOT)) if it.name == crate)
-    for path in paths:
-        with tempfile.TemporaryDirectory() as room:
-            kept = shutil.copytree(CRATES / crate / "out" / "incremental", pathlib.Path(room) / "kept")
-            yield path, rt.must_fail(found, str(path), ["--jobs", "1"], str(kept))[1]
+    with tempfile.TemporaryDirectory() as room:
+        kept = shutil.copytree(CRATES / crate / "out" / "incremental", pathlib.Path(room) / "kept")
+        yield from together.tried(rt, found, paths, str(kept))
 
 
 def entry_of(said, crate, path):
@@ -198,6 +199,31 @@ def take_log(log):
             note(crate, name, entry_of(said[f"{crate}/{name}"], crate, path))
 
 
+# ---- bugs by hand
+
+
+def found_by(crate):
+    """By what each bug of a crate is found: the words behind its name."""
+    lines = (ROOT / "tests" / "bugs" / f"{crate}.tsv").read_text().splitlines()
+    return {name: found for name, found, *_ in (line.split("\t") for line in lines)}
+
+
+def try_bugs(names):
+    """Tries bugs, and counts those of which the prover says something else than what is noted."""
+    of_crates, others = {}, 0
+    for crate, name, path in bugs():
+        if not names or names & {crate, f"{crate}/{name}"}:
+            of_crates.setdefault(crate, []).append(path)
+    for crate, paths in of_crates.items():
+        noted = found_by(crate)
+        for path, said in said_by_prover(crate, paths):
+            is_refused = ": refused, as it must be" in said
+            as_noted = is_refused == (noted[path.stem].split()[0] not in ("test", "nothing"))
+            others += not as_noted
+            print(f"{said}{'' if as_noted else f' (noted: {noted[path.stem]})'}", flush=True)
+    return others
+
+
 # ---- the command
 
 
@@ -220,6 +246,8 @@ def main(words):
     if words[:1] == ["--from"] and len(words) == 2:
         take_log(words[1])
         return 0
+    if "--bugs" in words:
+        return int(try_bugs(set(words) - {"--bugs"}) > 0)
     unknown = [word for word in words if word not in OPTIONS and word.partition("/")[0] not in libraries()]
     if unknown:
         sys.exit(f"there is no {unknown[0]}")
