@@ -1,5 +1,4 @@
-use Rattle.std.proofs.Common.{◌≡◌, ◌∙◌, IfErr, Result, Some, ap, refl, sym, subst}
-use Rattle.p21_spec_laws.specs.Keeping.{Kept}
+use Rattle.std.proofs.Common.{◌≡◌, ◌∙◌, IfErr, Result, Some, refl, sym, subst}
 use Rattle.p21_stream_statements.specs.Source.{IsOfBytes}
 use Rattle.p21_stream_statements.specs.declared.refusal.Refusal.{Refusal}
 use Rattle.p21_stream.proofs.PieceFeeding.{again-quiet, bounded-refused, bounded-whole, fed-again, fed-checks, fed-quiet, fed-refused, fed-whole, under-way}
