@@ -1,13 +1,14 @@
 -- What is found of an instance, from its check and its text.
-use Rattle.std.proofs.Common.{◌≡◌, ◌+◌, ◌∷◌, ◌++◌, ◌∙◌, List, [], ℕ, length, map, Ok, add-one, ap, refl, sym, subst}
+use Rattle.std.proofs.Common.{◌≡◌, ◌⊎◌, ◌+◌, ◌∷◌, ◌++◌, ◌∙◌, List, [], ℕ, length, map, Ok, add-one, ap, inl, refl, sym, subst}
 use Rattle.std.specs.List.{AllByRecursion as Each}
 use Rattle.std.specs.List.Sorted.{IsPermutation}
 use Rattle.std.specs.Prelude.{◌↔◌, Bool, Contains, IsTrue}
+use Rattle.p21_spec_basics.proofs.Members.{Each-of_members}
 use Rattle.p21_spec_basics.specs.Limits.{Limits}
 use Rattle.p21_canon.proofs.Statements.{statement-instance}
 use Rattle.p21_canon.specs.Statement.{AppendsStatement}
 use Rattle.p21_spec_laws.specs.CompleteFile.{Entry}
-use Rattle.p21_spec_laws.specs.Keeping.{Kept}
+use Rattle.p21_spec_laws.specs.Keeping.{IsServedBy, Kept}
 use Rattle.p21_spec_laws.specs.Stored.{IsAmongEarlier, KeptLines, StoredEntry, kept_text, with_lines}
 use Rattle.p21_spec_laws.specs.Waiting.{Reference}
 use Rattle.p21_spec_laws.proofs.CanonicalLaid.{laid-each_spelled}
@@ -29,10 +30,9 @@ use Rattle.p21_stream_output.specs.Output.{IsNamed}
 use Rattle.p21_stream_output.specs.Ending.{AreNamed}
 use Rattle.p21_stream_store.specs.StoredInstance.{StoredInstance}
 use Rattle.p21_stream_kept.proofs.Instances.{took-instance}
-use Rattle.p21_stream_kept.proofs.Unserved.{left-among, left-or_served}
 use Rattle.p21_stream_kept.specs.Found.{HasFound}
 use Rattle.p21_stream_kept.specs.Inside.{AreNamedWhereKept}
-use Rattle.p21_stream_kept.specs.Served.{AddsWaiting}
+use Rattle.p21_stream_kept.specs.Served.{with_needs}
 use Rattle.p21_stream_kept.specs.Steps.{FitsLimits, StepGives}
 
 pub found : (s : Schema) (n : ℕ) (r : Record) (m : Typed) (needs : List Need) → IsChecked s r m needs → (text : List ℕ) → AppendsStatement s n m [] text → HasFound s n r m.entities needs text
@@ -69,7 +69,7 @@ found-same s n r es fs ns ms xs ys same_entities same_needs same_text is =
 
 -- all of it is kept
 pub took-found : (s : Schema) (limits : Limits) (old new : Kept) (n : ℕ) (r : Record) (entities : List ℕ) (needs : List Need) (text : List ℕ) → HasFound s n r entities needs text → (Contains (map (λ (x : StoredEntry). x.name) old.stored) n → ⊥)
-    → (waiting : List Reference) → AddsWaiting s old.stored n needs old.waiting waiting → (number : ℕ) → number + 1 ≡ length old.headings
+    → (waiting : List Reference) → waiting ≡ with_needs n needs old.waiting → (number : ℕ) → number + 1 ≡ length old.headings
     → (stored : List StoredEntry) → IsPermutation (record { name = n; section = number; entities = entities; text = kept_text old.lines text } ∷ old.stored) stored
     → (equal : Bool) → IsTrue equal ↔ (IsTrue old.equal × IsAmongEarlier old.lines (n, text)) → FitsLimits limits (old.bytes + old.framing) (length text)
     → new ≡ record old { equal = equal; stored = stored; waiting = waiting; references = old.references + length needs; bytes = old.bytes + length text; framing = old.framing + 1 } → StepGives s limits old (instance n r) (Ok tt) new
@@ -77,5 +77,5 @@ took-found s limits old new n r entities needs text is none waiting adds number 
     let entry : Entry = record { name = n; record_ = r; meaning = is.meaning; needs = needs; text = text } in
     let P : List ℕ → Type 0 = λ es. IsPermutation (record { name = n; section = number; entities = es; text = kept_text old.lines text } ∷ old.stored) stored in
     let W : List Reference → Kept = λ w. record old { equal = equal; stored = stored; waiting = w; references = old.references + length needs; bytes = old.bytes + length text; framing = old.framing + 1 } in
-    took-instance s limits old new entry (record { meant = is.meant; printed = is.printed; within = room.0 }) none adds.added (left-among s old.stored (λ (x : Need). x) needs adds.added adds.unserved) (left-or_served s old.stored (λ (x : Need). x) needs adds.added adds.unserved) number (sym (add-one number) ∙ last) stored
-    (subst P (sym is.entities_are) permuted) equal is_equal room (same ∙ ap W adds.new_is)
+    took-instance s limits old new entry (record { meant = is.meant; printed = is.printed; within = room.0 }) none needs (Each-of_members (Contains needs) needs (λ need among. among))
+    (Each-of_members (λ (need : Need). Contains needs need ⊎ IsServedBy s old.stored need) needs (λ need among. inl among)) number (sym (add-one number) ∙ last) stored (subst P (sym is.entities_are) permuted) equal is_equal room (same ∙ ap W adds)

@@ -1,5 +1,5 @@
 -- Needs that are served by what is stored, those that wait, and the first that none serves.
-use Rattle.std.proofs.Common.{◌≡◌, ◌+◌, ◌<◌, ◌⊎◌, ◌∙◌, ℕ, suc, List, [], ◌∷◌, ◌++◌, length, map, get_or, take, drop, false, true, Option, Some, None, inl, inr, refl, sym, ap, subst, add-one, append_assoc, append-nil}
+use Rattle.std.proofs.Common.{◌≡◌, ◌+◌, ◌<◌, ◌⊎◌, ◌∙◌, ℕ, suc, List, [], ◌∷◌, ◌++◌, length, map, get_or, take, drop, false, true, Option, Some, None, inl, inr, refl, sym, ap, subst, add-one, append_assoc}
 use Rattle.std.proofs.Math.Seq.{drop-cons}
 use Rattle.std.proofs.lemmas.List.{map-append, take_more}
 use Rattle.std.proofs.lemmas.List.Elements.{Contains-append_right}
@@ -26,7 +26,7 @@ use Rattle.p21_mapping.specs.Checked.{needs_view}
 use Rattle.p21_mapping_values.specs.TypedView.{need_view}
 use Rattle.p21_mapping_values.specs.declared.need.Need as need
 use Rattle.p21_stream_kept.specs.declared.kept.Reference as held
-use Rattle.p21_stream_kept.specs.Served.{AddsWaiting, AnswersNeed, AnswersUnserved, IsFirstUnserved, LeavesUnserved, RefusesNeed}
+use Rattle.p21_stream_kept.specs.Served.{AnswersNeed, AnswersUnserved, IsFirstUnserved, LeavesUnserved, RefusesNeed, with_needs}
 use Rattle.p21_stream_store.specs.Memberships.{Membership}
 use Rattle.p21_stream_store.specs.StoredInstance as store
 use Rattle.p21_stream_store.specs.StoredInstance.{instance_names}
@@ -77,32 +77,11 @@ module _ {X : Type 0} (s : Schema) (stored : List StoredEntry) (need : X → Nee
         )
   ]
 
-  -- what is left of the ones, and then of others
-  pub left-joined : (xs ys left more : List X) → LeavesUnserved s stored need xs left → LeavesUnserved s stored need ys more → LeavesUnserved s stored need (xs ++ ys) (left ++ more)
-  left-joined [] ys left more is later = subst (λ (l : List X). LeavesUnserved s stored need ys (l ++ more)) (sym is) later
-  left-joined (x ∷ xs) ys left more is later = elim is [
-    | inl (served, are) ↦ inl (served, left-joined xs ys left more are later)
-    | inr (none, (rest, same, are)) ↦ inr (none, (rest ++ more, ap (λ (l : List X). l ++ more) same, left-joined xs ys rest more are later))
-  ]
-
--- a need that is served adds no reference
-pub waiting-served : (s : Schema) (stored : List StoredEntry) (holder : ℕ) (need : Need) (old : List Reference) → IsServedBy s stored need → AddsWaiting s stored holder (need ∷ []) old old
-waiting-served s stored holder need old served = record { added = []; unserved = inl (served, refl); new_is = sym (append-nil old) }
-
--- a need that none serves adds one reference
-pub waiting-one : (s : Schema) (stored : List StoredEntry) (holder : ℕ) (need : Need) (old : List Reference) → IsServedByNone s stored need → AddsWaiting s stored holder (need ∷ []) old (old ++ (holder, need) ∷ [])
-waiting-one s stored holder need old none = record { added = need ∷ []; unserved = inr (none, ([], refl, refl)); new_is = refl }
-
--- the references that some needs add, and then later ones, are those that all of them add
-pub waiting-joined : (s : Schema) (stored : List StoredEntry) (holder : ℕ) (first later : List Need) (old middle new : List Reference) → AddsWaiting s stored holder first old middle → AddsWaiting s stored holder later middle new → AddsWaiting s stored holder (first ++ later) old new
-waiting-joined s stored holder first later old middle new a b =
+-- one need more
+needs-added : (holder : ℕ) (needs : List Need) (need : Need) (old : List Reference) → with_needs holder (needs ++ need ∷ []) old ≡ with_needs holder needs old ++ (holder, need) ∷ []
+needs-added holder needs need old =
     let named : Need → Reference = λ x. (holder, x) in
-    record {
-      added = a.added ++ b.added;
-      unserved = left-joined s stored (λ (x : Need). x) first later a.added b.added a.unserved b.unserved;
-      new_is = b.new_is ∙ ap (λ (rs : List Reference). rs ++ map named b.added) a.new_is ∙ append_assoc old (map named a.added) (map named b.added)
-          ∙ ap (λ (rs : List Reference). old ++ rs) (sym (map-append named a.added b.added));
-    }
+    ap (λ (rs : List Reference). old ++ rs) (map-append named needs (need ∷ [])) ∙ sym (append_assoc old (map named needs) ((holder, need) ∷ []))
 
 -- ---- the first that none serves
 
@@ -138,8 +117,15 @@ unserved-not_accepted s formed limits bytes given kept keeps structure same laid
 
 -- ---- as they are gone through
 
-pub needs-more : (xs : List need.Need) (i : ℕ) (x : need.Need) → x ≡ get_or xs i x → i < length xs → needs_view (take (i + 1) xs) ≡ needs_view (take i xs) ++ need_view x ∷ []
+needs-more : (xs : List need.Need) (i : ℕ) (x : need.Need) → x ≡ get_or xs i x → i < length xs → needs_view (take (i + 1) xs) ≡ needs_view (take i xs) ++ need_view x ∷ []
 needs-more xs i x is low = ap needs_view (take_more xs i x low ∙ ap (λ (y : need.Need). take i xs ++ y ∷ []) (sym is)) ∙ map-append need_view (take i xs) (x ∷ [])
+
+-- with a reference for one need more
+pub waiting-more : (holder : ℕ) (needs : List need.Need) (i : ℕ) (x : need.Need) → x ≡ get_or needs i x → i < length needs → (old : List Reference) (before after : List held.Reference) → after ≡ before ++ record { holder = holder; need = x } ∷ []
+    → references_of before ≡ with_needs holder (needs_view (take i needs)) old → references_of after ≡ with_needs holder (needs_view (take (i + 1) needs)) old
+waiting-more holder needs i x is low old before after pushed same =
+    ap references_of pushed ∙ map-append reference_of before (record { holder = holder; need = x } ∷ []) ∙ ap (λ (rs : List Reference). rs ++ (holder, need_view x) ∷ []) same
+    ∙ sym (needs-added holder (needs_view (take i needs)) (need_view x) old) ∙ ap (λ (ns : List Need). with_needs holder ns old) (sym (needs-more needs i x is low))
 
 pub references-from : (xs : List held.Reference) (i : ℕ) (x : held.Reference) → x ≡ get_or xs i x → i < length xs → references_of (drop i xs) ≡ reference_of x ∷ references_of (drop (i + 1) xs)
 references-from xs i x is low = ap references_of (drop-cons xs i x low ∙ ap (λ (y : held.Reference). y ∷ drop (suc i) xs) (sym is)) ∙ ap (λ (k : ℕ). reference_of x ∷ references_of (drop k xs)) (sym (add-one i))

@@ -7,6 +7,7 @@ use Rattle.p21_mapping_values.specs.TypedView.{need_view}
 use Rattle.p21_stream_kept.specs.declared.kept.Kept.TheInside.{Inside}
 use Rattle.p21_stream_kept.specs.declared.kept.Reference.{Reference}
 use Rattle.p21_stream_kept.specs.declared.stored.Stored.{Stored}
+use Rattle.p21_stream_kept.specs.declared.waiting.Waiting.{Waiting}
 use Rattle.p21_stream_store.specs.StoredInstance.{StoredInstance}
 use Rattle.p21_stream_kept.specs.KeptInstances.{are_equal, instances_of, lines_kept}
 pub use Rattle.p21_stream_output.specs.Ending.{AreNamed, stored_of, stored_with}
@@ -24,6 +25,10 @@ stored_in a = stored_of a.memberships (instances_of a.instances)
 -- each instance has the number of a membership
 abbrev pub AreStored : Stored → Type 0
 AreStored a = HaveMemberships a.memberships (instances_of a.instances)
+
+-- those that were looked at are among the references
+abbrev pub HasLooked : Waiting → Type 0
+HasLooked a = a.looked ≤ length a.references.items
 
 abbrev pub kept_of : Inside → Kept
 kept_of a = record {
@@ -43,11 +48,12 @@ pub record AreNamedWhereKept (lines : KeptLines) (instances : List StoredInstanc
   pub where_kept : lines ≡ with_lines → AreNamed instances
 
 -- each instance has the number of a membership, each membership is of a data section, each text that is kept begins with the name
--- of its instance, 64 bits count the bytes of all lines, and no more references have come than may before those that wait are looked
--- at again
+-- of its instance, 64 bits count the bytes of all lines, those that were looked at are among the references, and no more references
+-- have come than may before those that wait are looked at again
 pub record IsWhole (a : Inside) : Type 0 where
   pub memberships : AreStored a.stored
   pub sections : AreOfSections (length a.sections) a.stored.memberships
   pub named : AreNamedWhereKept (lines_kept a.stored.instances) (instances_of a.stored.instances)
   pub counted : a.bytes + a.framing < 2 ^ 64
+  pub looked : HasLooked a.waiting
   pub patient : a.references ≤ a.waiting.due

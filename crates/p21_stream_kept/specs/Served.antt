@@ -30,11 +30,15 @@ LeavesUnserved {X} s stored need (x ∷ xs) left =
 abbrev pub DropsServed : Schema → List StoredEntry → List Reference → List Reference → Type 0
 DropsServed s stored old left = LeavesUnserved s stored (λ (r : Reference). r.1) old left
 
--- the references with those that an instance adds behind them: its needs that none serves, in their order
-pub record AddsWaiting (s : Schema) (stored : List StoredEntry) (holder : ℕ) (needs : List Need) (old new : List Reference) : Type 0 where
-  pub added : List Need
-  pub unserved : LeavesUnserved s stored (λ (need : Need). need) needs added
-  pub new_is : new ≡ old ++ map (λ (need : Need). (holder, need)) added
+-- the same of the references behind some that stay as they are
+pub record DropsBehind (s : Schema) (stored : List StoredEntry) (front old new : List Reference) : Type 0 where
+  pub left : List Reference
+  pub drops : DropsServed s stored old left
+  pub new_is : new ≡ front ++ left
+
+-- the references with all that an instance adds behind them: its needs, in their order
+abbrev pub with_needs : ℕ → List Need → List Reference → List Reference
+with_needs holder needs old = old ++ map (λ (need : Need). (holder, need)) needs
 
 -- a need of this instance is refused, and those in front of it are served
 pub record IsFirstUnserved (s : Schema) (stored : List StoredEntry) (waiting : List Reference) (holder : ℕ) (fault : Fault) : Type 0 where

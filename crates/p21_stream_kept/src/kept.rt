@@ -355,10 +355,7 @@ impl Kept {
             return Err(Fault::CanonicalTooLong);
         }
         let section = self.sections.last();
-        let Ok(()) = self
-            .waiting
-            .add(schema, &self.stored, &mut self.servers, found)
-        else {
+        let Ok(()) = self.waiting.add(found) else {
             return Err(Fault::NoMemory);
         };
         let Ok(()) = self.stored.push(self.alloc, section, found) else {

@@ -1,12 +1,10 @@
 //! The needs of instances, and the instances that serve them.
-ghost use Rattle.std.specs.Prelude.{◌≡◌, [], ◌∷◌, IsTrue, OnOk, false, true};
+ghost use Rattle.std.specs.Prelude.{◌≡◌, ◌≤◌, IsTrue, drop, false, length, take, true};
 ghost use Rattle.p21_spec_laws.specs.Keeping.{IsServedBy, IsServedByNone};
-ghost use Rattle.p21_mapping.specs.Checked.{needs_view};
 ghost use Rattle.p21_mapping_values.specs.TypedView.{need_view};
 ghost use Rattle.p21_stream_kept.specs.Inside.{AreStored, references_of, stored_in};
-ghost use Rattle.p21_stream_kept.specs.Served.{AddsWaiting, AnswersNeed, AnswersUnserved, DropsServed};
+ghost use Rattle.p21_stream_kept.specs.Served.{AnswersNeed, AnswersUnserved, DropsBehind};
 
-use crate::found::FoundInstance;
 use crate::kept::Reference;
 use crate::servers::Servers;
 use crate::stored::Stored;
@@ -92,62 +90,27 @@ pub(crate) fn learn_waiting(
     Ok(())
 }
 
-/// Adds the needs of an instance that none serves yet.
-pub(crate) fn add_waiting(
-    schema: &Schema,
-    stored: &Stored,
-    servers: &mut Servers,
-    found: &FoundInstance<'_>,
-    waiting: &mut Vec<Reference>,
-) -> Result<(), NoMemory>
-    requires { AreStored stored.now }
-    ensures { OnOk result (AddsWaiting schema.now (stored_in stored.now) found.now.name (needs_view found.now.needs.now) (references_of waiting.old.items) (references_of waiting.new.items)) }
-{
-    for need in found.needs {
-        if servers.has_large_sets() {
-            learn(schema, stored, servers, need)?;
-        }
-        add_unserved(schema, stored, servers, found.name, need, waiting)?;
-    }
-    Ok(())
-}
-
-/// Adds a need of an instance where none serves it yet. What is stored, what is remembered of it, and both parts of a reference
-/// are apart, so that a reference that is served isn't made.
-#[inline(always)]
-fn add_unserved(
-    schema: &Schema,
-    stored: &Stored,
-    servers: &Servers,
-    holder: Name,
-    need: &Need,
-    waiting: &mut Vec<Reference>,
-) -> Result<(), NoMemory>
-    requires { AreStored stored.now }
-    ensures { OnOk result (AddsWaiting schema.now (stored_in stored.now) holder (need_view need.now ∷ []) (references_of waiting.old.items) (references_of waiting.new.items)) }
-{
-    if !is_unserved(schema, stored, servers, need) {
-        return Ok(());
-    }
-    let reference = Reference {
-        holder,
-        need: *need,
-    };
-    waiting.push(reference)?;
-    Ok(())
-}
-
-/// Drops the references that an instance serves by now. Those that are left stay in their order.
+/// Drops the references from an index on that an instance serves by now. Those that are left stay in their order.
 pub(crate) fn drop_served(
     schema: &Schema,
     stored: &Stored,
-    servers: &Servers,
+    servers: &mut Servers,
     waiting: &mut Vec<Reference>,
+    from: usize,
 )
-    requires { AreStored stored.now }
-    ensures { DropsServed schema.now (stored_in stored.now) (references_of waiting.old.items) (references_of waiting.new.items) }
+    requires stored { AreStored stored.now }
+    requires from { from ≤ length waiting.old.items }
+    ensures { DropsBehind schema.now (stored_in stored.now) (references_of (take from waiting.old.items)) (references_of (drop from waiting.old.items)) (references_of waiting.new.items) }
 {
-    waiting.retain(|reference| is_unserved(schema, stored, servers, &reference.need));
+    let mut left = from;
+    for index in from..waiting.len() {
+        let reference = waiting[index];
+        waiting[left] = reference;
+        if !is_served_now(schema, stored, servers, &reference.need) {
+            left += 1;
+        }
+    }
+    waiting.truncate(left);
     give_back(waiting);
 }
 
@@ -165,22 +128,10 @@ fn give_back(waiting: &mut Vec<Reference>)
     }
 }
 
-/// Whether no instance serves a need yet.
+/// Whether an instance that is stored serves a need: mostly by the entity that is guessed, and else by what is found, which is
+/// guessed from then on. It takes no memory.
 #[inline(always)]
-fn is_unserved(schema: &Schema, stored: &Stored, servers: &Servers, need: &Need) -> bool
-    requires { AreStored stored.now }
-    ensures served { result ≡ false → IsServedBy schema.now (stored_in stored.now) (need_view need.now) }
-    ensures unserved { result ≡ true → IsServedByNone schema.now (stored_in stored.now) (need_view need.now) }
-{
-    if servers.has_large_sets() && is_served(schema, stored, servers, need) {
-        return false;
-    }
-    !is_served_now(schema, stored, need)
-}
-
-/// Whether an instance that is stored serves a need. It takes no memory.
-#[inline(always)]
-fn is_served_now(schema: &Schema, stored: &Stored, need: &Need) -> bool
+fn is_served_now(schema: &Schema, stored: &Stored, servers: &mut Servers, need: &Need) -> bool
     requires { AreStored stored.now }
     ensures served { result ≡ true → IsServedBy schema.now (stored_in stored.now) (need_view need.now) }
     ensures unserved { result ≡ false → IsServedByNone schema.now (stored_in stored.now) (need_view need.now) }
@@ -189,6 +140,13 @@ fn is_served_now(schema: &Schema, stored: &Stored, need: &Need) -> bool
         return false;
     };
     let (_, entities) = stored.memberships.get(membership);
+    if servers.serve_again(schema, need, membership, entities) {
+        return true;
+    }
+    servers.guess(schema, need, membership, entities);
+    if servers.has_large_sets() && is_served(schema, stored, servers, need) {
+        return true;
+    }
     serves(schema, need, entities)
 }
 

@@ -1,5 +1,5 @@
-//! Which entity of a large set serves a need, as it was found before.
-ghost use Rattle.std.specs.Prelude.{IsTrue};
+//! Which entity of a set serves a need, as it was found before.
+ghost use Rattle.std.specs.Prelude.{◌<◌, length, IfSome, IsTrue};
 ghost use Rattle.p21_express_graph.specs.Meaning.{member};
 ghost use Rattle.p21_spec_file.specs.Reference.{Serves};
 ghost use Rattle.p21_mapping_values.specs.TypedView.{ids_view};
@@ -16,17 +16,22 @@ use std::slice::from_ref;
 /// A set of so many entities is looked through for each reference.
 const MOST_LOOKED_THROUGH: usize = 16;
 
+/// So many places are guessed.
+const GUESSES: usize = 1024;
+
 /// By the number of a set and by that of an entity or a select that is wanted, where the entity stands in the set that serves;
 /// none where no entity serves.
 type Places = BTreeMap<(usize, u32), Option<usize>>;
 
-/// Where entities stand that serve needs, for each large set and what was wanted of it. A place is looked at before it counts:
-/// what is remembered costs time alone where it is wrong.
+/// Where entities stand that serve needs: for each large set and what was wanted of it, and where one served last, in a set of
+/// any size. A place is looked at before it counts: what is remembered costs time alone where it is wrong.
 #[derive(Drop)]
 pub(crate) struct Servers {
     of_entities: Places,
     of_selects: Places,
     has_large_sets: bool,
+    // Where the entity stood that served last, for each number that `guess_of` gives to a membership and what was wanted of it.
+    guesses: [u8; GUESSES],
 }
 
 impl Servers {
@@ -36,6 +41,7 @@ impl Servers {
             of_entities: BTreeMap::new(alloc),
             of_selects: BTreeMap::new(alloc),
             has_large_sets: false,
+            guesses: [0; GUESSES],
         }
     }
 
@@ -51,6 +57,44 @@ impl Servers {
     #[inline(always)]
     pub(crate) fn has_large_sets(&self) -> bool {
         self.has_large_sets
+    }
+
+    /// Whether the entity serves a need that stands where one served last. It takes no memory.
+    #[inline(always)]
+    pub(crate) fn serve_again(
+        &self,
+        schema: &Schema,
+        need: &Need,
+        membership: usize,
+        entities: &[EntityId],
+    ) -> bool
+        ensures { IsTrue result → Serves schema.now (member need.now.wanted) (ids_view entities.now) }
+    {
+        let Member::Entity(entity) = need.wanted else {
+            return false;
+        };
+        let place = self.guesses[guess_of(entity, membership)];
+        serves_at(schema, need, entities, usize::from(place))
+    }
+
+    /// Guesses from now on that the first entity serves again that does so in a set that isn't large. It takes no memory.
+    #[inline(never)]
+    pub(crate) fn guess(
+        &mut self,
+        schema: &Schema,
+        need: &Need,
+        membership: usize,
+        entities: &[EntityId],
+    ) {
+        let Member::Entity(entity) = need.wanted else {
+            return;
+        };
+        if entities.len() > MOST_LOOKED_THROUGH {
+            return;
+        }
+        if let Some(place) = first_server(schema, need, entities) {
+            self.guesses[guess_of(entity, membership)] = place as u8;
+        }
     }
 
     /// Remembers where the entity stands that serves a need, where the set of this number is large.
@@ -104,6 +148,14 @@ impl Servers {
     }
 }
 
+/// The number of the guess for a membership of which an entity is wanted.
+#[inline(always)]
+fn guess_of(entity: EntityId, membership: usize) -> usize
+    ensures { result < 1024 }
+{
+    entity.0 as usize % 32 * 32 + membership % 32
+}
+
 /// Remembers a place.
 fn remember(places: &mut Places, at: (usize, u32), place: Option<usize>) -> Result<(), NoMemory> {
     match places.insert(at, place) {
@@ -113,7 +165,9 @@ fn remember(places: &mut Places, at: (usize, u32), place: Option<usize>) -> Resu
 }
 
 /// Where the first entity stands that serves a need.
-fn first_server(schema: &Schema, need: &Need, entities: &[EntityId]) -> Option<usize> {
+fn first_server(schema: &Schema, need: &Need, entities: &[EntityId]) -> Option<usize>
+    ensures { IfSome result (λ place. place < length entities.now) }
+{
     for place in 0..entities.len() {
         if serves_at(schema, need, entities, place) {
             return Some(place);
@@ -123,6 +177,7 @@ fn first_server(schema: &Schema, need: &Need, entities: &[EntityId]) -> Option<u
 }
 
 /// Whether the entity at a place serves a need.
+#[inline(always)]
 fn serves_at(schema: &Schema, need: &Need, entities: &[EntityId], place: usize) -> bool
     ensures { IsTrue result → Serves schema.now (member need.now.wanted) (ids_view entities.now) }
 {

@@ -1,12 +1,12 @@
 //! References that wait for the instances that serve them.
-ghost use Rattle.std.specs.Prelude.{◌≡◌, ◌<◌, ◌≤◌, ◌+◌, ◌-◌, ◌^◌, [], length, max, min, OnOk};
+ghost use Rattle.std.specs.Prelude.{◌≡◌, ◌<◌, ◌≤◌, ◌+◌, ◌-◌, ◌^◌, [], drop, length, max, min, take, OnOk};
 ghost use Rattle.p21_mapping.specs.Checked.{needs_view};
-ghost use Rattle.p21_stream_kept.specs.Inside.{AreStored, references_of, stored_in};
-ghost use Rattle.p21_stream_kept.specs.Served.{AddsWaiting, DropsServed};
+ghost use Rattle.p21_stream_kept.specs.Inside.{AreStored, HasLooked, references_of, stored_in};
+ghost use Rattle.p21_stream_kept.specs.Served.{DropsBehind, DropsServed, with_needs};
 
 use crate::found::FoundInstance;
 use crate::kept::Reference;
-use crate::served::{add_waiting, drop_served, learn_waiting};
+use crate::served::{drop_served, learn_waiting};
 use crate::servers::Servers;
 use crate::stored::Stored;
 use p21_express_tables::Schema;
@@ -16,10 +16,15 @@ use std::alloc::Global;
 /// So many references may come, in any file, before the waiting ones are looked at again.
 const PATIENCE: u64 = 1024;
 
-/// The references that wait, in the order of the file, and when they are looked at again.
+/// So many references are looked up together.
+const TOGETHER: usize = 1024;
+
+/// The references that wait, in the order of the file, and when they are looked at.
 #[derive(Drop)]
 pub struct Waiting {
     references: Vec<Reference>,
+    // So many in front were looked at. Those behind them have come since.
+    looked: usize,
     // So many references of the file may have come before those that are served are dropped.
     due: u64,
 }
@@ -28,10 +33,12 @@ impl Waiting {
     /// None. It takes no memory.
     pub(crate) fn new(alloc: Global) -> Waiting
         ensures references { result.references.items ≡ [] }
+        ensures looked { result.looked ≡ 0 }
         ensures due { result.due ≡ 1024 }
     {
         Waiting {
             references: Vec::new(alloc),
+            looked: 0,
             due: PATIENCE,
         }
     }
@@ -43,24 +50,25 @@ impl Waiting {
         &self.references
     }
 
-    /// Adds the needs of an instance that none serves yet.
-    pub(crate) fn add(
-        &mut self,
-        schema: &Schema,
-        stored: &Stored,
-        servers: &mut Servers,
-        found: &FoundInstance<'_>,
-    ) -> Result<(), NoMemory>
-        requires { AreStored stored.now }
-        ensures ok { OnOk result (AddsWaiting schema.now (stored_in stored.now) found.now.name (needs_view found.now.needs.now) (references_of self.old.references.items) (references_of self.new.references.items)) }
+    /// Adds the needs of an instance, whatever serves them.
+    ///
+    /// # Errors
+    ///
+    /// `NoMemory`, which changes nothing.
+    #[inline(always)]
+    pub(crate) fn add(&mut self, found: &FoundInstance<'_>) -> Result<(), NoMemory>
+        requires { HasLooked self.old }
+        ensures ok { OnOk result (references_of self.new.references.items ≡ with_needs found.now.name (needs_view found.now.needs.now) (references_of self.old.references.items)) }
+        ensures looked { HasLooked self.new }
         ensures due { self.new.due ≡ self.old.due }
     {
-        add_waiting(schema, stored, servers, found, &mut self.references)
+        add_needs(found, &mut self.references)
     }
 
-    /// Drops the references that an instance serves by now, where more references of the file have come than are due. Then as
-    /// many more may come as were left, and 1,024 at least. So for each that comes at most two are looked at, and in between
-    /// what was left grows twofold, or by 1,024.
+    /// Looks at the references that have come since the last look, where they are 1,024 or more, and drops those that an instance
+    /// serves by now. Where more references of the file have come than are due, it looks at all, and as many more may come then as
+    /// were left, and 1,024 at least. So for each that comes at most three are looked at, and in between what was left grows
+    /// twofold, or by 1,024.
     ///
     /// # Errors
     ///
@@ -72,20 +80,70 @@ impl Waiting {
         servers: &mut Servers,
         come: u64,
     ) -> Result<(), NoMemory>
-        requires { AreStored stored.now }
-        ensures early { come ≤ self.old.due → self.new.references.items ≡ self.old.references.items }
+        requires stored { AreStored stored.now }
+        requires looked { HasLooked self.old }
+        ensures early { come ≤ self.old.due → length self.old.references.items < self.old.looked + 1024 → self.new.references.items ≡ self.old.references.items }
+        ensures together { come ≤ self.old.due → self.old.looked + 1024 ≤ length self.old.references.items → DropsBehind schema.now (stored_in stored.now) (references_of (take self.old.looked self.old.references.items)) (references_of (drop self.old.looked self.old.references.items)) (references_of self.new.references.items) }
         ensures left { self.old.due < come → DropsServed schema.now (stored_in stored.now) (references_of self.old.references.items) (references_of self.new.references.items) }
         ensures next { self.old.due < come → self.new.due ≡ min (come + max 1024 (length self.new.references.items)) (2 ^ 64 - 1) }
+        ensures looked { HasLooked self.new }
         ensures ahead { come ≤ self.new.due }
     {
-        if come <= self.due {
+        if come > self.due {
+            let learned = self.look_from(schema, stored, servers, 0);
+            self.due = next_due(come, self.references.len());
+            return learned;
+        }
+        if self.references.len() - self.looked < TOGETHER {
             return Ok(());
         }
-        let learned = learn_waiting(schema, stored, servers, &self.references);
-        drop_served(schema, stored, servers, &mut self.references);
-        self.due = next_due(come, self.references.len());
+        self.look_from(schema, stored, servers, self.looked)
+    }
+
+    /// Looks at the references from an index on, and drops those that an instance serves by now.
+    ///
+    /// # Errors
+    ///
+    /// `NoMemory`, where which entities serve can't be remembered; the references are looked at all the same.
+    #[inline(never)]
+    fn look_from(
+        &mut self,
+        schema: &Schema,
+        stored: &Stored,
+        servers: &mut Servers,
+        from: usize,
+    ) -> Result<(), NoMemory>
+        requires stored { AreStored stored.now }
+        requires from { from ≤ length self.old.references.items }
+        ensures drops { DropsBehind schema.now (stored_in stored.now) (references_of (take from self.old.references.items)) (references_of (drop from self.old.references.items)) (references_of self.new.references.items) }
+        ensures looked { self.new.looked ≡ length self.new.references.items }
+        ensures due { self.new.due ≡ self.old.due }
+    {
+        let learned = learn_waiting(schema, stored, servers, &self.references[from..]);
+        drop_served(schema, stored, servers, &mut self.references, from);
+        self.looked = self.references.len();
         learned
     }
+}
+
+/// Adds the needs of an instance.
+///
+/// # Errors
+///
+/// `NoMemory`, which changes nothing.
+#[inline(always)]
+fn add_needs(found: &FoundInstance<'_>, references: &mut Vec<Reference>) -> Result<(), NoMemory>
+    ensures ok { OnOk result (references_of references.new.items ≡ with_needs found.now.name (needs_view found.now.needs.now) (references_of references.old.items)) }
+    ensures more { length references.old.items ≤ length references.new.items }
+{
+    references.reserve(found.needs.len())?;
+    for need in found.needs {
+        references.push_reserved(Reference {
+            holder: found.name,
+            need: *need,
+        });
+    }
+    Ok(())
 }
 
 /// How many references may have come before those that wait are looked at again, where so many have come and so many are left.

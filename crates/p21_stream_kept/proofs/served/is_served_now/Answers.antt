@@ -17,6 +17,12 @@ returns-in_default-clause-unserved c = λ none.
     inl
     (none-of_name c.args.schema.now c.args.stored.now.memberships (instances_of c.args.stored.now.instances) (need_view c.args.need.now) (subst (λ n. Contains (instance_names (instances_of c.args.stored.now.instances)) n → ⊥) target (c.in_default.ensures.none refl)))
 
+pub returns-then-serve_again-clause-served : goal.returns-then-serve_again-clause-served
+returns-then-serve_again-clause-served c = λ yes.
+    let membership = membership_of c.get.result.0 c.get.result.1.now in
+    let x : store.StoredInstance = record { name = c.need.inside.0.0.0; membership = c.in-Some.membership; text = c.in-Some.ensures.some.0 } in
+    (stored_with (Some membership) x, stored-found c.args.stored.now.memberships (instances_of c.args.stored.now.instances) x membership c.in-Some.ensures.some.1 c.get.ensures, ap (λ (n : Need). n.target) c.need.view_is, c.serve_again.ensures c.if-serve_again.true)
+
 pub returns-clause-served : goal.returns-clause-served
 returns-clause-served c = λ yes.
     let membership = membership_of c.get.result.0 c.get.result.1.now in

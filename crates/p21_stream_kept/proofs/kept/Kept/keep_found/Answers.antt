@@ -21,17 +21,17 @@ use Rattle.p21_stream_kept.proofs.kept.Kept.keep_found.Goals as goal
 pub invariant_of-self-in_default-push : goal.invariant_of-self-in_default-push
 invariant_of-self-in_default-push c =
     let last : c.last-section.result + 1 ≡ length c.self.inside.sections = c.last-section.ensures in
-    record { memberships = c.push.ensures.memberships; sections = c.push.ensures.sections (length c.self.inside.sections) (omega (arith, last)) c.self.invariant.sections; named = named-kept (lines_kept c.self.inside.stored.instances) (lines_kept c.push.new.self.instances) c.push.ensures.lines (instances_of c.self.inside.stored.instances) (instances_of c.push.new.self.instances) c.args.found.now.name c.args.found.now.line.now (found-named c.args.schema.now c.args.found.now.name c.requires.found.record_ (ids_view c.args.found.now.entities.now) (needs_view c.args.found.now.needs.now) c.args.found.now.line.now c.requires.found.found) c.self.invariant.named c.push.ensures.named; counted = c.self.invariant.counted; patient = subst (λ (due : ℕ). c.self.inside.references ≤ due) (sym c.add.ensures.due) c.self.invariant.patient }
+    record { memberships = c.push.ensures.memberships; sections = c.push.ensures.sections (length c.self.inside.sections) (omega (arith, last)) c.self.invariant.sections; named = named-kept (lines_kept c.self.inside.stored.instances) (lines_kept c.push.new.self.instances) c.push.ensures.lines (instances_of c.self.inside.stored.instances) (instances_of c.push.new.self.instances) c.args.found.now.name c.args.found.now.line.now (found-named c.args.schema.now c.args.found.now.name c.requires.found.record_ (ids_view c.args.found.now.entities.now) (needs_view c.args.found.now.needs.now) c.args.found.now.line.now c.requires.found.found) c.self.invariant.named c.push.ensures.named; counted = c.self.invariant.counted; looked = c.add.ensures.looked; patient = subst (λ (due : ℕ). c.self.inside.references ≤ due) (sym c.add.ensures.due) c.self.invariant.patient }
 
 pub invariant_of-self-2 : goal.invariant_of-self-2
 invariant_of-self-2 c =
     let last : c.last-section.result + 1 ≡ length c.self.inside.sections = c.last-section.ensures in
-    record { memberships = c.push.ensures.memberships; sections = c.push.ensures.sections (length c.self.inside.sections) (omega (arith, last)) c.self.invariant.sections; named = named-kept (lines_kept c.self.inside.stored.instances) (lines_kept c.push.new.self.instances) c.push.ensures.lines (instances_of c.self.inside.stored.instances) (instances_of c.push.new.self.instances) c.args.found.now.name c.args.found.now.line.now (found-named c.args.schema.now c.args.found.now.name c.requires.found.record_ (ids_view c.args.found.now.entities.now) (needs_view c.args.found.now.needs.now) c.args.found.now.line.now c.requires.found.found) c.self.invariant.named c.push.ensures.named; counted = let fits = c.fits_limits.ensures.fits c.if-not-fits_limits.false in omega (arith, fits); patient = c.look_again.ensures.ahead }
+    record { memberships = c.push.ensures.memberships; sections = c.push.ensures.sections (length c.self.inside.sections) (omega (arith, last)) c.self.invariant.sections; named = named-kept (lines_kept c.self.inside.stored.instances) (lines_kept c.push.new.self.instances) c.push.ensures.lines (instances_of c.self.inside.stored.instances) (instances_of c.push.new.self.instances) c.args.found.now.name c.args.found.now.line.now (found-named c.args.schema.now c.args.found.now.name c.requires.found.record_ (ids_view c.args.found.now.entities.now) (needs_view c.args.found.now.needs.now) c.args.found.now.line.now c.requires.found.found) c.self.invariant.named c.push.ensures.named; counted = let fits = c.fits_limits.ensures.fits c.if-not-fits_limits.false in omega (arith, fits); looked = c.look_again.ensures.looked; patient = c.look_again.ensures.ahead }
 
 pub invariant_of-self-in_default-look_again : goal.invariant_of-self-in_default-look_again
 invariant_of-self-in_default-look_again c =
     let last : c.last-section.result + 1 ≡ length c.self.inside.sections = c.last-section.ensures in
-    record { memberships = c.push.ensures.memberships; sections = c.push.ensures.sections (length c.self.inside.sections) (omega (arith, last)) c.self.invariant.sections; named = named-kept (lines_kept c.self.inside.stored.instances) (lines_kept c.push.new.self.instances) c.push.ensures.lines (instances_of c.self.inside.stored.instances) (instances_of c.push.new.self.instances) c.args.found.now.name c.args.found.now.line.now (found-named c.args.schema.now c.args.found.now.name c.requires.found.record_ (ids_view c.args.found.now.entities.now) (needs_view c.args.found.now.needs.now) c.args.found.now.line.now c.requires.found.found) c.self.invariant.named c.push.ensures.named; counted = let fits = c.fits_limits.ensures.fits c.if-not-fits_limits.false in omega (arith, fits); patient = c.look_again.ensures.ahead }
+    record { memberships = c.push.ensures.memberships; sections = c.push.ensures.sections (length c.self.inside.sections) (omega (arith, last)) c.self.invariant.sections; named = named-kept (lines_kept c.self.inside.stored.instances) (lines_kept c.push.new.self.instances) c.push.ensures.lines (instances_of c.self.inside.stored.instances) (instances_of c.push.new.self.instances) c.args.found.now.name c.args.found.now.line.now (found-named c.args.schema.now c.args.found.now.name c.requires.found.record_ (ids_view c.args.found.now.entities.now) (needs_view c.args.found.now.needs.now) c.args.found.now.line.now c.requires.found.found) c.self.invariant.named c.push.ensures.named; counted = let fits = c.fits_limits.ensures.fits c.if-not-fits_limits.false in omega (arith, fits); looked = c.look_again.ensures.looked; patient = c.look_again.ensures.ahead }
 
 pub last-section-requires : goal.last-section-requires
 last-section-requires c = subst (λ (k : Kept). 0 < length k.headings) (sym c.self.view_is) (follows-section c.args.schema.now c.args.limits c.args.self.now c.args.found.now.name c.requires.found.record_ c.requires.found.follows)
@@ -74,7 +74,7 @@ returns-clause-gives c =
     let none : N old = subst N (sym c.self.view_is) c.requires.another in
     let permuted : IsPermutation (record { name = c.args.found.now.name; section = c.last-section.result; entities = entities; text = kept_text old.lines line } ∷ old.stored) stored = c.in-Ok-push.ensures.ok in
     let last : c.last-section.result + 1 ≡ length old.headings = c.last-section.ensures in
-    let looks = looked s stored (old.references + length c.args.found.now.needs.now) c.add.new.self.due mid left (λ h. ap references_of (c.look_again.ensures.early h)) c.look_again.ensures.left in
+    let looks = looked s stored (old.references + length c.args.found.now.needs.now) c.add.new.self.due c.add.new.self.looked c.add.new.self.references.items c.look_again.new.self.references.items c.look_again.ensures.early c.look_again.ensures.together c.look_again.ensures.left in
     let new : Kept = record kept { waiting = left } in
     let F : Kept → Type 0 = λ k. FoundGives s c.args.limits k c.args.found.now.name entities needs line (Ok tt) new in
     subst F c.self.view_is (λ record_ is.

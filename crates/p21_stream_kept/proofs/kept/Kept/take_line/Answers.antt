@@ -38,6 +38,7 @@ invariant_of-self c = record {
   sections = sections_wider (length c.self.inside.sections) (length c.begin.new.self) c.self.inside.stored.memberships c.begin.ensures.more c.self.invariant.sections;
   named = c.self.invariant.named;
   counted = c.self.invariant.counted;
+  looked = c.self.invariant.looked;
   patient = c.self.invariant.patient;
 }
 
@@ -47,5 +48,6 @@ invariant_of-self-2 c = record {
   sections = sections_wider (length c.self.inside.sections) (length c.begin.new.self) c.self.inside.stored.memberships c.begin.ensures.more c.self.invariant.sections;
   named = c.self.invariant.named;
   counted = let fits = c.fits_limits.ensures.fits c.if-not-fits_limits.false in omega (arith, fits);
+  looked = c.self.invariant.looked;
   patient = c.self.invariant.patient;
 }
