@@ -2,8 +2,9 @@
 
 A function is proved against the contracts of those that it calls, and not against their bodies. So what the prover says of a
 function's own goals is said of the edit of that function, whatever stands in the others. The prover also gives up a function
-because one that it calls isn't proved: an edit of which nothing else is said is tried once more by itself. So is an edit that
-stands outside of functions, and one that the compiler refuses; edits among which a check finds no end in time are halved.
+because one that it calls isn't proved: an edit of which nothing else is said is tried once more by itself, and so is one that seems
+to be proved, one that stands outside of functions, and one that the compiler refuses. Edits among which a check finds no end in time
+are halved.
 """
 
 import collections
@@ -17,8 +18,8 @@ import tempfile
 MOST, SECONDS = 60, 400
 FUNCTION = r"(?:pub(?:\([a-z ]+\))? )?(?:const )?(?:final )?(?:unsafe )?fn ([A-Za-z0-9_]+)"
 IMPL = re.compile(r"(\s*)(?:unsafe )?impl(?:<[^{]*?>)?\s+(.*?)\s*\{\s*$")
-# A proof that names what an edit took away, and what cites such a proof.
-BY_NAME = re.compile(r"(note: )?(\./)?proofs/.*(has no field|is not in scope|has no `|was not admitted)")
+# A proof that names what an edit took away, what cites such a proof, and a goal that was not looked at.
+SAYS_NOTHING = re.compile(r"(note: )?(\./)?proofs/.*(has no field|is not in scope|has no `|was not admitted|\(nearest: )|.*has not tried")
 TOLD = re.compile(r"(?:note: )?(?:\./)?(\S+?):(\d+):\d+: (.*)")
 
 Span = collections.namedtuple("Span", "first last path")
@@ -158,18 +159,17 @@ def told_of(edit, lines, texts):
         if not told:
             continue
         within = any(file == told[1] and span.first < int(told[2]) <= span.last + 1 for file, span in spans)
-        if (within or told[1].startswith(places)) and not BY_NAME.match(line):
+        if (within or told[1].startswith(places)) and not SAYS_NOTHING.match(line):
             yield line
 
 
 def said_of(crate, edit, lines, texts):
-    """What is to be said of an edit that was tried beside others; none where it has to be tried by itself."""
-    label = f"must-fail {crate.name}/{edit.path.name}"
-    found = re.findall(r"^fn (\S+): (?:not proved|no proof|could not tell)", "\n".join(lines), re.M)
+    """What is to be said of an edit that was refused beside others; none where it has to be tried by itself."""
+    found = re.findall(r"^fn (\S+): (?:not proved|no proof)", "\n".join(lines), re.M)
     if not any(is_of(path, function) for path in found for function in edit.spans):
-        return f"{label}: NOT REFUSED: its functions are still proved with this edit"
+        return None
     told = sorted(told_of(edit, lines, texts), key=lambda line: ": error" not in line)
-    return f"{label}: refused, as it must be: {told[0][:160]}" if told else None
+    return f"must-fail {crate.name}/{edit.path.name}: refused, as it must be: {told[0][:160]}" if told else None
 
 
 def said_together(rt, crate, batch, kept):
