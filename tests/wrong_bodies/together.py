@@ -16,7 +16,7 @@ import tempfile
 
 # So many edits go into one check at most, and so many seconds may it take.
 MOST, SECONDS = 60, 400
-FUNCTION = r"(?:pub(?:\([a-z ]+\))? )?(?:const )?(?:final )?(?:unsafe )?fn ([A-Za-z0-9_]+)"
+FUNCTION = r"(?:pub(?:\([a-z ]+\))? )?(?:const )?(?:final )?(?:unsafe )?(?:extern \"C\" )?fn ([A-Za-z0-9_]+)"
 IMPL = re.compile(r"(\s*)(?:unsafe )?impl(?:<[^{]*?>)?\s+(.*?)\s*\{\s*$")
 # A proof that names what an edit took away, what cites such a proof, and a goal that was not looked at.
 SAYS_NOTHING = re.compile(r"(note: )?(\./)?proofs/.*(has no field|is not in scope|has no `|was not admitted|\(nearest: )|.*has not tried")
@@ -39,9 +39,7 @@ def last_line(lines, first, indent):
     """The last line of the function that begins at a line."""
     for at in range(first, len(lines)):
         line = lines[at]
-        if re.match(rf"{indent}(\}}|\{{.*\}})\s*$", line) or line.rstrip().endswith("{}"):
-            return at
-        if at == first and line.rstrip().endswith(";"):
+        if re.match(rf"{indent}(\}}|\{{.*\}})\s*$", line) or at == first and line.rstrip().endswith(("{}", ";")):
             return at
         if at > first and re.match(rf"{indent}{FUNCTION}", line):
             return at - 1
