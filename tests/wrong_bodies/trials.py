@@ -218,7 +218,8 @@ def try_bugs(names):
         noted = found_by(crate)
         for path, said in said_by_prover(crate, paths):
             is_refused = ": refused, as it must be" in said
-            as_noted = is_refused == (noted[path.stem].split()[0] not in ("test", "nothing"))
+            by = noted[path.stem].split()[0]
+            as_noted = by == "not" or is_refused == (by not in ("test", "nothing"))
             others += not as_noted
             print(f"{said}{'' if as_noted else f' (noted: {noted[path.stem]})'}", flush=True)
     return others

@@ -9,7 +9,7 @@ use Rattle.p21_canon.proofs.Statements.{statement-instance}
 use Rattle.p21_canon.specs.Statement.{AppendsStatement}
 use Rattle.p21_spec_laws.specs.CompleteFile.{Entry}
 use Rattle.p21_spec_laws.specs.Keeping.{IsServedBy, Kept}
-use Rattle.p21_spec_laws.specs.Stored.{IsAmongEarlier, KeptLines, StoredEntry, kept_text, with_lines}
+use Rattle.p21_spec_laws.specs.Stored.{IsAmongEarlier, KeptLines, StoredEntry, kept_text}
 use Rattle.p21_spec_laws.specs.Waiting.{Reference}
 use Rattle.p21_spec_laws.proofs.CanonicalLaid.{laid-each_spelled}
 use Rattle.p21_spec_laws.proofs.GraphicTexts.{lines-graphic}

@@ -281,6 +281,10 @@ const RENAMED_SELECTS: Refusals = &[
         "ENTITY e; SELF\\e.z : REAL; END_ENTITY; TYPE s = SELECT (e); END_TYPE; TYPE t = LIST OF s; END_TYPE;",
         SchemaFault::RedeclaredPlace,
     ),
+    (
+        "ENTITY e; SELF\\e.z : REAL; END_ENTITY; TYPE t = LIST OF e; END_TYPE;",
+        SchemaFault::RedeclaredPlace,
+    ),
 ];
 
 #[test]

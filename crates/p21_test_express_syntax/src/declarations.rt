@@ -99,6 +99,7 @@ const ANSWERS: Answers = &[
     ("TYPE t = REAL(0); END_TYPE;", None),
     ("TYPE t = REAL(99999999999); END_TYPE;", None),
     ("TYPE t = REAL(n); END_TYPE;", Some(SyntaxFault::Syntax)),
+    ("TYPE t = REAL(1+2); END_TYPE;", Some(SyntaxFault::Syntax)),
     ("TYPE t = STRING(3) FIXED; END_TYPE;", None),
     ("TYPE t = STRING(0); END_TYPE;", Some(SyntaxFault::Bounds)),
     ("TYPE t = STRING(0 x; END_TYPE;", Some(SyntaxFault::Bounds)),

@@ -1,4 +1,4 @@
-use Rattle.std.proofs.Common.{◌≡◌, ◌<◌, ◌∙◌, ℕ, List, arith, drop, length, set, subst, sym, take, ◌+◌}
+use Rattle.std.proofs.Common.{◌<◌, ◌∙◌, ℕ, List, arith, drop, length, set, subst, sym, take, ◌+◌}
 use Rattle.std.proofs.lemmas.List.{length-set}
 use Rattle.p21_spec_laws.specs.Waiting.{Reference}
 use Rattle.p21_stream_kept.proofs.Dropping.{AreLooked, looked-all, looked-served, looked-unserved}

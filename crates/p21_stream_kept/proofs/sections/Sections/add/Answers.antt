@@ -1,4 +1,4 @@
-use Rattle.std.proofs.Common.{List, arith, ap, subst, sym, ◌∙◌}
+use Rattle.std.proofs.Common.{List, arith, ap, subst, ◌∙◌}
 use Rattle.std.specs.List.{Contains}
 use Rattle.p21_spec_exchange.specs.DataSection.{Heading, section_names}
 use Rattle.p21_stream_kept.proofs.SectionNames.{section-named, section-unnamed}
