@@ -315,13 +315,9 @@ EDITS = [
         "hostile/memory.py",
         [],
         "an instance is left out where memory runs out",
-        "crates/p21_stream_store/src/instances.rt",
-        "&mut self.texts_of_rising,\n                name,\n                membership,\n                text,\n"
-        "            ) else {\n"
-        "                return Err(NoMemory);",
-        "&mut self.texts_of_rising,\n                name,\n                membership,\n                text,\n"
-        "            ) else {\n"
-        "                return Ok(());",
+        "crates/p21_stream_store/src/named_memberships.rt",
+        "let Ok(done) = note(noted, name, membership, all) else {\n        return Err(NoMemory);",
+        "let Ok(done) = note(noted, name, membership, all) else {\n        return Ok(true);",
         "['check', 'demo.exp', 'rising'] within",
         program=1,
     ),
