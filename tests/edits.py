@@ -2,15 +2,27 @@
 """Whether each wrong body can be tried, in the gate (crates/CRATE/must-fail) and beside it (tests/wrong_bodies/CRATE), and each
 bug by hand (tests/bugs/CRATE): its crate is there, each text behind `old: ` stands once in the file that `file: ` names, where a
 further pair is looked for in what the earlier ones made, something is changed, and no name of a crate stands in two places. Of
-each bug tests/bugs/CRATE.tsv says by what it is found. The status is 1 where that isn't so. It says nothing of whether the
-prover refuses them.
+each bug tests/bugs/CRATE.tsv says by what it is found, and docs/CONTRACTS.md has the table that counts these lines; with --table
+that table is printed. The status is 1 where that isn't so. It says nothing of whether the prover refuses them.
 """
 
+import collections
 import pathlib
 import sys
 
 ROOT = pathlib.Path(__file__).resolve().parent.parent
 FOLDERS = ("src", "specs", "proofs")
+# By what a bug is found, as the lists and as the table have it.
+FOUND_BY = {
+    "clause": "A clause or an invariant",
+    "invariant": "A clause or an invariant",
+    "bound": "A bound or a condition of a call",
+    "condition": "A bound or a condition of a call",
+    "test": "A test",
+    "equivalent": "Nothing changes",
+    "nothing": "Nothing",
+    "not": "Not tried",
+}
 
 
 def wrong_with(crate, text):
@@ -69,10 +81,35 @@ def wrong_with_bugs():
         yield f"tests/bugs/{crate}.tsv: there is no {name}"
 
 
+def table_of_bugs():
+    """The table that docs/CONTRACTS.md has of the bugs: for each crate, in the order of crates.txt, by what how many are found."""
+    columns = list(dict.fromkeys(FOUND_BY.values()))
+    found = collections.defaultdict(collections.Counter)
+    for path in ROOT.glob("tests/bugs/*.tsv"):
+        for line in path.read_text().splitlines():
+            column = FOUND_BY[line.split("\t")[1].split()[0]]
+            found[path.stem][column] += 1
+            found["all"][column] += 1
+    columns = [column for column in columns if found["all"][column]]
+    crates = (line.partition(":")[0].split() for line in (ROOT / "crates.txt").read_text().splitlines())
+    rows = [(f"`{words[0]}`", words[0]) for words in crates if words and words[0] in found] + [("all", "all")]
+    yield f"| Crate | Written | {' | '.join(columns)} |"
+    yield "|---" * (len(columns) + 2) + "|"
+    for name, crate in rows:
+        counts = (str(found[crate][column] or "") for column in columns)
+        yield f"| {name} | {sum(found[crate].values())} | {' | '.join(counts)} |"
+
+
 def main():
+    if sys.argv[1:] == ["--table"]:
+        print("\n".join(table_of_bugs()))
+        return 0
     count = {True: 0, False: 0}
     seen = {(crate, name) for crate, name, _ in bugs()}
     failed = 0
+    if "\n".join(table_of_bugs()) not in (ROOT / "docs" / "CONTRACTS.md").read_text():
+        failed += 1
+        print("docs/CONTRACTS.md: its table of bugs isn't what tests/edits.py --table prints")
     for line in wrong_with_bugs():
         failed += 1
         print(line)

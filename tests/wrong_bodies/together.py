@@ -15,7 +15,7 @@ import subprocess
 import tempfile
 
 # So many edits go into one check at most, and so many seconds may it take.
-MOST, SECONDS = 60, 400
+MOST, SECONDS = 60, 1500
 FUNCTION = r"(?:pub(?:\([a-z ]+\))? )?(?:const )?(?:final )?(?:unsafe )?(?:extern \"C\" )?fn ([A-Za-z0-9_]+)"
 IMPL = re.compile(r"(\s*)(?:unsafe )?impl(?:<[^{]*?>)?\s+(.*?)\s*\{\s*$")
 # A proof that names what an edit took away, what cites such a proof, and a goal that was not looked at.

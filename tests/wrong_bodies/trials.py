@@ -19,6 +19,8 @@ many are tried in one check (together.py), over what `rt check` or `rt lib` left
 the crate is proved first. An edit takes a few seconds of a processor, and by itself 8 to 50.
 """
 
+import contextlib
+import fcntl
 import functools
 import hashlib
 import importlib.machinery
@@ -83,14 +85,26 @@ def record():
     return {(crate, name): tuple(rest) for crate, name, *rest in lines}
 
 
+@contextlib.contextmanager
+def record_alone():
+    """Keeps other runs of this script, of other crates, from writing the record meanwhile."""
+    folder = os.open(RECORD.parent, os.O_RDONLY)
+    try:
+        fcntl.flock(folder, fcntl.LOCK_EX)
+        yield
+    finally:
+        os.close(folder)
+
+
 def note(crate, name, entry):
     """Writes what was found of an edit into the record; without an entry the edit was not refused."""
-    found = {**record(), (crate, name): entry}
     there = {(crate, name) for crate, name, _ in edits()}
-    lines = (f"{' '.join((*key, *rest))}\n" for key, rest in sorted(found.items()) if rest and key in there)
-    written = RECORD.with_suffix(".new")
-    written.write_text("".join(lines))
-    os.replace(written, RECORD)
+    with record_alone():
+        found = {**record(), (crate, name): entry}
+        lines = (f"{' '.join((*key, *rest))}\n" for key, rest in sorted(found.items()) if rest and key in there)
+        written = RECORD.with_suffix(".new")
+        written.write_text("".join(lines))
+        os.replace(written, RECORD)
 
 
 def unshown():
