@@ -214,6 +214,9 @@ expect 'no canonical file' 1 '' 'refused 40 DuplicateName in #1'
 run canon "$demo" "$here/none"
 expect 'a canonical file of none' 3 '' "cannot open $here/none"
 
+run canon "$here/none" "$here/point"
+expect 'a canonical file by no schema' 3 '' "cannot open $here/none"
+
 run show "$demo" "$here/point" --name 2
 expect 'an instance' 0 '#2=POINT($,1.,1.);' ''
 
@@ -243,6 +246,9 @@ expect 'no number' 2 '' '*--name*'
 run show "$demo" "$here/none" --name 2
 expect 'an instance of none' 3 '' "cannot open $here/none"
 
+run show "$here/none" "$here/point" --name 2
+expect 'an instance by no schema' 3 '' "cannot open $here/none"
+
 run same "$demo" "$here/point" "$here/canonical"
 expect 'the same' 0 'same' ''
 
@@ -266,6 +272,9 @@ expect 'a second file that is not there' 3 '' "cannot open $here/none"
 
 run same "$demo" "$here/none" "$here/absent"
 expect 'a first file that is not there' 3 '' "cannot open $here/none"
+
+run same "$here/none" "$here/point" "$here/absent"
+expect 'two files by no schema' 3 '' "cannot open $here/none"
 
 run --version
 expect 'the version' 0 'p21 0.1.0 (canonical form 1)' ''

@@ -276,11 +276,17 @@ ENTITY tones; v : SET OF SET OF colour; END_ENTITY;
 ENTITY only; v : inner; END_ENTITY;
 ENTITY full; v : ARRAY [1:2] OF INTEGER; END_ENTITY;
 ENTITY series; v : LIST OF INTEGER; END_ENTITY;
+TYPE nest = LIST OF nest; END_TYPE;
+ENTITY deep; v : nest; END_ENTITY;
 END_SCHEMA;
 """
 
 # An entity, one below it, and one below that.
 ANEW = "SCHEMA anew; ENTITY a; {of_a} END_ENTITY; ENTITY b SUBTYPE OF (a); {of_b} END_ENTITY; ENTITY c SUBTYPE OF (b); {of_c} END_ENTITY; END_SCHEMA;"
+
+# The names of forty attributes, and what `p21 schema` answers where the last entity derives one of them.
+FORTY = ", ".join(f"x{n}" for n in range(40))
+ANEW_FORTY = f"SCHEMA ANEW\nA({FORTY})\nB({FORTY})\nC({FORTY.replace('x9,', '*,')})".replace(", ", ",").upper()
 
 # Levels of two entities, each a subtype of both of the level before: as many paths as 2 to the 30th lead to the first ones.
 LADDER = "SCHEMA ladder;\n{}END_SCHEMA;\n".format(
@@ -300,7 +306,55 @@ ENTITY c ABSTRACT SUBTYPE OF (r); END_ENTITY;
 END_SCHEMA;
 """
 
+# Two entities declare one attribute anew, and one below both does or doesn't.
+TWICE = r"""SCHEMA twice;
+ENTITY r; k : NUMBER; END_ENTITY;
+ENTITY a SUBTYPE OF (r); SELF\r.k : INTEGER; END_ENTITY;
+ENTITY b SUBTYPE OF (r); SELF\r.k : INTEGER; END_ENTITY;
+ENTITY c SUBTYPE OF (a, b); END_ENTITY;
+ENTITY d SUBTYPE OF (a, b); SELF\r.k : INTEGER; END_ENTITY;
+END_SCHEMA;
+"""
+
+# An entity that stands in two ONEOF lists.
+LISTS = """SCHEMA lists;
+ENTITY s SUPERTYPE OF (ONEOF (a, b)); END_ENTITY;
+ENTITY t SUPERTYPE OF (ONEOF (c, d)); END_ENTITY;
+ENTITY u SUPERTYPE OF (ONEOF (e, f, a)); END_ENTITY;
+ENTITY a SUBTYPE OF (s, u); END_ENTITY;
+ENTITY b SUBTYPE OF (s); END_ENTITY;
+ENTITY c SUBTYPE OF (t); END_ENTITY;
+ENTITY d SUBTYPE OF (t); END_ENTITY;
+ENTITY e SUBTYPE OF (u); END_ENTITY;
+ENTITY f SUBTYPE OF (u); END_ENTITY;
+END_SCHEMA;
+"""
+
+# Eighty entities, of which one has all as supertypes, or each the one before; and one that refers to them.
+EIGHTY = range(80)
+MANY = "SCHEMA many;\n{}ENTITY z SUBTYPE OF ({}); END_ENTITY;\n{}END_SCHEMA;\n".format(
+    "".join(f"ENTITY r{n}; x{n} : OPTIONAL REAL; END_ENTITY;\n" for n in EIGHTY),
+    ", ".join(f"r{n}" for n in EIGHTY),
+    "ENTITY y SUBTYPE OF (z); DERIVE SELF\\z.x7 : REAL := 1; END_ENTITY;\nENTITY to; one : OPTIONAL z; more : LIST OF r3; END_ENTITY;\n"
+    "ENTITY k; END_ENTITY;\nTYPE some = SELECT (r5, k); END_TYPE;\nTYPE other = SELECT (k, any); END_TYPE;\n"
+    "ENTITY any; one : OPTIONAL some; more : LIST OF other; it : OPTIONAL k; END_ENTITY;\n",
+)
+CHAIN = "SCHEMA chain;\n{}{}END_SCHEMA;\n".format(
+    "".join(f"ENTITY r{n}{f' SUBTYPE OF (r{n - 1})' * (n > 0)}; x{n} : OPTIONAL REAL; END_ENTITY;\n" for n in EIGHTY),
+    "ENTITY q SUBTYPE OF (r79); END_ENTITY;\nENTITY u; END_ENTITY;\nENTITY p SUBTYPE OF (r79, u); END_ENTITY;\n"
+    "ENTITY v SUBTYPE OF (u, r79); w : REAL; END_ENTITY;\nENTITY to; one : OPTIONAL u; more : LIST OF r3; END_ENTITY;\n",
+)
+UNSET = ",".join("$" for _ in EIGHTY)
+WITHOUT_EIGHTH = ",".join("*" if n == 7 else "$" for n in EIGHTY)
+
+
+def parts(*more, unset="$"):
+    """The eighty parts and these in external mapping, in the order of their keywords."""
+    return f"({''.join(sorted([*(f'R{n}({unset if n == 7 else chr(36)})' for n in EIGHTY), *more]))})"
+
+
 SCHEMAS = {"DEMO": DEMO, "DIAMOND": DIAMOND, "REDECL": REDECL, "WIDE": WIDE, "SOLE": SOLE, "ANDOR": ANDOR, "RULES": RULES, "SEVERAL": SEVERAL}
+SCHEMAS |= {"TWICE": TWICE, "LISTS": LISTS, "MANY": MANY, "CHAIN": CHAIN}
 
 POINTS = "".join(f"#{n}=POINT($,1.,1.);\n" for n in range(2, 2002))
 MEMBERS = ",".join(f"#{n}" for n in range(2, 2002))
@@ -392,6 +446,7 @@ INSTANCES = {
         ("#1=POINT($," + "A(" * 64 + "1" + ")" * 64 + ",1.);", "refused 49 WrongKind in #1"),
         ("#1=POINT($," + "A(" * 65 + "1" + ")" * 65 + ",1.);", "refused 21 TooDeep at statement 8"),
         ("#1=POINT('it''s \\X2\\00E9\\X0\\',1.E2,2.)/**/;", "#1=POINT('it''s \\X2\\00E9\\X0\\',1.E2,2.);"),
+        *((f"#1=POINT('{directive}',1.,1.);", "refused 4 BadDirective at statement 8") for directive in ("\\S\\\x1f", "\\S\\\u00e9", "\\X2\\\\X0\\", "\\PB\\")),
         ("#1=&SCOPE", "refused 26 LeftOut(Scope) at statement 8"),
         ("\\N\\#1=POINT($,1.,1.);", "refused 1 BadByte at statement 8"),
         ("#1=!A();", "refused 26 LeftOut(UserKeyword) at statement 8"),
@@ -461,6 +516,7 @@ INSTANCES = {
         # Values of each kind of type
         ("#1=LOGIC(.U.);", "#1=LOGIC(.U.);"),
         ("#1=LOGIC(.TRUE.);", "refused 53 UnknownItem in #1"),
+        ("#1=LOGIC(.X.);", "refused 53 UnknownItem in #1"),
         ("#1=LOGIC('T');", "refused 49 WrongKind in #1"),
         ("#1=NUMBERS((2,1.));", "#1=NUMBERS((1.,2.));"),
         ("#1=NUMBERS((1,1.));", "refused 52 NotDistinct in #1"),
@@ -485,7 +541,10 @@ INSTANCES = {
         ("#1=SIX(\"0\");", "refused 50 Width in #1"),
         ("#1=SIX(\"0FF\");", "refused 50 Width in #1"),
         ("#1=TONES(((.RED.),()));", "#1=TONES(((),(.RED.)));"),
+        ("#1=TONES(((#1)));", "refused 49 WrongKind in #1"),
         ("#1=TONES(((.RED.,.GREEN.),(.GREEN.,.RED.)));", "refused 52 NotDistinct in #1"),
+        (x := f"#1=DEEP({'(' * 64}{')' * 64});", x),
+        (f"#1=DEEP({'(' * 65}{')' * 65});", "refused 21 TooDeep at statement 8"),
         # A SELECT in a SELECT
         ("#1=CHOSEN(METRE(1.0));", "#1=CHOSEN(METRE(1.));"),
         ("#1=CHOSEN(HUE(.RED.));", "#1=CHOSEN(HUE(.RED.));"),
@@ -498,11 +557,57 @@ INSTANCES = {
         ("#1=CHOSEN(#1);", "refused 57 WrongTarget in #1"),
         ("#1=CHOSEN($);", "refused 46 Missing in #1"),
         ("#1=CHOSEN('a');", "refused 54 SelectType in #1"),
+        ("#1=CHOSEN(.RED.);", "refused 54 SelectType in #1"),
         ("#1=ONLY(#1);", "refused 54 SelectType in #1"),
     ],
     "SEVERAL": [
         ("#1=(A()B()C()R(1));", "refused 42 Abstract in #1"),
         ("#1=(A()B()R());", "refused 58 OneOf in #1"),
+    ],
+    "TWICE": [
+        ("#1=C(1);", "refused 55 TwoRedeclarations in #1"),
+        ("#1=(A()B()C()R(1));", "refused 55 TwoRedeclarations in #1"),
+        ("#1=D(1);", "#1=D(1);"),
+        ("#1=(A()B()C()D()R(1));", "#1=(A()B()C()D()R(1));"),
+        ("#1=D(1.);", "refused 49 WrongKind in #1"),
+    ],
+    "LISTS": [
+        ("#1=(A()C()S()T()U());", "#1=(A()C()S()T()U());"),
+        ("#1=(B()C()E()S()T()U());", "#1=(B()C()E()S()T()U());"),
+        ("#1=(A()C()E()S()T()U());", "refused 58 OneOf in #1"),
+        ("#1=(A()C()D()S()T()U());", "refused 58 OneOf in #1"),
+        ("#1=(B()E()F()S()U());", "refused 58 OneOf in #1"),
+    ],
+    "MANY": [
+        (x := f"#1=Z({UNSET});\n#2=Y({WITHOUT_EIGHTH});\n#3=TO(#1,(#2,#1));\n#4=TO(#2,());", x),
+        (f"#1={parts('Z()')};#2={parts('Y()', 'Z()', unset='*')};", f"#1=Z({UNSET});\n#2=Y({WITHOUT_EIGHTH});"),
+        (f"#1={parts('Y()', 'Z()')};", "refused 48 DerivedNotStar in #1"),
+        (f"#1={parts('Z()').replace('R7($)', '')};", "refused 43 PartMissing in #1"),
+        (f"#1={parts('Z()', 'R7($)')};", "refused 44 PartTwice in #1"),
+        (x := f"#1={parts()};\n#2=TO($,(#1));", x),
+        (f"#1={parts()};\n#2=TO(#1,());", "refused 57 WrongTarget in #2"),
+        (f"#2=TO(#1,());\n#1={parts()};", "refused 57 WrongTarget in #2"),
+        (f"#1=TO(#9,(#3));\n#3=Z({UNSET});", "refused 56 Dangling in #1"),
+        (
+            f"#2=TO($,(#1));\n#3=TO(#4,(#1,#4));\n#1={parts()};\n#4={parts('Z()')};\n#5=Z({UNSET});\n#6=TO(#5,(#4,#1,#5,#7));\n#7=Y({WITHOUT_EIGHTH});",
+            f"#1={parts()};\n#2=TO($,(#1));\n#3=TO(#4,(#1,#4));\n#4=Z({UNSET});\n#5=Z({UNSET});\n#6=TO(#5,(#4,#1,#5,#7));\n#7=Y({WITHOUT_EIGHTH});",
+        ),
+        # Selects, of sets with many entities and with few
+        (
+            x := f"#1=ANY(#2,(),$);\n#2=Z({UNSET});\n#3=ANY(#4,(#4,#1),#4);\n#4=K();\n#5=ANY(#6,(#1,#4),#4);\n#6=Z({UNSET});\n"
+            "#7=ANY(#8,(#9,#9),#8);\n#8=K();\n#9=ANY(#6,(),$);",
+            x,
+        ),
+        (f"#1=ANY(#2,(#2),$);\n#2=Z({UNSET});", "refused 57 WrongTarget in #1"),
+        (f"#2=Z({UNSET});\n#1=ANY(#2,(#2),$);", "refused 57 WrongTarget in #1"),
+    ],
+    "CHAIN": [
+        (x := f"#1=Q({UNSET});\n#2=P({UNSET});\n#3=V({UNSET},1.);\n#4=TO(#2,(#1,#2,#3));\n#5=TO(#6,(#7));\n#6=P({UNSET});\n#7=V({UNSET},2.);", x),
+        (f"#5=TO(#6,(#7));\n#6=Q({UNSET});\n#7=V({UNSET},2.);", "refused 57 WrongTarget in #5"),
+        (
+            x := f"#1={parts('Q()', 'U()')};\n#2={parts('P()', 'Q()', 'U()', 'V(1.)')};\n#3=TO(#5,(#5));\n#4=TO(#2,(#1,#2));\n#5={parts('Q()', 'U()')};",
+            x,
+        ),
     ],
 }
 
@@ -536,11 +641,15 @@ HEADERS = [
     (FILE_DESCRIPTION, "FILE_DESCRIPTION('','2;1');", "refused 30 HeaderShape at statement 3"),
     (FILE_DESCRIPTION, "FILE_DESCRIPTION((*),'2;1');", "refused 30 HeaderShape at statement 3"),
     (FILE_DESCRIPTION, FILE_NAME, "refused 30 HeaderShape at statement 3"),
+    (FILE_DESCRIPTION, "FILE_DESCRIPTION();", "refused 30 HeaderShape at statement 3"),
+    (FILE_DESCRIPTION, "FILE_DESCRIPTION((''));", "refused 30 HeaderShape at statement 3"),
+    (FILE_DESCRIPTION, "FILE_DESCRIPTION((''),'2;1','');", "refused 30 HeaderShape at statement 3"),
     (FILE_DESCRIPTION, "DESCRIPTION((''),'2;1');", "refused 30 HeaderShape at statement 3"),
     (FILE_SCHEMA, "!FILE_SCHEMA(('DEMO'));", "refused 30 HeaderShape at statement 5"),
     (FILE_NAME, "FILE_NAME('','',(''),(''),'','');", "refused 30 HeaderShape at statement 4"),
     (FILE_NAME, "FILE_NAME('','','a',(''),'','','');", "refused 30 HeaderShape at statement 4"),
     (FILE_NAME, "ENDSEC;", "refused 30 HeaderShape at statement 4"),
+    (FILE_NAME, "NAME('','',(''),(''),'','','');", "refused 30 HeaderShape at statement 4"),
     (FILE_SCHEMA, "FILE_SCHEMA(('demo'));", "FILE_SCHEMA(('demo'));"),
     (FILE_SCHEMA, "FILE_SCHEMA(('DEMO { 1 0 10303 214 1 1 1 1 }'));", "FILE_SCHEMA(('DEMO { 1 0 10303 214 1 1 1 1 }'));"),
     (FILE_SCHEMA, r"FILE_SCHEMA(('DEMO\X2\00E9\X0\'));", r"FILE_SCHEMA(('DEMO\X2\00E9\X0\'));"),
@@ -548,6 +657,9 @@ HEADERS = [
     (FILE_SCHEMA, "FILE_SCHEMA(('DEMO_1'));", "refused 31 SchemaName at statement 5"),
     (FILE_SCHEMA, "FILE_SCHEMA((' DEMO'));", "refused 31 SchemaName at statement 5"),
     (FILE_SCHEMA, "FILE_SCHEMA($);", "refused 30 HeaderShape at statement 5"),
+    (FILE_SCHEMA, "FILE_SCHEMA();", "refused 30 HeaderShape at statement 5"),
+    (FILE_SCHEMA, "FILE_SCHEMA(('DEMO'),('DEMO'));", "refused 30 HeaderShape at statement 5"),
+    (FILE_SCHEMA, "FILE_SCHEMA(('DEMA'));", "refused 31 SchemaName at statement 5"),
     (FILE_SCHEMA, "FILE_SCHEMA(('DEMO','DEMO'));", "refused 30 HeaderShape at statement 5"),
     (FILE_SCHEMA, f"{FILE_SCHEMA}!MY_RECORD(1.0,.A.);", f"{FILE_SCHEMA}\n!MY_RECORD(1.,.A.);"),
     (FILE_SCHEMA, f"{FILE_SCHEMA}NOTE((2,1),A(1));ENDSEC();", f"{FILE_SCHEMA}\nNOTE((2,1),A(1));\nENDSEC();"),
@@ -613,6 +725,8 @@ SECTIONS = [
     (f"DATA('a',());ENDSEC;{END}", "refused 32 SectionShape at statement 7"),
     (f"DATA('a',('OTHER','OTHER'));ENDSEC;{END}", "refused 32 SectionShape at statement 7"),
     (f"DATA();ENDSEC;{END}", "refused 32 SectionShape at statement 7"),
+    (f"DATA('a',('DEMO'),1);ENDSEC;{END}", "refused 32 SectionShape at statement 7"),
+    (f"{POINT_IN_A}#1=POINT($,1.,1.);{END}", "refused 20 Unexpected at statement 10"),
     (f"DATA;ENDSEC;{END}SIGNATURE;", "refused 26 LeftOut(Signature) at statement 10"),
     (f"DATA;ENDSEC;{END}X", "refused 25 AfterEnd at statement 10"),
     (f"DATA;ENDSEC;{END}{END}", "refused 25 AfterEnd at statement 10"),
@@ -627,6 +741,13 @@ SECTIONS = [
     ("DATA;#1=A(/", "refused 24 EndsEarly at statement 8"),
 ]
 
+# Three hundred instances whose names lie far from one another.
+FAR = [f"#{7919 * n}=POINT($,{n}.,1.);" for n in range(1, 301)]
+
+# Names in sixty rows, each of forty beside one another, in the order of the names and in another one.
+ROWS = [f"#{1_000_003 * (n // 40) + n % 40}=POINT($,{n}.,1.);" for n in range(2400)]
+MIXED_ROWS = [ROWS[977 * n % 2400] for n in range(2400)]
+
 # Two files of the schema DEMO by what stands between `DATA;` and `ENDSEC;`, and what `p21 same` answers.
 SAME = [
     ("#2 = POINT($, 1.0, 10.E-1);", "#2=POINT($,1.,1.);", "same"),
@@ -639,6 +760,10 @@ SAME = [
     ("#1=POINT('a',1.,1.);", "#1=POINT('b',1.,1.);", "different"),
     ("#1=POINT('a',1.,1.);", "#1=POINT('\\X\\61',1.,1.);", "same"),
     ("#1=POINT($,1.,1.);", "#2=POINT($,1.,1.);", "different"),
+    (x := "#18446744073709551615=POINT($,1.,1.);", x, "same"),
+    ("".join(FAR), "".join(reversed(FAR)), "same"),
+    ("".join(MIXED_ROWS), "".join(ROWS), "same"),
+    ("".join(FAR), "".join(FAR[1:]), "different"),
     ("#1=FOO();", "", "first: refused 41 UnknownEntity in #1"),
     ("", "#1=FOO();", "second: refused 41 UnknownEntity in #1"),
 ]
@@ -693,12 +818,26 @@ SCHEMA_TEXTS = [
     ),
     ("SCHEMA s; ENTITY a; x : REAL; END_ENTITY; ENTITY b; SELF\\a.x : REAL; END_ENTITY; END_SCHEMA;", "schema refused S8 RedeclaredPlace"),
     ("SCHEMA s; ENTITY a; DERIVE y : REAL := 1; END_ENTITY; ENTITY b; DERIVE SELF\\a.y : REAL := 2; END_ENTITY; END_SCHEMA;", "schema refused S8 RedeclaredPlace"),
+    (ANEW.format(of_a="x : REAL;", of_b="DERIVE SELF\\a.x : REAL := 1; z : REAL := 1;", of_c="DERIVE SELF\\b.z : REAL := 2;"), "SCHEMA ANEW\nA(X)\nB(*)\nC(*)"),
+    (ANEW.format(of_a="DERIVE y : REAL := 1; z : REAL := 1;", of_b="", of_c="DERIVE SELF\\a.z : REAL := 2;"), "SCHEMA ANEW\nA()\nB()\nC()"),
+    (ANEW.format(of_a="DERIVE y : REAL := 1;", of_b="", of_c="DERIVE SELF\\a.z : REAL := 2;"), "schema refused S8 RedeclaredPlace"),
+    (ANEW.format(of_a=f"{FORTY} : REAL;", of_b="SELF\\a.x7 : INTEGER;", of_c="DERIVE SELF\\b.x9 : REAL := 1;"), ANEW_FORTY),
+    (ANEW.format(of_a=f"{FORTY} : REAL;", of_b="SELF\\a.y : INTEGER;", of_c=""), "schema refused S8 RedeclaredPlace"),
+    (
+        "SCHEMA s; ENTITY a; x : REAL; END_ENTITY; ENTITY b SUBTYPE OF (a); END_ENTITY; ENTITY c; x : REAL; END_ENTITY; ENTITY d; x : REAL; END_ENTITY; "
+        "ENTITY e SUBTYPE OF (b); SELF\\b.x : REAL; END_ENTITY; END_SCHEMA;",
+        "SCHEMA S\nA(X)\nB(X)\nC(X)\nD(X)\nE(X)",
+    ),
     # Which refusal of several comes first
     ("SCHEMA s; ENTITY a; x, x : foo; END_ENTITY; END_SCHEMA;", "schema refused S3 Duplicate"),
     ("SCHEMA s; ENTITY a SUBTYPE OF (a); x : foo; END_ENTITY; END_SCHEMA;", "schema refused S4 UnknownName"),
+    ("SCHEMA s; ENTITY a SUBTYPE OF (c); END_ENTITY; ENTITY b SUBTYPE OF (a); SELF\\a.x : REAL; END_ENTITY; END_SCHEMA;", "schema refused S4 UnknownName"),
     ("SCHEMA s; ENTITY a SUBTYPE OF (a); SELF\\a.x : REAL; END_ENTITY; END_SCHEMA;", "schema refused S5 Circular"),
     ("SCHEMA s; TYPE t = REAL; END_TYPE; TYPE u = SELECT (t); END_TYPE; TYPE v = u; END_TYPE; ENTITY a; SELF\\a.x : REAL; END_ENTITY; END_SCHEMA;", "schema refused S6 LeftOut"),
     ("SCHEMA s; TYPE t = STRING(0); END_TYPE; USE", "schema refused S7 Bounds"),
+    ("SCHEMA s; ENTITY u; x : foo; END_ENTITY; ENTITY a; END_ENTITY; ENTITY b SUBTYPE OF (a, a); END_ENTITY; END_SCHEMA;", "schema refused S3 Duplicate"),
+    ("SCHEMA s; ENTITY u; x : foo; END_ENTITY; TYPE t = ENUMERATION OF (x, y, x); END_TYPE; END_SCHEMA;", "schema refused S3 Duplicate"),
+    ("SCHEMA s; ENTITY u; x : foo; END_ENTITY; TYPE t = SELECT (u, u); END_TYPE; END_SCHEMA;", "schema refused S3 Duplicate"),
     # Bytes and literals
     ("(* not closed", "schema refused S1 Token"),
     ("SCHEMA s; (*) END_SCHEMA;", "schema refused S1 Token"),
@@ -904,6 +1043,13 @@ def of_instances():
     yield canon("a file of a converter", DEMO, CONVERTED, CONVERTED_CANONICAL)
 
 
+def far_apart():
+    """Two sections of three hundred names each that lie far from one another, in both orders."""
+    beside = [f"#{7919 * n + 1}=POINT($,{n}.,1.);" for n in range(1, 301)]
+    one, other = (f"DATA('{name}',('DEMO'));{''.join(lines)}ENDSEC;" for name, lines in (("a", FAR), ("b", beside)))
+    return f"{one}{other}{END}", f"{other}{one}{END}"
+
+
 def of_commands():
     """The rows of `check`, `show` and `same`."""
     point = file_of("DEMO", "#2 = POINT($, 1.0, 10.E-1);")
@@ -918,6 +1064,13 @@ def of_commands():
         ("a thousand instances", many, 1000, 152 + 9 * 19 + 90 * 20 + 900 * 21 + 22),
     ]:
         yield Case(f"check, {title}", "check", [DEMO, text], answered(f"accepted, instances {count}, canonical bytes {length}"))
+    for title, instances, refusals in [
+        ("a name again behind one that is refused", "#1=POINT();\n#1=POINT($,1.,1.);", ["45 Count in #1", "40 DuplicateName in #1"]),
+        ("a name twice again", "#1=POINT();\n#1=POINT();\n#1=POINT($,1.,1.);", ["45 Count in #1", *["40 DuplicateName in #1"] * 2]),
+        ("names again in external mapping", "#1=(SHAPE());\n#1=(SHAPE($)POINT(1.,2.));", ["42 Abstract in #1", "40 DuplicateName in #1"]),
+    ]:
+        lines = [*(f"refused {refusal}" for refusal in refusals), f"refusals {len(refusals)}", ""]
+        yield Case(f"check --all, {title}", "check_all", [DEMO, file_of("DEMO", instances)], ("", "\n".join(lines), 1))
     yield Case("show, there", "show", [DEMO, point], answered("#2=POINT($,1.,1.);"), ["--name", "2"])
     yield Case("show, not there", "show", [DEMO, point], answered("no #3"), ["--name", "3"])
     for first, second, answer in SAME:
@@ -926,6 +1079,8 @@ def of_commands():
         ("a second file of no byte", file_of("DEMO", ""), "", "second: refused 24 EndsEarly at statement 1"),
         ("sections in another order", two, behind_header("DEMO", f"{POINT_IN_A}{POINT_IN_B}{END}"), "same"),
         ("instances in each other's section", two, behind_header("DEMO", exchanged), "different"),
+        ("names far apart in two sections", *(behind_header("DEMO", sections) for sections in far_apart()), "same"),
+        ("a section with a name", behind_header("DEMO", f"{POINT_IN_A}{END}"), file_of("DEMO", "#2=POINT($,2.,1.);"), "different"),
         ("a section without a name", file_of("DEMO", ""), behind_header("DEMO", f"DATA('',('DEMO'));ENDSEC;{END}"), "different"),
         ("an integer and a real in the header", *(file_of("DEMO", "").replace(FILE_SCHEMA, f"{FILE_SCHEMA}A({x});") for x in ("1", "1.")), "different"),
         ("two names of the schema", file_of("DEMO", ""), file_of("demo", ""), "different"),

@@ -248,6 +248,14 @@ def references_to_a_large_set(n, folder):
     return Input(check(folder, declarations, ["#1=ZZ();\n", "#2=Q((" + ",".join(["#1"] * 8 * n) + "));\n"]), pairs=n, used=n)
 
 
+def references_to_large_sets_in_turn(n, folder):
+    """Two sets that have what is wanted at other places."""
+    names = numbered("e", n)
+    declarations = [*entities(names), "ENTITY w; END_ENTITY;\n", below_all("yy", [*names[: n // 2], "w"]), below_all("zz", [*names, "w"])]
+    lines = ["#1=YY();\n", "#2=ZZ();\n", "#3=Q((" + ",".join(["#1,#2"] * 4 * n) + "));\n"]
+    return Input(check(folder, [*declarations, "ENTITY q; x : LIST OF w; END_ENTITY;\n"], lines), pairs=2 * n, used=2 * n)
+
+
 def references_ahead_by_a_select(n, folder):
     names = numbered("e", n)
     declarations = [*entities(names), below_all("zz", names), "TYPE t = SELECT (zz, q); END_TYPE; ENTITY q; x : LIST OF t; END_ENTITY;\n"]

@@ -84,6 +84,7 @@ ROWS = [
     Row("chain_that_redeclares", 50, ENTITIES),
     *(Row(name, 200, ENTITIES // 2) for name in ("sections_with_a_large_set", "chain_in_use", "large_sets_in_turn")),
     *(Row(name, 200, ENTITIES // 2) for name in ("references_by_a_select", "references_to_a_large_set", "references_ahead_by_a_select")),
+    Row("references_to_large_sets_in_turn", 200, ENTITIES // 2),
     Row("sets_that_take_turns", 200),
     Row("sets_of_four", 1_000, 600_000),
     Row("colliding_sets", 500),

@@ -28,7 +28,13 @@ ONE_FILE = [
         ["show", file, "--name", "77"],
     )
 ]
-REFUSED = [["check", "demo.exp", "twice"], ["schema", "point"], ["check", "point", "point"]]
+REFUSED = [
+    ["check", "demo.exp", "twice"],
+    ["check", "demo.exp", "rows"],
+    ["schema", "point"],
+    ["check", "point", "point"],
+    ["schema", "unknown.exp"],
+]
 EVERY_REFUSAL = [
     ["check", "--all", "demo.exp", "several"],
     ["check", "--all", "--most", "2", "demo.exp", "several"],
@@ -36,6 +42,8 @@ EVERY_REFUSAL = [
     ["check", "--all", "demo.exp", "point"],
     ["check", "--all", "point", "point"],
 ]
+LONG = [["canon", "kinds.exp", "kinds"], ["check", "--all", "kinds.exp", "kinds"]]
+HARDER_SCHEMAS = [["schema", name] for name in ("unknown.exp", "circular.exp", "anew.exp")] + [["canon", "wide.exp", "wide"]]
 TWO_FILES = [
     ["same", "demo.exp", *files]
     for files in (
@@ -66,12 +74,17 @@ WORDS = [
 PARTS = {
     "param": TEXTS,
     "schema": SCHEMAS,
+    "refused and wide schemas": HARDER_SCHEMAS,
+    "long values": LONG,
     "check, canon, show": ONE_FILE,
     "refusals": REFUSED,
     "every refusal": EVERY_REFUSAL,
     "same": TWO_FILES,
     "help and usage": WORDS,
 }
+
+# The part whose files are read byte by byte too, so that tokens are put together from pieces.
+BYTE_BY_BYTE_TOO = "long values"
 
 # Two files of 200 instances with one meaning, the second with each name early and other spellings.
 MANY = file_of(
@@ -93,6 +106,15 @@ SEVERAL = file_of(
     "#1=POINT($,1.,1.);\n#2=POINT($,1.);\n#3=CLOUD((#1,#2,#9),(),(TALLY(1)));\n#1=POINT($,2.,2.);\n#4=CLOUD((#3),(),(TALLY(1)));\n"
     + "".join(f"#{k}=POINT($,1.);\n#{k + 100}=CLOUD((#{k + 200}),(),(TALLY(1)));\n" for k in range(10, 30))
 )
+
+# A schema with a name that isn't declared: what comes first of several refusals is looked for in all of it.
+UNKNOWN = """SCHEMA unknown;
+ENTITY e; x, y : NUMBER; z : nothing; END_ENTITY;
+ENTITY f SUBTYPE OF (e); SELF\\e.x : INTEGER; DERIVE SELF\\e.y : REAL := 0.0; END_ENTITY;
+TYPE t = ENUMERATION OF (a, b); END_TYPE;
+TYPE u = SELECT (e, f); END_TYPE;
+END_SCHEMA;
+"""
 
 
 SUGGESTIONS = "of words like a mistaken one"
@@ -149,11 +171,12 @@ def in_turn(rigged, refusing, parts):
     """Each allocation of each run refused, alone and with all behind it."""
     for part in parts or PARTS:
         for arguments in PARTS[part]:
-            plain, counts = rigged.failing(arguments)
-            for on in (0, 1):
-                for at in range(1, counts.allocations + 1):
-                    name = f"{' '.join(arguments)!r}, allocation {at}{' and on' if on else ''}"
-                    refusing.run(name, plain, arguments, REFUSE=at, REFUSE_ON=on)
+            for most in (0, 1) if part == BYTE_BY_BYTE_TOO else (0,):
+                plain, counts = rigged.failing(arguments, READ_MOST=most)
+                for on in (0, 1):
+                    for at in range(1, counts.allocations + 1):
+                        name = f"{' '.join(arguments)!r}, allocation {at}{' and on' if on else ''}{', byte by byte' * most}"
+                        refusing.run(name, plain, arguments, REFUSE=at, REFUSE_ON=on, READ_MOST=most)
         refusing.part(f"{part}, each allocation refused")
 
 
@@ -189,6 +212,7 @@ def main():
         rigged.write("many", MANY)
         rigged.write("many.rising", MANY_RISING)
         rigged.write("several", SEVERAL)
+        rigged.write("unknown.exp", UNKNOWN)
         refusing = Refusing(rigged, tally)
         in_turn(rigged, refusing, sys.argv[1:])
         if not sys.argv[1:]:

@@ -91,8 +91,71 @@ ENTITY other SUBTYPE OF (root); END_ENTITY;
 END_SCHEMA;
 """
 
+# A schema in which many things are looked for before its refusal is found: a name that isn't declared, or what takes itself as its
+# supertype.
+UNKNOWN = """SCHEMA late;
+TYPE t = ENUMERATION OF (i, j); END_TYPE;
+TYPE u = SELECT (a, t); END_TYPE;
+ENTITY a SUPERTYPE OF (ONEOF (b, d)); x, y : REAL; DERIVE z : REAL := 1; END_ENTITY;
+ENTITY b SUBTYPE OF (a); SELF\\a.x : REAL; DERIVE SELF\\a.y : REAL := 1; END_ENTITY;
+ENTITY c SUBTYPE OF (b); SELF\\b.x : REAL; END_ENTITY;
+ENTITY d SUBTYPE OF (a); v : LIST OF foo; END_ENTITY;
+END_SCHEMA;
+"""
+CIRCULAR = UNKNOWN.replace("LIST OF foo", "LIST OF u").replace("ENTITY c SUBTYPE OF (b)", "ENTITY c SUBTYPE OF (b, c)")
+ANEW_TWICE = UNKNOWN.replace("SELF\\b.x : REAL;", "SELF\\b.x : REAL; SELF\\a.x : REAL;")
+
+
+def wide_schema(count):
+    """A schema in which an entity has so many supertypes, of which one has as many below it, and another many attributes."""
+    many = [f"ENTITY r{n}; x{n} : OPTIONAL REAL; END_ENTITY;\n" for n in range(count)]
+    chain = [f"ENTITY s{n} SUBTYPE OF ({f's{n - 1}' if n else 'r0'}); END_ENTITY;\n" for n in range(count)]
+    attributes = ", ".join(f"y{n}" for n in range(20))
+    return (
+        f"SCHEMA wide;\n{''.join(many)}{''.join(chain)}ENTITY z SUBTYPE OF ({', '.join(f'r{n}' for n in range(count))}); END_ENTITY;\n"
+        f"ENTITY y SUBTYPE OF (z); DERIVE SELF\\z.x7 : REAL := 1; END_ENTITY;\nENTITY q SUBTYPE OF (s{count - 1}, r1); END_ENTITY;\n"
+        f"ENTITY w; {attributes} : REAL; END_ENTITY;\nENTITY v SUBTYPE OF (w); SELF\\w.y9 : INTEGER; END_ENTITY;\n"
+        "ENTITY k; END_ENTITY;\nTYPE some = SELECT (r5, k); END_TYPE;\n"
+        "ENTITY to; one : OPTIONAL z; more : LIST OF r3; any : OPTIONAL some; END_ENTITY;\nEND_SCHEMA;\n"
+    )
+
+
+def wide_file(count):
+    """A file of that schema: references in front of what they name, in external mapping and not."""
+    parts = "".join(sorted(f"R{n}($)" for n in range(count)))
+    return file_of(
+        f"#1=TO(#4,(#3,#4),#3);\n#2=TO($,(#3),#5);\n#3=({parts});\n#4=({parts}Z());\n#5=K();\n#6=({parts.replace('R7($)', 'R7(*)')}Y()Z());\n"
+    ).replace("'DEMO'", "'WIDE'")
+
+
+WIDE = 66
+
+# Tokens and values of every kind that are longer than what lies in place, spelled as usual and not, and such names.
+LONG_WORD = "A_WORD_OF_MORE_THAN_TWENTY_FOUR_LETTERS"
+LONG_KINDS = f"""SCHEMA demo;
+TYPE {LONG_WORD}_T = REAL; END_TYPE;
+TYPE e = ENUMERATION OF ({LONG_WORD}); END_TYPE;
+TYPE s = SELECT ({LONG_WORD}_T, e); END_TYPE;
+ENTITY {LONG_WORD}_E; a : INTEGER; b : REAL; c : BINARY; d : e; f : s; g : STRING; h : SET OF STRING; END_ENTITY;
+END_SCHEMA;
+"""
+LONG_DIGITS = "1234567890" * 4
+LONG_VALUES = file_of(
+    f"#1={LONG_WORD}_E({LONG_DIGITS},{LONG_DIGITS}.{LONG_DIGITS}E-12,\"0{LONG_DIGITS}\",.{LONG_WORD}.,{LONG_WORD}_T({LONG_DIGITS}.5),"
+    f"'{LONG_DIGITS}\\X2\\00E900E8\\X0\\\u00e9',('{LONG_DIGITS}b','{LONG_DIGITS}a'));\n"
+    f"#2 = {LONG_WORD}_E ( -{LONG_DIGITS} , {LONG_DIGITS}. , \"0{LONG_DIGITS}\" , .{LONG_WORD}. , {LONG_WORD}_T ( {LONG_DIGITS}.5 ) , "
+    f"'{LONG_DIGITS}\\X2\\00E900E8\\X0\\\u00e9' , ( '{LONG_DIGITS}b' , '{LONG_DIGITS}a' ) ) ;\n"
+).replace("ENDSEC;", f"!{LONG_WORD}(.{LONG_WORD}.,\"0{LONG_DIGITS}\",{LONG_DIGITS});\nENDSEC;", 1)
+
 # Each file by its name.
 FILES = {
+    "kinds.exp": LONG_KINDS,
+    "kinds": LONG_VALUES,
+    "unknown.exp": UNKNOWN,
+    "circular.exp": CIRCULAR,
+    "anew.exp": ANEW_TWICE,
+    "wide.exp": wide_schema(WIDE),
+    "wide": wide_file(WIDE),
     "demo.exp": DEMO,
     "long.exp": LONG_NAMES,
     "ladder.exp": ladder(),
@@ -107,6 +170,8 @@ FILES = {
     "sections": SECTIONS,
     "late": file_of("#9=CLOUD((#3,#2),(),(TALLY(1)));\n#3=POINT('a',1.,1.);\n#2=POINT($,1.,1.);\n"),
     "long": LONG,
+    # Rows of several lengths, with a list at their end
+    "rows": file_of(f"#1=POINT(({'1,' * 33}(1),(1,2,3,(4)),A(({'1,' * 17}(1),2))),{'1,' * 9}(1));\n"),
     "twice": file_of("#1=POINT($,1.,1.);\n#1=POINT($,1.,1.);\n"),
 }
 

@@ -14,6 +14,7 @@ from rigged import Answer, Rigged, Tally
 MANY = 100_000
 LARGEST_TEXT = 16_777_216
 MOST_DECLARATIONS = 65_535
+MOST_SECTIONS_OF_TWO_BYTES = 65_536
 LARGEST_NUMBER = 2**32 - 1
 DEEPEST = 64
 
@@ -51,6 +52,12 @@ def many_instances(rigged, tally):
     tally.check("10,000 sections", canonical.output.count(b"DATA('"), 10_000)
     rigged.write("canonical", canonical.output)
     tally.check("10,000 sections again", rigged.answer(["canon", "demo.exp", "canonical"]), canonical)
+    # So many that a section has a number of more than two bytes.
+    sections = "".join(f"DATA('{name:05}',('DEMO'));\n#{name}=POINT($,1.,1.);\nENDSEC;\n" for name in range(MOST_SECTIONS_OF_TWO_BYTES + 100))
+    text = f"{HEAD}{sections}END-ISO-10303-21;\n"
+    rigged.write("sections", text)
+    found = rigged.answer(["check", "demo.exp", "sections"])
+    tally.check("more sections", found, answered(f"accepted, instances {MOST_SECTIONS_OF_TWO_BYTES + 100}, canonical bytes {len(text)}\n"))
     tally.part("many instances")
 
 

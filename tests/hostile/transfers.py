@@ -7,7 +7,7 @@ names the program.
 
 import errno
 
-from cases import CONVERTED, CONVERTED_CANONICAL, DEMO, FILES, write_all
+from cases import CONVERTED, CONVERTED_CANONICAL, DEMO, FILES, HEAD, write_all
 from rigged import READ_FAULT, Answer, Rigged, Tally
 
 CANONICAL = Answer(0, CONVERTED_CANONICAL.encode(), b"")
@@ -170,6 +170,30 @@ COMPLAINING = [
 MISTAKEN = [["frob"], ["check", "demo.exp"]]
 
 
+def long_lines():
+    """Files with canonical lines that are longer than what is kept back before it is written: two in the header, those of the
+    sections, those of the instances, and all."""
+    long = "a" * 70_000
+    header = HEAD.replace("((''),", "(('{0}'),", 1).replace("'DEMO'", "'DEMO {1}'")
+    sections = "".join(f"DATA('{{2}}{name}',('DEMO'));\n#{number}=POINT('{{3}}',1.,1.);\nENDSEC;\n" for number, name in enumerate("ab", 1))
+    for place in range(5):
+        yield f"{header}{sections}END-ISO-10303-21;\n".format(*(long if place in (at, 4) else "" for at in range(4)))
+
+
+def failing_long_lines(rigged, tally):
+    """Each write fails, where lines are written by themselves."""
+    for place, text in enumerate(long_lines()):
+        rigged.write("lines", text)
+        words = ["canon", "demo.exp", "lines"]
+        whole, counts = rigged.failing(words)
+        tally.check(f"long lines {place}", whole, Answer(0, text.encode(), b""))
+        for at in range(1, counts.writes + 1):
+            found, _ = rigged.failing(words, WRITE_FAILS=at)
+            tally.check(f"long lines {place}, write {at}", found._replace(output=text.encode().startswith(found.output)), Answer(3, True, b"write fault\n"))
+        tally.check(f"long lines {place}, short writes", rigged.failing(words, WRITE_MOST=1000)[0], whole)
+    tally.part("each write of long lines fails")
+
+
 def failing_complaints(rigged, tally):
     """The line of a refusal can't be written: status 3, and nothing on the other stream."""
     for arguments in COMPLAINING + MISTAKEN:
@@ -192,6 +216,7 @@ def main():
         failing_reads(rigged, tally)
         ending_reads(rigged, tally)
         failing_writes(rigged, tally)
+        failing_long_lines(rigged, tally)
         failing_complaints(rigged, tally)
     tally.end()
 

@@ -5,3 +5,5 @@
 mod declarations;
 #[cfg(test)]
 mod lexemes;
+#[cfg(test)]
+mod names;

@@ -295,3 +295,27 @@ const FAILED: Waitings = &[
 fn has_no_bytes_wait_behind_a_fault(rt: HostRuntime) {
     assert_eq!(rt; wrong_wait(b"ISO-10303-21;", (3, 4), FAILED, 9), "none");
 }
+
+const PUSHED_OUT: Waitings = &[
+    ("bytes that wait", Waits::Put(0, 60_000), true, (0, 0)),
+    (
+        "more than there is room",
+        Waits::Put(60_000, 70_000),
+        false,
+        (1, 1),
+    ),
+    ("nothing that waits", Waits::Flush, true, (1, 1)),
+];
+
+/// The writer is full when bytes that wait make room for more.
+fn wrong_of_pushed_out(alloc: Global) -> &'static str {
+    match vec![in alloc; b'x'; 70_000] {
+        Ok(text) => wrong_wait(&text, (100_000, 50_000), PUSHED_OUT, 20_000),
+        Err(_) => "the text itself",
+    }
+}
+
+#[test]
+fn has_no_more_bytes_wait_behind_a_fault(rt: HostRuntime) {
+    assert_eq!(rt; wrong_of_pushed_out(rt.alloc()), "none");
+}

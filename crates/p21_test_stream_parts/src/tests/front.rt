@@ -102,6 +102,11 @@ const FILES: Files = &[
     ),
     ("an open string", &[(b"'a", 0, [2, 0])], Err(2)),
     ("a last token", &[(b"HEADER", 0, [6, 0])], Err(24)),
+    (
+        "a last token that no statement has there",
+        &[(BEGUN, 6, [0, 0]), (b"DATA;#1=POINT 5", 1, [9, 0])],
+        Err(24),
+    ),
 ];
 
 #[test]
