@@ -398,6 +398,10 @@ if [ -w /dev/full ]; then
     status=$?
     expect 'a list that cannot be written' 3 '' 'write fault'
 
+    "$program" faults 11 > /dev/full 2> "$here/error"
+    status=$?
+    expect 'an explanation that cannot be written' 3 '' 'write fault'
+
     "$program" --help > /dev/full 2> "$here/error"
     status=$?
     expect 'help that cannot be written' 3 '' 'write fault'

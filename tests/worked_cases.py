@@ -359,6 +359,9 @@ SCHEMAS |= {"TWICE": TWICE, "LISTS": LISTS, "MANY": MANY, "CHAIN": CHAIN}
 POINTS = "".join(f"#{n}=POINT($,1.,1.);\n" for n in range(2, 2002))
 MEMBERS = ",".join(f"#{n}" for n in range(2, 2002))
 
+# Backslashes in a string that begin no directive.
+NO_DIRECTIVES = ["\\S\\\x1f", "\\S\\\u00e9", "\\X2\\\\X0\\", "\\X2A", "\\X4A", "\\X3\\", "\\XA", "\\SA", "\\PB\\", "\\PAA"]
+
 # Of each schema: what stands between `DATA;` and `ENDSEC;`, and the refusal, or what stands there in the canonical file.
 INSTANCES = {
     "DEMO": [
@@ -446,7 +449,7 @@ INSTANCES = {
         ("#1=POINT($," + "A(" * 64 + "1" + ")" * 64 + ",1.);", "refused 49 WrongKind in #1"),
         ("#1=POINT($," + "A(" * 65 + "1" + ")" * 65 + ",1.);", "refused 21 TooDeep at statement 8"),
         ("#1=POINT('it''s \\X2\\00E9\\X0\\',1.E2,2.)/**/;", "#1=POINT('it''s \\X2\\00E9\\X0\\',1.E2,2.);"),
-        *((f"#1=POINT('{directive}',1.,1.);", "refused 4 BadDirective at statement 8") for directive in ("\\S\\\x1f", "\\S\\\u00e9", "\\X2\\\\X0\\", "\\PB\\")),
+        *((f"#1=POINT('{directive}',1.,1.);", "refused 4 BadDirective at statement 8") for directive in NO_DIRECTIVES),
         ("#1=&SCOPE", "refused 26 LeftOut(Scope) at statement 8"),
         ("\\N\\#1=POINT($,1.,1.);", "refused 1 BadByte at statement 8"),
         ("#1=!A();", "refused 26 LeftOut(UserKeyword) at statement 8"),

@@ -369,6 +369,16 @@ EDITS = [
         program=2,
     ),
     Edit(
+        "room.py",
+        [],
+        "the end of an instance is left out where the room for its line ends",
+        "crates/p21_transcribe_instance/src/end.rt",
+        "if !draft.append_prefix(bytes, 2) {\n        return None;\n    }",
+        "let _ = draft.append_prefix(bytes, 2);",
+        "TEXT, as it is",
+        program=2,
+    ),
+    Edit(
         "fuzz.py",
         ["--cases", "10000", "--seed", "1"],
         "one printable character of a string is written as a directive",

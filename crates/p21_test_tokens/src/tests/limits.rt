@@ -11,6 +11,7 @@ const KEPT: Rows = &[
     (5, 10, "12345/", "12345 end EndsEarly"),
     (5, 10, "'a\n\n'", "'a'"),
     (5, 10, "/*45678*/", ""),
+    (7, 14, "#12345;#12345;", "#12345 ; #12345 ;"),
     (2, 3, "12 ", "12"),
     (0, 4, "/**/", ""),
 ];
@@ -49,6 +50,8 @@ fn keeps_to_the_limits(rt: HostRuntime) {
 const PASSED: Rows = &[
     (5, 10, "12345;", "12345 RecordTooLong"),
     (5, 10, "123456", "RecordTooLong"),
+    (5, 10, "#12345", "RecordTooLong"),
+    (9, 5, "#12345", "FileTooLong"),
     (5, 10, "12345%", "12345 RecordTooLong"),
     (5, 10, "12345/%", "12345 BadByte"),
     (5, 10, "1234,,", "1234 , RecordTooLong"),
