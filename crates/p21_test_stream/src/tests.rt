@@ -33,6 +33,8 @@ enum Rows {
     // The same within limits of these numbers, and of the file without instances within many.
     Within([u64; 4], Frame, answers::Answers),
     Limited(limits::Limited, limits::Ranges),
+    // What a survey lists of instances within limits, the last of which ends the reading.
+    Surveyed(limits::Surveys),
     // Instances that are taken whole and byte by byte within limits, and long ones.
     Borders(Frame, ways::Ranges),
     Long(Frame, ways::Cases),
@@ -41,6 +43,7 @@ enum Rows {
     Texts(accepted::Texts),
     Writes(accepted::Writes),
     Reads(accepted::Reads),
+    Cursors(accepted::Cursors),
     // Files cut off and cut into pieces.
     CutOff(cuts::CutOff),
     Pieces(cuts::Files),
@@ -72,12 +75,14 @@ fn first_wrong_of(alloc: Global, schema: &Schema, rows: Rows) -> Wrong {
             answers::wrong_within(alloc, schema, limits, frame, rows)
         }
         Rows::Limited(limited, rows) => limits::wrong_limit(alloc, schema, limited, rows),
+        Rows::Surveyed(rows) => limits::wrong_survey(alloc, schema, rows),
         Rows::Borders(frame, rows) => ways::wrong_border(alloc, schema, frame, rows),
         Rows::Long(frame, rows) => ways::wrong_long(alloc, schema, frame, rows),
         Rows::Facts(rows) => accepted::wrong_fact(alloc, schema, rows),
         Rows::Texts(rows) => accepted::wrong_text(alloc, schema, rows),
         Rows::Writes(rows) => accepted::wrong_write(alloc, schema, rows),
         Rows::Reads(rows) => accepted::wrong_read(alloc, schema, rows),
+        Rows::Cursors(rows) => accepted::wrong_cursor(alloc, schema, rows),
         Rows::CutOff(rows) => cuts::wrong_end(alloc, schema, rows),
         Rows::Pieces(rows) => cuts::wrong_piece(alloc, schema, rows),
         Rows::Held(rows) => held::wrong_held(alloc, schema, rows),

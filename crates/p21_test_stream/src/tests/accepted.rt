@@ -172,6 +172,7 @@ const TEXTS: Texts = &[
     (POINT, DEMO, "#2 = POINT($, 1.0, 10.E-1);\n", false),
     (POINT, DEMO, "", false),
     ("", SECTIONS, DATA, true),
+    ("", SECTIONS, "DATA('a',('DEMO'));\nENDSEC;\n", false),
     (
         "",
         HEADER,
@@ -380,4 +381,51 @@ const READS: Reads = &[
 #[test]
 fn reads_its_text(rt: HostRuntime) {
     check(&rt, rt.alloc(), SHAPES, Rows::Reads(READS));
+}
+
+/// Cursors at places of the file without instances, by the numbers of their parts, lines and bytes, and what a large buffer gets
+/// from there on.
+pub(super) type Cursors = &'static [(&'static str, [usize; 3], &'static str)];
+
+fn reads_on(accepted: &Accepted, [part, line, byte]: [usize; 3], text: &[u8]) -> bool {
+    let mut buffer = [0; 512];
+    let mut cursor = Cursor { part, line, byte };
+    let count = accepted.read(&mut cursor, &mut buffer);
+    buffer.get(..count) == Some(text)
+}
+
+pub(super) fn wrong_cursor(alloc: Global, schema: &Schema, rows: Cursors) -> Wrong {
+    let Some(accepted) = accepted_of(alloc, schema, EMPTY.as_bytes()) else {
+        return Some(("the file", 0));
+    };
+    for (place, (name, numbers, text)) in rows.iter().enumerate() {
+        if !reads_on(&accepted, *numbers, text.as_bytes()) {
+            return Some((name, place));
+        }
+    }
+    None
+}
+
+const CURSORS: Cursors = &[
+    ("the header", [0, 0, 0], EMPTY),
+    (
+        "the data section",
+        [1, 0, 0],
+        "DATA;\nENDSEC;\nEND-ISO-10303-21;\n",
+    ),
+    (
+        "inside the data section",
+        [1, 0, 2],
+        "TA;\nENDSEC;\nEND-ISO-10303-21;\n",
+    ),
+    ("the end", [2, 0, 0], "END-ISO-10303-21;\n"),
+    ("behind the end", [2, 0, 18], ""),
+    ("behind the last part", [3, 0, 0], ""),
+    ("far behind the last part", [usize::MAX, 0, 0], ""),
+];
+
+/// A reading goes on from where a cursor stands, and finds nothing left behind the last part.
+#[test]
+fn reads_on_from_a_cursor(rt: HostRuntime) {
+    check(&rt, rt.alloc(), SHAPES, Rows::Cursors(CURSORS));
 }

@@ -1,7 +1,9 @@
 //! Answers where time or memory once grew by the square: of each shape that grows, a small file or one just past the number
 //! from which a table or a tree is asked, and what stands beside the first and the last.
+use super::accepted::Fact;
 use super::answers::Answers;
 use super::files::{DEMO, SECTIONS, SHAPES};
+use super::large::{Files, Many, Outcome};
 use super::{Rows, check};
 
 const NAMES: Answers = &[
@@ -435,7 +437,7 @@ ENTITY e64 SUBTYPE OF (e63); x : INTEGER; END_ENTITY; ENTITY e65 SUBTYPE OF (e64
 ENTITY f SUBTYPE OF (e17); END_ENTITY; ENTITY g SUBTYPE OF (e17); END_ENTITY; ENTITY h SUBTYPE OF (e17); END_ENTITY;
 ENTITY i; END_ENTITY; ENTITY o1 SUPERTYPE OF (ONEOF (f, h)); END_ENTITY; ENTITY o2 SUPERTYPE OF (ONEOF (e9)); END_ENTITY;
 ENTITY o3 SUPERTYPE OF (ONEOF (i, e3)); END_ENTITY;
-ENTITY link; first : e0; last : e65; END_ENTITY;
+ENTITY link; first : e0; last : e65; END_ENTITY; ENTITY tied; to : e9; END_ENTITY;
 END_SCHEMA;
 ";
 
@@ -473,6 +475,31 @@ const CHAIN: Answers = &[
 #[test]
 fn reads_a_long_chain(rt: HostRuntime) {
     check(&rt, rt.alloc(), CHAIN_SCHEMA, Rows::Answers(DEMO, CHAIN));
+}
+
+/// Many references to an instance whose set is so large that what serves is remembered.
+const TIED: Files = &[
+    (
+        "many references to one of 18 entities",
+        Many::Behind(
+            "E17(0,1,2,3,4,5,6,7,8,9,10,11,12,13,14,15,16,17)",
+            "TIED(#1)",
+        ),
+        Outcome::Accepted(Fact::Counts(1_101, 16_701)),
+    ),
+    (
+        "many references to one of 18 entities that is of another kind",
+        Many::Behind(
+            "E17(0,1,2,3,4,5,6,7,8,9,10,11,12,13,14,15,16,17)",
+            "LINK(#1,#1)",
+        ),
+        Outcome::Refused("refused 57 WrongTarget in #2"),
+    ),
+];
+
+#[test]
+fn serves_many_references_to_a_large_set(rt: HostRuntime) {
+    check(&rt, rt.alloc(), CHAIN_SCHEMA, Rows::Large(TIED));
 }
 
 /// Instances of more parts than are looked at one by one.

@@ -18,6 +18,8 @@ pub(super) enum Many {
     /// 8,501 references to instances behind them: the first to `#9998`, 4,500 to `#9999`, which stands behind these, and
     /// the others to `#9997`; and more behind all.
     Ahead(&'static str),
+    /// An instance, and 1,100 behind it, which all have the same record and name the first, `#1`.
+    Behind(&'static str, &'static str),
 }
 
 fn push_labelled(file: &mut String, step: u64) -> Result<(), AllocError> {
@@ -62,12 +64,21 @@ fn push_ahead(file: &mut String, more: &str) -> Result<(), AllocError> {
     file.push_str(more)
 }
 
+fn push_behind(file: &mut String, first: &str, others: &str) -> Result<(), AllocError> {
+    write!(file, "#1={first};")?;
+    for name in 2..1_102_u64 {
+        write!(file, "#{name}={others};")?;
+    }
+    Ok(())
+}
+
 fn push_lines(file: &mut String, lines: Many) -> Result<(), AllocError> {
     match lines {
         Many::Points => push_numbers(file, (1, 10_001), "#", "=POINT($,1.,1.);\n"),
         Many::Labelled(step) => push_labelled(file, step),
         Many::Cloud(more) => push_cloud(file, more),
         Many::Ahead(more) => push_ahead(file, more),
+        Many::Behind(first, others) => push_behind(file, first, others),
     }
 }
 
@@ -184,6 +195,39 @@ const AHEAD: Files = &[
 #[test]
 fn serves_many_references_ahead(rt: HostRuntime) {
     check(&rt, rt.alloc(), SHAPES, Rows::Large(AHEAD));
+}
+
+/// The entity that serves is another than the first of the set, it serves a select, or none does.
+const BEHIND: Files = &[
+    (
+        "many references to the second of three parts",
+        Many::Behind(
+            "(MARKED(.RED.)POINT(1.,2.)SHAPE($))",
+            "CLOUD((#1),(),(TALLY(1)))",
+        ),
+        Outcome::Accepted(Fact::Counts(1_101, 35_388)),
+    ),
+    (
+        "many references of a select",
+        Many::Behind("POINT($,1.,1.)", "CLOUD((),(),(#1))"),
+        Outcome::Accepted(Fact::Counts(1_101, 26_567)),
+    ),
+    (
+        "many references to one of the wrong kind",
+        Many::Behind("MARKED($,.RED.)", "CLOUD((#1),(),(TALLY(1)))"),
+        Outcome::Refused("refused 57 WrongTarget in #2"),
+    ),
+    (
+        "many references of a select to one of the wrong kind",
+        Many::Behind("MARKED($,.RED.)", "CLOUD((),(),(#1))"),
+        Outcome::Refused("refused 57 WrongTarget in #2"),
+    ),
+];
+
+/// So many references wait that they are looked at on the way, with the instance that they name in front of them.
+#[test]
+fn serves_many_references_back(rt: HostRuntime) {
+    check(&rt, rt.alloc(), SHAPES, Rows::Large(BEHIND));
 }
 
 #[test]

@@ -1,8 +1,8 @@
 //! Limits on statements, on files and on their canonical forms.
-use super::answers::{Answers, Wanted, comes};
-use super::files::{DEMO, EMPTY, ENDED, OPEN, SHAPES};
+use super::answers::{Answers, Wanted, comes, is_line};
+use super::files::{DEMO, EMPTY, ENDED, OPEN, SECTIONS, SHAPES, framed};
 use super::{Rows, Wrong, check};
-use p21_stream::{Limits, Schema};
+use p21_stream::{Extent, Limits, Refusal, Schema, Surveyed, Watched, survey};
 use std::alloc::Global;
 
 const RECORDS: Answers = &[
@@ -60,6 +60,130 @@ fn limits_canonical_files(rt: HostRuntime) {
         SHAPES,
         Rows::Within([100, 100, 1000, 151], ENDED, CANONICAL_FILES),
     );
+}
+
+/// The last bytes of the canonical heading are the last ones that its limit allows, or they are one too many.
+const HEADINGS: Answers = &[
+    (
+        "DATA('123456789012345678',('DEMO'));ENDSEC;",
+        "DATA('123456789012345678',('DEMO'));\nENDSEC;\n",
+    ),
+    (
+        "DATA('1234567890123456789',('DEMO'));ENDSEC;",
+        "refused 27 CanonicalTooLong at statement 7",
+    ),
+    (
+        "DATA('é123456',('DEMO'));ENDSEC;",
+        "DATA('\\X2\\00E9\\X0\\123456',('DEMO'));\nENDSEC;\n",
+    ),
+    (
+        "DATA('é1234567',('DEMO'));ENDSEC;",
+        "refused 27 CanonicalTooLong at statement 7",
+    ),
+];
+
+#[test]
+fn limits_headings(rt: HostRuntime) {
+    check(
+        &rt,
+        rt.alloc(),
+        SHAPES,
+        Rows::Within([100, 36, 1000, 1000], SECTIONS, HEADINGS),
+    );
+}
+
+const HEADINGS_OF_FILES: Answers = &[(
+    "DATA('a',('DEMO'));ENDSEC;",
+    "refused 27 CanonicalTooLong at statement 7",
+)];
+
+#[test]
+fn limits_canonical_files_at_headings(rt: HostRuntime) {
+    check(
+        &rt,
+        rt.alloc(),
+        SHAPES,
+        Rows::Within([100, 100, 1000, 139], SECTIONS, HEADINGS_OF_FILES),
+    );
+}
+
+/// Limits, instances, and the refusals that a survey lists, the last of which ends the reading.
+pub(super) type Surveys = &'static [([u64; 4], &'static str, &'static [&'static str])];
+
+fn are_lines(alloc: Global, refusals: &[Refusal], lines: &[&str]) -> bool {
+    for (refusal, line) in refusals.iter().zip(lines.iter()) {
+        if !is_line(alloc, *refusal, line) {
+            return false;
+        }
+    }
+    refusals.len() == lines.len()
+}
+
+fn lists(alloc: Global, schema: &Schema, limits: Limits, file: &[u8], lines: &[&str]) -> bool {
+    let mut reader = Watched::new(file);
+    match survey(alloc, schema, limits, u64::MAX, &mut reader) {
+        Ok(Surveyed::Refused(refusals)) => {
+            refusals.extent == Extent::Part && are_lines(alloc, &refusals.list, lines)
+        }
+        _ => false,
+    }
+}
+
+fn lists_within(
+    alloc: Global,
+    schema: &Schema,
+    [a, b, c, d]: [u64; 4],
+    text: &str,
+    lines: &[&str],
+) -> Option<bool> {
+    let limits = Limits::new(a, b, c, d)?;
+    let file = framed(alloc, DEMO, text.as_bytes())?;
+    Some(lists(alloc, schema, limits, &file, lines))
+}
+
+pub(super) fn wrong_survey(alloc: Global, schema: &Schema, rows: Surveys) -> Wrong {
+    for (place, (limits, text, lines)) in rows.iter().enumerate() {
+        if lists_within(alloc, schema, *limits, text, lines) != Some(true) {
+            return Some((text, place));
+        }
+    }
+    None
+}
+
+const SURVEYS: Surveys = &[
+    (
+        [50, 40, 1000, 1000],
+        "#2=POINT('a',1.00000000,1.000000000000000000000000000000);",
+        &["refused 22 RecordTooLong at statement 8"],
+    ),
+    (
+        [50, 40, 1000, 1000],
+        "#1=POINT($,1.);#2=POINT('a',1.00000000,1.000000000000000000000000000000);",
+        &[
+            "refused 45 Count in #1",
+            "refused 22 RecordTooLong at statement 9",
+        ],
+    ),
+    (
+        [50, 40, 1000, 1000],
+        "#2=POINT('éé',1.,1.);",
+        &["refused 27 CanonicalTooLong at statement 8"],
+    ),
+    (
+        [100, 100, 143, 143],
+        "#1=POINT($,1.,1.);",
+        &["refused 23 FileTooLong at statement 8"],
+    ),
+    (
+        [100, 100, 1000, 144],
+        "#1=POINT($,1.,1.);",
+        &["refused 27 CanonicalTooLong at statement 8"],
+    ),
+];
+
+#[test]
+fn limits_surveys(rt: HostRuntime) {
+    check(&rt, rt.alloc(), SHAPES, Rows::Surveyed(SURVEYS));
 }
 
 const BEHIND_TOKENS: Answers = &[
