@@ -19,7 +19,6 @@ FOUND_BY = {
     "bound": "A bound or a condition of a call",
     "condition": "A bound or a condition of a call",
     "test": "A test",
-    "equivalent": "Nothing changes",
     "nothing": "Nothing",
     "not": "Not tried",
 }

@@ -1,4 +1,4 @@
-//! Schema texts read as lexemes and as declarations, each with what comes of it, as tests.
+//! Schema texts read as lexemes and as declarations, and the names that these declare, each with what comes of it, as tests.
 #![tactic(auto)]
 
 #[cfg(test)]
