@@ -74,17 +74,18 @@ class Watch(threading.Thread):
         return sums
 
 
-def write(sums, clock, last, edits):
+def write(sums, clock, last, edits, commit):
     total = collections.Counter()
     for row in sums.values():
         total.update(row)
     whole = sum(total.values())
+    busy = whole / (clock * os.cpu_count())
     lines = [
         "# What the gate costs",
         "",
-        f"Made by `benchmarks/gate.py` on {datetime.date.today():%-d %B %Y}, on {os.cpu_count()} processors: `rt ci` from nothing took",
+        f"Made by `benchmarks/gate.py` on {datetime.date.today():%-d %B %Y}, on {os.cpu_count()} processors, over commit {commit}: `rt ci` from nothing took",
         f"{clock / 60:.0f} minutes by the clock and {whole:,.0f} seconds of a processor, and ended with `{last}`.",
-        f"The processors were busy for {100 * whole / (clock * os.cpu_count()):.0f} per cent of that time; two take {whole / 120:.0f} minutes at least.",
+        f"The processors were busy for {100 * busy:.0f} per cent of that time. Two take {whole / 120:.0f} minutes at least, and {whole / 120 / busy:.0f} where they are no busier.",
         "",
         "Seconds of a processor. The first wrong body of a crate costs the crate's proof once more.",
         "",
@@ -111,6 +112,7 @@ def main():
     clone = tempfile.mkdtemp()
     folder = f"{clone}/p21"
     subprocess.run(["git", "clone", "--quiet", ROOT, folder], check=True)
+    commit = subprocess.run(["git", "rev-parse", "--short", "HEAD"], cwd=folder, capture_output=True, text=True, check=True).stdout.strip()
     watch = Watch(folder)
     watch.start()
     begun = time.monotonic()
@@ -124,7 +126,7 @@ def main():
     watch.ended.set()
     watch.join()
     last = text(log).decode(errors="replace").rstrip().rpartition("\n")[2]
-    write(watch.table(), clock, last, edits_in(folder))
+    write(watch.table(), clock, last, edits_in(folder), commit)
     shutil.rmtree(clone)
     print(f"{last}; {clock:.0f} s; docs/dev/GATE.md is written")
 

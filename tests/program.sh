@@ -177,6 +177,11 @@ expect 'every refusal, with a schema that is refused' 1 '' 'schema refused S2 Sy
 
 run check --most 0 "$demo" "$here/several"
 expect 'no refusals asked for' 2 '' "error: invalid value '0' for '--most <N>'*"
+# How the number of an instance is written is said of that number alone.
+if grep -q '18 for #18' "$here/error"; then
+    echo 'no refusals asked for: how the number of an instance is written is said' >&2
+    failed=1
+fi
 
 # The large run: 100,000 points.
 file "$(seq 100000 | sed 's/.*/#&=POINT($,1.,1.);/')" > "$here/large"

@@ -138,9 +138,21 @@ def checked(rt, crate, texts, kept):
         words = [rt.rtlib.RATTLE, "check", *crate.words(["--jobs", "1"], keeps=False), "--incremental", kept]
         how = {"cwd": room, "stdin": subprocess.DEVNULL, "stdout": subprocess.PIPE, "stderr": subprocess.STDOUT, "errors": "replace"}
         try:
-            return subprocess.run([*rt.rtlib.guarded(), *words], timeout=SECONDS, check=False, **how).stdout.rstrip("\n").split("\n")
+            ran = subprocess.run([*rt.rtlib.guarded(), *words], timeout=SECONDS, check=False, **how)
+            return messages(ran.stdout.rstrip("\n").split("\n"))
         except subprocess.TimeoutExpired:
             return None
+
+
+def messages(lines):
+    """What the prover says, a line for each message: a line that begins with two blanks goes on with the one in front of it."""
+    found = []
+    for line in lines:
+        if line.startswith("  ") and found:
+            found[-1] += line
+        else:
+            found.append(line)
+    return found
 
 
 def is_of(path, function):

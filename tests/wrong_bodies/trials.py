@@ -14,9 +14,9 @@ What the record has over the sources as they stand is not tried again, and a lin
 tried, so that a run that is broken off goes on where it was. Where the prover refuses an edit only because a proof names
 what the edit took away, no clause was tried: the line ends with `by_name`, and the edit isn't shown to be refused.
 
-Where the toolchain keeps proofs, `rt ci CRATE` tries the edits of a crate together, over one proof of the crate. Elsewhere
-many are tried in one check (together.py), over what `rt check` or `rt lib` left in the crate's `out`; where there is nothing,
-the crate is proved first. An edit takes a few seconds of a processor, and by itself 8 to 50.
+Over what `rt check` or `rt lib` left in the crate's `out` many edits are tried in one check (together.py): an edit takes a few
+seconds of a processor, and by itself 8 to 50. Where nothing is left there, `rt ci CRATE` tries the edits of a crate together, over
+one proof of the crate; a toolchain that keeps no proofs proves the crate first.
 """
 
 import contextlib
@@ -139,7 +139,19 @@ def tool():
     made = importlib.util.module_from_spec(importlib.util.spec_from_loader("rt", loader))
     sys.modules["rt"] = made
     loader.exec_module(made)
+    made.checked = with_whole_messages(made.checked)
     return made
+
+
+def with_whole_messages(check):
+    """A check that says each message in one line, so that one which goes on about a name in its second line is known as such."""
+
+    def checked(*given):
+        ran = check(*given)
+        ran.stdout = "\n".join(together.messages(ran.stdout.split("\n")))
+        return ran
+
+    return checked
 
 
 def copy_of_crates(folder):
@@ -170,10 +182,15 @@ def said_by_gate(folder, crate, paths):
         yield path, f"must-fail {crate}/{path.name}: NOT TRIED: {last}"
 
 
+def has_kept_work(crate):
+    """Whether a check left its work in a crate's `out`."""
+    return (CRATES / crate / "out" / "incremental").is_dir()
+
+
 def said_by_prover(crate, paths):
     """What the prover says of edits of one crate, many in one check, over the kept work of the crate."""
     rt = tool()
-    if not (CRATES / crate / "out" / "incremental").is_dir():
+    if not has_kept_work(crate):
         subprocess.run(["rt", "check"], cwd=CRATES / crate, stdout=subprocess.DEVNULL, check=True)
     found = next(it for it in rt.rtlib.crates_below(str(ROOT)) if it.name == crate)
     with tempfile.TemporaryDirectory() as room:
@@ -197,7 +214,8 @@ def try_all(trials):
     with tempfile.TemporaryDirectory() as room:
         copy = copy_of_crates(pathlib.Path(room)) if keeps_proofs() else None
         for crate, paths in of_crates.items():
-            for path, said in said_by_gate(copy, crate, paths) if copy else said_by_prover(crate, paths):
+            by_gate = copy and not has_kept_work(crate)
+            for path, said in said_by_gate(copy, crate, paths) if by_gate else said_by_prover(crate, paths):
                 print(said, flush=True)
                 note(crate, path.stem, entry_of(said, crate, path))
 
