@@ -1,7 +1,7 @@
 //! Readers that fail, schemas that are refused, and what is read at all.
 use crate::devices::{Behind, SmallReader};
-use crate::run::Left::{self, Refusal};
-use crate::run::{AMPLE_ROOMS, READ_FAULT, canon, check, same, show};
+use crate::run::Left::{self, Failure, Refusal};
+use crate::run::{AMPLE_ROOMS, READ_FAULT, canon, check, check_all, same, show};
 use crate::schemas::{DEMO, EMPTY};
 use std::alloc::Global;
 
@@ -139,6 +139,18 @@ fn refuses_first(alloc: Global) -> bool {
     run.is(Refusal("refused 20 Unexpected at statement 3\n"))
 }
 
+/// The file without instances up to its data section, with an instance that is refused.
+const BEGUN: &str =
+    "ISO-10303-21;HEADER;FILE_DESCRIPTION((''),'2;1');FILE_NAME('','',(''),(''),'','','');FILE_SCHEMA(('DEMO'));ENDSEC;DATA;#1=POINT($,1.);";
+
+/// Whether a refusal is listed behind which the reader fails.
+fn lists_before_it_fails(alloc: Global) -> bool {
+    let schema = &mut DEMO.as_bytes();
+    let run = check_all(alloc, schema, failing(BEGUN, 100), u64::MAX, AMPLE_ROOMS);
+    let lines = "refused 45 Count in #1\nread fault\nrefusals 1, the rest was not read\n";
+    run.is(Failure("", lines))
+}
+
 /// The reads that gave bytes of a file that fails, and those that failed: none where something else is left.
 fn reads_under(alloc: Global, schema: &str, left: Left) -> Option<(u64, u64)> {
     let run = check(alloc, &mut schema.as_bytes(), failing_file(0), AMPLE_ROOMS);
@@ -155,6 +167,9 @@ fn reads_of_both(alloc: Global, first: &str) -> (u64, u64) {
 fn first_broken(alloc: Global) -> &'static str {
     if !refuses_first(alloc) {
         return "a file is refused before its reader fails";
+    }
+    if !lists_before_it_fails(alloc) {
+        return "a refusal is listed behind which the reader fails";
     }
     let line = "schema refused S2 Syntax\n";
     if reads_under(alloc, "SCHEMA s; END_SCHEMA", Refusal(line)) != Some((0, 0)) {

@@ -3,7 +3,7 @@ use crate::run::Command::CheckAll;
 use crate::run::Left::{Answer, Failure, Refusal};
 use crate::run::Row::{Leaves, LeavesIn};
 use crate::run::{AMPLE, Rows, first_wrong};
-use crate::schemas::File::Lines;
+use crate::schemas::File::{Lines, Replaced};
 
 /// No bound.
 const ALL: u64 = u64::MAX;
@@ -76,6 +76,11 @@ const ROWS: Rows = &[
         CheckAll(ALL),
         Lines("#1=point();\n"),
         Refusal("refused 1 BadByte at statement 8\nrefusals 1, the rest was not read\n"),
+    ),
+    Leaves(
+        CheckAll(ALL),
+        Replaced("END-ISO-10303-21;\n", ""),
+        Refusal("refused 24 EndsEarly at statement 9\nrefusals 1, the rest was not read\n"),
     ),
     // so many, of records and of references
     Leaves(

@@ -109,15 +109,18 @@ fn prints_schemas(rt: HostRuntime) {
     assert_eq!(rt; first_wrong(rt.alloc(), ROWS), "none");
 }
 
+/// So many entities that their lines have more bytes than a piece.
+const MANY: u32 = 10_000;
+
 fn push_entities(text: &mut String) -> Result<(), AllocError> {
     text.push_str("SCHEMA many;")?;
-    push_numbered(text, 0..5000, "ENTITY e", "; END_ENTITY;")?;
+    push_numbered(text, 0..MANY, "ENTITY e", "; END_ENTITY;")?;
     text.push_str("END_SCHEMA;")
 }
 
 fn push_printed(text: &mut String) -> Result<(), AllocError> {
     text.push_str("SCHEMA MANY\n")?;
-    push_numbered(text, 0..5000, "E", "()\n")
+    push_numbered(text, 0..MANY, "E", "()\n")
 }
 
 fn prints_entities(alloc: Global) -> bool {

@@ -16,6 +16,10 @@ const SECTIONS: Rows = &[
         "data #1=/B()/A(1 ) end finish ",
     ),
     (
+        "DATA;#1=(A((1,2,3,4,5,6,7,8,9)));ENDSEC;END-ISO-10303-21;",
+        "data #1=/A((1 2 3 4 5 6 7 8 9 ) ) end finish ",
+    ),
+    (
         "DATA('b',('DEMO'));#1=A();ENDSEC;DATA('',('demo'));ENDSEC;END-ISO-10303-21;",
         "named DATA('b' ('DEMO' ) ) #1=A() end named DATA('' ('demo' ) ) end finish ",
     ),
