@@ -20,6 +20,8 @@ FUNCTION = r"(?:pub(?:\([a-z ]+\))? )?(?:const )?(?:final )?(?:unsafe )?(?:exter
 IMPL = re.compile(r"(\s*)(?:unsafe )?impl(?:<[^{]*?>)?\s+(.*?)\s*\{\s*$")
 # A proof that names what an edit took away, what cites such a proof, and a goal that was not looked at.
 SAYS_NOTHING = re.compile(r"(note: )?(\./)?proofs/.*(has no field|is not in scope|has no `|was not admitted|\(nearest: )|.*has not tried")
+# A line that says of what a line in front of it named that something isn't there, or which names are like the one looked for.
+GOES_ON = re.compile(r"\s+(has no |is not in scope|was not admitted|\(nearest: )")
 TOLD = re.compile(r"(?:note: )?(?:\./)?(\S+?):(\d+):\d+: (.*)")
 
 Span = collections.namedtuple("Span", "first last path")
@@ -145,10 +147,10 @@ def checked(rt, crate, texts, kept):
 
 
 def messages(lines):
-    """What the prover says, a line for each message: a line that begins with two blanks goes on with the one in front of it."""
+    """What the prover says, where a message that goes on about a name in a line of its own has it in its first line."""
     found = []
     for line in lines:
-        if line.startswith("  ") and found:
+        if GOES_ON.match(line) and found:
             found[-1] += line
         else:
             found.append(line)
