@@ -1,5 +1,5 @@
 -- A statement that a sieve takes.
-use Rattle.std.proofs.Common.{◌≡◌, ◌≢◌, ◌+◌, ◌⊎◌, ℕ, true, List, [], ◌∷◌, ◌++◌, Result, Ok, Err, IfErr, OnOk, inl, inr, refl, sym, ap, subst, ◌∙◌, arith}
+use Rattle.std.proofs.Common.{◌≡◌, ◌≢◌, ◌≤◌, ◌+◌, ◌⊎◌, ℕ, true, List, [], ◌∷◌, ◌++◌, length, length-append, Result, Ok, Err, IfErr, OnOk, inl, inr, refl, sym, ap, subst, ◌∙◌, arith}
 use Rattle.std.specs.BTreeSet.{Updates}
 use Rattle.std.specs.Ordering.{nat_cmp}
 use Rattle.std.specs.Prelude.{Contains}
@@ -26,7 +26,7 @@ use Rattle.p21_stream_statements.specs.declared.refusal.Refusal.{Refusal}
 use Rattle.p21_stream.proofs.RefusedNames.{has-listed}
 use Rattle.p21_stream.proofs.Sifted.{passed-few, passed-first, passed-named, refused-named}
 use Rattle.p21_stream.specs.Sifting.{AreSifted, HasName, HaveNames, IsOfInstance, RefusesInstance, Sifts, at_instance, broken, name_again, passes, refuses}
-use Rattle.p21_stream.specs.SieveSteps.{Follows, FollowsFound, Lists, ListsOrEnds, StepGives}
+use Rattle.p21_stream.specs.SieveSteps.{Follows, FollowsFound, Lists, ListsOne, ListsOrEnds, StepGives}
 use Rattle.p21_stream.specs.declared.sieve.Sieve.{Sieve}
 
 -- ---- what is asked of what is kept
@@ -176,3 +176,24 @@ lists-one old n fault new kept are updates = record {
   refusals_are = are;
   names = λ have. subst (λ (rs : List Refusal). HaveNames new.names rs) (sym are) (has-listed old.names new.names old.refusals.items fault n updates have);
 }
+
+-- ---- how many are listed
+
+pub lists-none : (listed : List Refusal) (result : Result (Unit {0}) Fault) → ListsOne listed result listed
+lists-none listed (Ok done) = omega arith
+lists-none listed (Err fault) = λ other. refl
+
+longer-by_one : (old new : Sieve) (n : ℕ) (fault : Fault) → Lists old n fault new → length new.refusals.items ≤ length old.refusals.items + 1
+longer-by_one old new n fault lists =
+    let are = ap length lists.refusals_are in
+    let sum = length-append old.refusals.items (at_instance fault n ∷ []) in
+    omega (arith, are, sum)
+
+pub listed-one : (old new : Sieve) (n : ℕ) (fault : Fault) (result : Result (Unit {0}) Fault) → OnOk result (Lists old n fault new) → IfErr result (λ other. other ≡ NoMemory) → ListsOne old.refusals.items result new.refusals.items
+listed-one old new n fault (Ok done) lists none = longer-by_one old new n fault lists
+listed-one old new n fault (Err other) lists none = λ some. absurd (some none)
+
+pub listed-or_ended : (old new : Sieve) (n : ℕ) (fault : Fault) (result : Result (Unit {0}) Fault) → ListsOrEnds old n fault result new → ListsOne old.refusals.items result new.refusals.items
+listed-or_ended old new n fault (Ok done) (lists, of) = longer-by_one old new n fault lists
+listed-or_ended old new n fault (Err other) (inl none) = λ some. absurd (some none)
+listed-or_ended old new n fault (Err other) (inr (same, unchanged)) = λ some. ap (λ (sieve : Sieve). sieve.refusals.items) unchanged

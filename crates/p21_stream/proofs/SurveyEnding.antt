@@ -1,5 +1,5 @@
 -- What a survey has found where the reading stopped, and at the end of the bytes.
-use Rattle.std.proofs.Common.{◌≡◌, ◌≢◌, ◌≤◌, ◌<◌, ◌⊎◌, ℕ, false, true, List, [], ◌∷◌, ◌++◌, length, Option, None, Result, Ok, Err, IfOk, OnOk, inl, inr, refl, sym, ap, subst, ◌∙◌, append-nil, arith}
+use Rattle.std.proofs.Common.{◌≡◌, ◌≢◌, ◌≤◌, ◌<◌, ◌⊎◌, ℕ, false, true, List, [], ◌∷◌, ◌++◌, length, Option, None, Result, Ok, Err, IfOk, OnOk, inl, inr, refl, sym, ap, subst, ◌∙◌, append-nil, length-append, arith}
 use Rattle.std.specs.BTreeSet.{BTreeSet, contains}
 use Rattle.std.proofs.KnownBytes.{Consumes-kept}
 use Rattle.std.specs.Io.KnownBytes.{Consumes, IsAtEnd, Keeps as KeepsBytes}
@@ -50,7 +50,7 @@ use Rattle.p21_stream.specs.Checked.{IsMeaningful}
 use Rattle.p21_stream.specs.Pieces.{IsBetweenPieces}
 use Rattle.p21_stream.specs.Session as session
 use Rattle.p21_stream.specs.ReaderInput.{IsRefused, RefusesRead}
-use Rattle.p21_stream.specs.Survey.{EndsByRead, EndsList, IsAnswered, IsOfReference, IsRefusedFirst, ListsRecords, SurveysInput}
+use Rattle.p21_stream.specs.Survey.{EndsByRead, EndsList, IsAnswered, IsOfReference, IsRefusedFirst, ListsAtMost, ListsRecords, SurveysInput}
 use Rattle.p21_stream.specs.Surveying.{HasSifted, IsLive}
 use Rattle.p21_stream.specs.SurveyReading.{EndsWith, FinishGives, IsExtent, IsLiveBetween, StoppedGives, StopsMore, StopsByRead}
 use Rattle.p21_stream.specs.declared.listing.Extent.{Extent}
@@ -151,6 +151,20 @@ ended-gives refusals refusal (Err none) ends other = tt
 pub ended-reads : {E : Type 0} (refusals : List Refusal) (refusal : Refusal) (result : Result Surveyed E) → IfOk result (EndsWith refusals refusal) → IfOk result (λ found. StopsByRead (Refused refusal) → EndsByRead found)
 ended-reads refusals refusal (Ok found) ends = λ is. stopped-read refusals refusal found ends is
 ended-reads refusals refusal (Err none) ends = tt
+
+-- the refusal that ended the reading is one more than those that were listed
+pub ended-counted : {E : Type 0} (most : ℕ) (refusals : List Refusal) (refusal : Refusal) (result : Result Surveyed E) → (refusal.fault ≢ NoMemory → length refusals < most) → IfOk result (EndsWith refusals refusal) → OnOk result (refusal.fault ≢ NoMemory) → IfOk result (ListsAtMost most)
+ended-counted most refusals refusal (Ok (survey.Accepted accepted)) fewer ends other = tt
+ended-counted most refusals refusal (Ok (survey.Refused found)) fewer (list_is, extent_is) other =
+    let less = fewer other in
+    let size = ap length list_is in
+    let sum = length-append refusals (refusal ∷ []) in
+    (omega (arith, less, size, sum), λ whole. (let clash : extent.Part ≡ extent.Most = sym extent_is ∙ whole in cc))
+ended-counted most refusals refusal (Err none) fewer ends other = tt
+
+-- as many as were asked for, or fewer
+pub listed-counted : (most : ℕ) (found : Refusals) → IsExtent found.extent (length found.list.items) most → length found.list.items ≤ most → ListsAtMost most (survey.Refused found)
+listed-counted most found is few = (few, λ whole. (let enough = subst (λ (e : Extent). IsExtent e (length found.list.items) most) whole is in omega (arith, few, enough)))
 
 first-of : (refusals : List Refusal) (most : ℕ) → 0 < most → most ≤ length refusals → (first : Refusal) × (others : List Refusal) × (refusals ≡ first ∷ others)
 first-of [] most some enough = absurd (omega (arith, some, enough))

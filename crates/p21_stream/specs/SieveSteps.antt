@@ -1,5 +1,5 @@
 -- What each statement does to a sieve.
-use Rattle.std.specs.Prelude.{◌≡◌, ◌≢◌, ◌+◌, ◌<◌, ◌^◌, ◌⊎◌, ℕ, List, [], ◌∷◌, ◌++◌, length, Result, Ok, Err}
+use Rattle.std.specs.Prelude.{◌≡◌, ◌≢◌, ◌+◌, ◌≤◌, ◌<◌, ◌^◌, ◌⊎◌, ℕ, List, [], ◌∷◌, ◌++◌, length, Result, Ok, Err}
 use Rattle.std.specs.List.{flat_map}
 use Rattle.p21_spec_basics.specs.Limits.{Limits}
 use Rattle.p21_spec_laws.specs.Keeping.{Keeps}
@@ -13,6 +13,7 @@ use Rattle.p21_stream_kept.specs.Found.{HasFound}
 use Rattle.p21_stream_statements.specs.Fault.{fault_number}
 use Rattle.p21_stream_statements.specs.declared.fault.Fault.{Fault}
 use Rattle.p21_stream_statements.specs.declared.fault.Fault.TheVariants.{NoMemory}
+use Rattle.p21_stream_statements.specs.declared.refusal.Refusal.{Refusal}
 use Rattle.p21_stream.specs.Sifting.{AreSifted, HaveNames, IsOfInstance, Sifts, at_instance}
 use Rattle.p21_stream.specs.declared.sieve.Sieve.{Sieve}
 
@@ -59,3 +60,8 @@ pub record Lists (old : Sieve) (n : ℕ) (fault : Fault) (new : Sieve) : Type 0 
 abbrev pub ListsOrEnds : Sieve → ℕ → Fault → Result (Unit {0}) Fault → Sieve → Type 0
 ListsOrEnds old n fault (Ok done) new = Lists old n fault new × IsOfInstance fault
 ListsOrEnds old n fault (Err other) new = (other ≡ NoMemory) ⊎ ((other ≡ fault) × (new ≡ old))
+
+-- one refusal is listed at most, and none where a fault ends the reading
+abbrev pub ListsOne : List Refusal → Result (Unit {0}) Fault → List Refusal → Type 0
+ListsOne old (Ok done) new = length new ≤ length old + 1
+ListsOne old (Err fault) new = fault ≢ NoMemory → new ≡ old

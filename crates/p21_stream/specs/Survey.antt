@@ -1,5 +1,5 @@
 -- What a survey finds of the bytes of a file (this project's own).
-use Rattle.std.specs.Prelude.{◌≡◌, ◌⊎◌, ℕ, List, [], ◌∷◌, ◌++◌, Option, Contains, nat_eq}
+use Rattle.std.specs.Prelude.{◌≡◌, ◌≤◌, ◌⊎◌, ℕ, zero, suc, List, [], ◌∷◌, ◌++◌, length, Option, Contains, nat_eq}
 use Rattle.std.specs.Io.KnownBytes.{Consumes}
 use Rattle.std.specs.List.{IsDistinct, AllByRecursion as Each}
 use Rattle.p21_spec_basics.specs.Limits.{Limits}
@@ -86,3 +86,13 @@ SurveysInput s limits old new (survey.Refused refusals) = IsRefusedFirst s limit
 abbrev pub EndsByRead : Surveyed → Type 0
 EndsByRead (survey.Accepted accepted) = ⊥
 EndsByRead (survey.Refused refusals) = (before : List Refusal) × (refusal : Refusal) × (refusals.list.items ≡ before ++ refusal ∷ []) × (refusals.extent ≡ Part) × (refusal.fault ≡ Read)
+
+-- as many as are asked for, and one where none is
+abbrev pub asked_for : ℕ → ℕ
+asked_for zero = 1
+asked_for (suc fewer) = suc fewer
+
+-- no more refusals are listed than so many, and so many where the survey ended since no more were asked for
+abbrev pub ListsAtMost : ℕ → Surveyed → Type 0
+ListsAtMost most (survey.Accepted accepted) = Unit {0}
+ListsAtMost most (survey.Refused refusals) = (length refusals.list.items ≤ most) × (refusals.extent ≡ Most → length refusals.list.items ≡ most)

@@ -1,5 +1,5 @@
 -- What a survey knows of the bytes that it has taken, and what a token, a piece and a stop owe.
-use Rattle.std.specs.Prelude.{◌≡◌, ◌≢◌, ◌≤◌, ◌<◌, ◌^◌, ℕ, List, ◌++◌, length, take, Option, Some, None, Result, Ok, Err}
+use Rattle.std.specs.Prelude.{◌≡◌, ◌≢◌, ◌+◌, ◌≤◌, ◌<◌, ◌^◌, ℕ, List, ◌++◌, length, take, Option, Some, None, Result, Ok, Err}
 use Rattle.p21_spec_basics.specs.Limits.{Limits}
 use Rattle.p21_spec_laws.specs.Taken.{AreStatementsTaken}
 use Rattle.p21_spec_laws.specs.Keeping.{Keeps, Kept}
@@ -78,3 +78,14 @@ PassGives s limits held sieve piece (Err refusal) next after = StepGives s limit
 abbrev pub StopsByBytes : Stop → Type 0
 StopsByBytes (Refused refusal) = IsOfBytes refusal.fault
 StopsByBytes Most = Unit {0}
+
+-- a token or an instance has one refusal at most that is listed, and the rest of a piece none; what ends the reading isn't listed
+abbrev pub ListsOneMore : List Refusal → Result (Option ℕ) Refusal → List Refusal → Type 0
+ListsOneMore old (Ok None) new = new ≡ old
+ListsOneMore old (Ok (Some count)) new = length new ≤ length old + 1
+ListsOneMore old (Err refusal) new = refusal.fault ≢ NoMemory → new ≡ old
+
+-- fewer than so many are listed where a refusal stops the reading, and as many where it stops since no more are asked for
+abbrev pub StopsWithin : ℕ → List Refusal → Stop → Type 0
+StopsWithin most listed (Refused refusal) = refusal.fault ≢ NoMemory → length listed < most
+StopsWithin most listed Most = length listed ≡ most

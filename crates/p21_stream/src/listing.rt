@@ -5,9 +5,9 @@ ghost use Rattle.p21_spec_schema.specs.WellFormed.{IsWellFormed};
 ghost use Rattle.p21_stream_io.specs.Watch.{one_call_more};
 ghost use Rattle.p21_stream.specs.Feeding.{TakesAtMost};
 ghost use Rattle.p21_stream.specs.ReaderInput.{ConsumesAtMost};
-ghost use Rattle.p21_stream.specs.Survey.{EndsByRead, SurveysInput};
+ghost use Rattle.p21_stream.specs.Survey.{EndsByRead, ListsAtMost, SurveysInput, asked_for};
 ghost use Rattle.p21_stream.specs.SurveyReading.{EndsWith, FinishGives, IsExtent, IsLiveBetween, IsSurveyedFrom, IsSurveyedWhole, PieceGives, StoppedGives, StopsByRead, StopsMore, StopsSurvey, SurveysMore, stop_failures};
-ghost use Rattle.p21_stream.specs.Surveying.{StopsByBytes};
+ghost use Rattle.p21_stream.specs.Surveying.{StopsByBytes, StopsWithin};
 ghost use Rattle.p21_transcribe_instance.specs.ExternalSet.{AreExternalSets};
 ghost use Rattle.p21_transcribe_instance.specs.Steps.{IsPlanOf};
 
@@ -67,6 +67,7 @@ pub fn survey<R: Read>(
     reader: &mut Watched<R>,
 ) -> Result<Surveyed, NoMemory>
     ensures surveys { IfOk result (λ found. SurveysInput schema.now limits (R.remaining reader.old.inner) (R.remaining reader.new.inner) found) }
+    ensures counted { IfOk result (ListsAtMost (asked_for most)) }
     ensures consumed { ConsumesAtMost limits (R.remaining reader.old.inner) (R.remaining reader.new.inner) }
 
     ensures moved { reader.new.moved ≤ reader.old.moved + (limits.file_source + 1) }
@@ -78,13 +79,14 @@ pub fn survey<R: Read>(
     let mut surveying = Surveying::new(alloc, limits);
     match read_all(&mut surveying, schema, limits, most, reader) {
         Ok(()) => finish(surveying, schema, most),
-        Err(stop) => stopped(surveying.refusals(), stop),
+        Err(stop) => stopped(surveying.refusals(), most, stop),
     }
 }
 
 /// The number, or one for none.
 fn at_least_one(most: u64) -> u64
-    ensures { 0 < result }
+    ensures asked { result ≡ asked_for most }
+    ensures some { 0 < result }
 {
     if most == 0 { 1 } else { most }
 }
@@ -102,8 +104,11 @@ fn read_all<R: Read>(
     requires counted { limits.file_source < 2 ^ 64 }
     requires plan { IsPlanOf schema.now surveying.old.plan }
     requires sets { AreExternalSets schema.now surveying.old.sets }
+    requires fewer { length surveying.old.sieve.refusals.items < most }
     ensures ok { OnOk result (IsSurveyedWhole schema.now limits (R.remaining reader.old.inner) (R.remaining reader.new.inner) surveying.new) }
     ensures err { IfErr result (StopsSurvey schema.now limits most (R.remaining reader.old.inner) (R.remaining reader.new.inner) surveying.new.sieve.refusals.items) }
+    ensures fewer { OnOk result (length surveying.new.sieve.refusals.items < most) }
+    ensures stops { IfErr result (StopsWithin most surveying.new.sieve.refusals.items) }
     ensures consumed { ConsumesAtMost limits (R.remaining reader.old.inner) (R.remaining reader.new.inner) }
 
     ensures moved { reader.new.moved ≤ reader.old.moved + (limits.file_source + 1) }
@@ -141,8 +146,11 @@ fn read_more<R: Read>(
     requires live { IsLiveBetween schema.now limits surveying.old }
     requires plan { IsPlanOf schema.now surveying.old.plan }
     requires sets { AreExternalSets schema.now surveying.old.sets }
+    requires fewer { length surveying.old.sieve.refusals.items < most }
     ensures ok { IfOk result (SurveysMore schema.now limits (R.remaining reader.old.inner) (R.remaining reader.new.inner) surveying.old surveying.new) }
     ensures err { IfErr result (StopsMore schema.now limits most (R.remaining reader.old.inner) (R.remaining reader.new.inner) surveying.old surveying.new) }
+    ensures fewer { OnOk result (length surveying.new.sieve.refusals.items < most) }
+    ensures stops { IfErr result (StopsWithin most surveying.new.sieve.refusals.items) }
     ensures consumed { TakesAtMost (left + 1) (R.remaining reader.old.inner) (R.remaining reader.new.inner) }
     ensures plan { IsPlanOf schema.now surveying.new.plan }
     ensures sets { AreExternalSets schema.now surveying.new.sets }
@@ -178,7 +186,10 @@ fn take_piece(
     requires live { IsLiveBetween schema.now limits surveying.old }
     requires plan { IsPlanOf schema.now surveying.old.plan }
     requires sets { AreExternalSets schema.now surveying.old.sets }
+    requires fewer { length surveying.old.sieve.refusals.items < most }
     ensures gives { PieceGives schema.now limits most surveying.old piece.now result surveying.new }
+    ensures fewer { OnOk result (length surveying.new.sieve.refusals.items < most) }
+    ensures stops { IfErr result (StopsWithin most surveying.new.sieve.refusals.items) }
     ensures kind { IfErr result StopsByBytes }
     ensures plan { IsPlanOf schema.now surveying.new.plan }
     ensures sets { AreExternalSets schema.now surveying.new.sets }
@@ -192,8 +203,9 @@ fn take_piece(
 /// The end of the bytes.
 fn finish(surveying: Surveying, schema: &Schema, most: u64) -> Result<Surveyed, NoMemory>
     requires live { (limits : MeantLimits) × IsLiveBetween schema.now limits surveying }
-    requires most { 0 < most }
+    requires fewer { length surveying.sieve.refusals.items < most }
     ensures gives { IfOk result (FinishGives schema.now surveying) }
+    ensures counted { IfOk result (ListsAtMost most) }
 {
     schema.well_formed();
     let Surveying {
@@ -230,8 +242,10 @@ fn extent_of(count: u64, most: u64) -> Extent
 }
 
 /// What is found where the reading stopped before the end of the bytes.
-fn stopped(list: Vec<Refusal>, stop: Stop) -> Result<Surveyed, NoMemory>
+fn stopped(list: Vec<Refusal>, most: u64, stop: Stop) -> Result<Surveyed, NoMemory>
+    requires { StopsWithin most list.items stop }
     ensures gives { IfOk result (StoppedGives list.items stop) }
+    ensures counted { IfOk result (ListsAtMost most) }
     ensures read { IfOk result (λ found. StopsByRead stop → EndsByRead found) }
 {
     match stop {

@@ -1,4 +1,4 @@
-ghost use Rattle.std.specs.Prelude.{◌≡◌, ◌≢◌, ◌∷◌, [], IfErr, OnOk};
+ghost use Rattle.std.specs.Prelude.{◌≡◌, ◌≢◌, ◌≤◌, ◌∷◌, [], length, IfErr, OnOk};
 ghost use Rattle.p21_spec_laws.specs.Keeping.{nothing_kept};
 ghost use Rattle.p21_spec_exchange.specs.Statement.{instance};
 ghost use Rattle.p21_grammar.specs.Statements.{statement_of};
@@ -7,7 +7,7 @@ ghost use Rattle.p21_mapping.specs.Checked.{needs_view};
 ghost use Rattle.p21_mapping_values.specs.TypedView.{ids_view};
 ghost use Rattle.p21_stream_statements.specs.Source.{IsOfBytes};
 ghost use Rattle.p21_stream.specs.Sifting.{HaveNames};
-ghost use Rattle.p21_stream.specs.SieveSteps.{Follows, FollowsFound, FoundGives, Lists, ListsOrEnds, StepGives};
+ghost use Rattle.p21_stream.specs.SieveSteps.{Follows, FollowsFound, FoundGives, Lists, ListsOne, ListsOrEnds, StepGives};
 ghost use Rattle.p21_stream.specs.Unserved.{ListsUnserved};
 
 use crate::unserved::list_unserved;
@@ -70,6 +70,7 @@ impl Sieve {
     ) -> Result<(), Fault>
         requires { Follows schema.now limits self.old (statement_of event) }
         ensures gives { StepGives schema.now limits self.old (statement_of event) result self.new }
+        ensures listed { ListsOne self.old.refusals.items result self.new.refusals.items }
         ensures kind { IfErr result (λ fault. IsOfBytes fault) }
     {
         match event {
@@ -95,6 +96,7 @@ impl Sieve {
     ) -> Result<(), Fault>
         requires { Follows schema.now limits self.old (instance name (record_view of)) }
         ensures gives { StepGives schema.now limits self.old (instance name (record_view of)) result self.new }
+        ensures listed { ListsOne self.old.refusals.items result self.new.refusals.items }
         ensures kind { IfErr result (λ fault. IsOfBytes fault) }
     {
         schema.well_formed();
@@ -120,6 +122,7 @@ impl Sieve {
     ) -> Result<(), Fault>
         requires { FollowsFound schema.now limits self.old found.now.name (ids_view found.now.entities.now) (needs_view found.now.needs.now) found.now.line.now }
         ensures gives { FoundGives schema.now limits self.old found.now.name (ids_view found.now.entities.now) (needs_view found.now.needs.now) found.now.line.now result self.new }
+        ensures listed { ListsOne self.old.refusals.items result self.new.refusals.items }
         ensures kind { IfErr result (λ fault. IsOfBytes fault) }
     {
         schema.well_formed();
@@ -171,6 +174,7 @@ impl Sieve {
     /// `NoMemory`.
     pub fn list_unserved(&mut self, schema: &Schema, most: u64) -> Result<(), NoMemory>
         ensures lists { OnOk result (ListsUnserved schema.now self.old.kept self.old.names most self.old.refusals.items self.new.refusals.items) }
+        ensures counted { length self.old.refusals.items ≤ most → OnOk result (length self.new.refusals.items ≤ most) }
         ensures kept { self.new.kept ≡ self.old.kept }
     {
         list_unserved(&self.kept, &self.names, schema, most, &mut self.refusals)

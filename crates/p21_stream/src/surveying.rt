@@ -1,5 +1,5 @@
 //! A file that is surveyed piece by piece.
-ghost use Rattle.std.specs.Prelude.{◌≡◌, ◌<◌, ◌^◌, [], IfErr};
+ghost use Rattle.std.specs.Prelude.{◌≡◌, ◌<◌, ◌^◌, [], length, IfErr, OnOk};
 ghost use Rattle.p21_spec_laws.specs.Keeping.{nothing_kept};
 ghost use Rattle.p21_spec_schema.specs.Schema.{Schema as Meant};
 ghost use Rattle.p21_stream_statements.specs.Source.{IsOfBytes};
@@ -7,7 +7,7 @@ ghost use Rattle.p21_stream_statements.specs.StatementReader.{limits_of, nothing
 ghost use Rattle.p21_stream_statements.specs.StatementReader as reader;
 ghost use Rattle.p21_stream.specs.Sifting.{HaveNames};
 ghost use Rattle.p21_stream.specs.Pieces.{TakesWithinPiece};
-ghost use Rattle.p21_stream.specs.Surveying.{IsUnderWay, PassGives, ReadGives, StepGives, StopsByBytes};
+ghost use Rattle.p21_stream.specs.Surveying.{IsUnderWay, ListsOneMore, PassGives, ReadGives, StepGives, StopsByBytes, StopsWithin};
 ghost use Rattle.p21_transcribe_instance.specs.ExternalSet.{AreExternalSets};
 ghost use Rattle.p21_transcribe_instance.specs.Steps.{IsPlanOf};
 
@@ -86,7 +86,10 @@ impl Surveying {
         requires way { IsUnderWay schema.now limits self.old.statements self.old.sieve piece.now }
         requires plan { IsPlanOf schema.now self.old.plan }
         requires sets { AreExternalSets schema.now self.old.sets }
+        requires fewer { length self.old.sieve.refusals.items < most }
         ensures gives { ReadGives schema.now limits most self.old.statements self.old.sieve piece.now result self.new.statements self.new.sieve }
+        ensures fewer { OnOk result (length self.new.sieve.refusals.items < most) }
+        ensures stops { IfErr result (StopsWithin most self.new.sieve.refusals.items) }
         ensures kind { IfErr result StopsByBytes }
         ensures limits { limits_of self.new.statements ≡ limits_of self.old.statements }
         ensures plan { IsPlanOf schema.now self.new.plan }
@@ -124,6 +127,7 @@ impl Surveying {
         requires sets { AreExternalSets schema.now self.old.sets }
         ensures takes { TakesWithinPiece piece.now result }
         ensures gives { StepGives schema.now limits self.old.statements self.old.sieve piece.now result self.new.statements self.new.sieve }
+        ensures listed { ListsOneMore self.old.sieve.refusals.items result self.new.sieve.refusals.items }
         ensures kind { IfErr result (λ refusal. IsOfBytes refusal.fault) }
         ensures limits { limits_of self.new.statements ≡ limits_of self.old.statements }
         ensures plan { IsPlanOf schema.now self.new.plan }
@@ -151,6 +155,7 @@ impl Surveying {
         requires sets { AreExternalSets schema.now self.old.sets }
         ensures takes { TakesWithinPiece piece.now result }
         ensures gives { PassGives schema.now limits self.old.statements self.old.sieve piece.now result self.new.statements self.new.sieve }
+        ensures listed { ListsOneMore self.old.sieve.refusals.items result self.new.sieve.refusals.items }
         ensures kind { IfErr result (λ refusal. IsOfBytes refusal.fault) }
         ensures limits { limits_of self.new.statements ≡ limits_of self.old.statements }
         ensures plan { IsPlanOf schema.now self.new.plan }
@@ -207,6 +212,7 @@ impl Surveying {
         requires sets { AreExternalSets schema.now self.old.sets }
         ensures takes { TakesWithinPiece piece.now result }
         ensures gives { StepGives schema.now limits self.old.statements self.old.sieve piece.now result self.new.statements self.new.sieve }
+        ensures listed { ListsOneMore self.old.sieve.refusals.items result self.new.sieve.refusals.items }
         ensures kind { IfErr result (λ refusal. IsOfBytes refusal.fault) }
         ensures limits { limits_of self.new.statements ≡ limits_of self.old.statements }
         ensures plan { IsPlanOf schema.now self.new.plan }

@@ -1,5 +1,5 @@
 //! The references that no instance serves.
-ghost use Rattle.std.specs.Prelude.{◌≡◌, OnOk};
+ghost use Rattle.std.specs.Prelude.{◌≡◌, ◌≤◌, ◌+◌, length, OnOk};
 ghost use Rattle.p21_stream_kept.specs.Inside.{reference_of, references_of};
 ghost use Rattle.p21_stream.specs.Unserved.{AddsRefusal, AnswersReference, ListsUnserved};
 
@@ -17,7 +17,8 @@ pub(crate) fn list_unserved(
     most: u64,
     refusals: &mut Vec<Refusal>,
 ) -> Result<(), NoMemory>
-    ensures { OnOk result (ListsUnserved schema.now kept.now names.now most refusals.old.items refusals.new.items) }
+    ensures lists { OnOk result (ListsUnserved schema.now kept.now names.now most refusals.old.items refusals.new.items) }
+    ensures counted { length refusals.old.items ≤ most → OnOk result (length refusals.new.items ≤ most) }
 {
     list_each(kept, names, schema, most, kept.waiting(), refusals)
 }
@@ -32,7 +33,8 @@ fn list_each(
     refusals: &mut Vec<Refusal>,
 ) -> Result<(), NoMemory>
     requires { references_of waiting.now ≡ kept.now.waiting }
-    ensures { OnOk result (ListsUnserved schema.now kept.now names.now most refusals.old.items refusals.new.items) }
+    ensures lists { OnOk result (ListsUnserved schema.now kept.now names.now most refusals.old.items refusals.new.items) }
+    ensures counted { length refusals.old.items ≤ most → OnOk result (length refusals.new.items ≤ most) }
 {
     for reference in waiting {
         if refusals.len() as u64 >= most {
@@ -51,7 +53,8 @@ fn list_one(
     reference: &Reference,
     refusals: &mut Vec<Refusal>,
 ) -> Result<(), NoMemory>
-    ensures { OnOk result (AddsRefusal schema.now kept.now names.now (reference_of reference.now) refusals.old.items refusals.new.items) }
+    ensures adds { OnOk result (AddsRefusal schema.now kept.now names.now (reference_of reference.now) refusals.old.items refusals.new.items) }
+    ensures counted { OnOk result (length refusals.new.items ≤ length refusals.old.items + 1) }
 {
     let Some(fault) = refusal_of(kept, names, schema, reference) else {
         return Ok(());

@@ -58,7 +58,7 @@ impl Waiting {
         self.used = end;
     }
 
-    /// Writes the bytes that wait.
+    /// Writes the bytes that wait. None waits behind it.
     ///
     /// # Errors
     ///
@@ -66,6 +66,7 @@ impl Waiting {
     pub fn flush<W: Write>(&mut self, writer: &mut Watched<W>) -> Result<(), WriteFault>
         ensures ok { OnOk result (Appends (W.contents writer.old.inner) (W.contents writer.new.inner) self.old × (self.new ≡ [])) }
         ensures err { OnErr result (AppendsPartOf (W.contents writer.old.inner) (W.contents writer.new.inner) self.old) }
+        ensures none_waits { OnErr result (self.new ≡ []) }
 
         ensures written { OnOk result (writer.new.failures ≡ writer.old.failures) }
         ensures failed { OnErr result (writer.new.failures ≡ one_call_more writer.old.failures) }
@@ -79,10 +80,11 @@ impl Waiting {
     ///
     /// # Errors
     ///
-    /// `WriteFault` where a write answers an error, whatever its kind, or takes none of some bytes.
+    /// `WriteFault` where a write answers an error, whatever its kind, or takes none of some bytes. None waits behind it.
     pub fn put<W: Write>(&mut self, writer: &mut Watched<W>, bytes: &[u8]) -> Result<(), WriteFault>
         ensures ok { OnOk result (AppendsAllBut (W.contents writer.old.inner) (W.contents writer.new.inner) (self.old ++ bytes.now) self.new) }
         ensures err { OnErr result (AppendsPartOf (W.contents writer.old.inner) (W.contents writer.new.inner) (self.old ++ bytes.now)) }
+        ensures none_waits { OnErr result (self.new ≡ []) }
 
         ensures written { OnOk result (writer.new.failures ≡ writer.old.failures) }
         ensures failed { OnErr result (writer.new.failures ≡ one_call_more writer.old.failures) }

@@ -35,6 +35,7 @@ loop-count-preserved g c =
       surveyed = loop-goes_on _ _ _ _ _ c.loop-count.surveying c.read_more.new.surveying _ _ _ short c.loop-count.invariant.surveyed c.in-Ok.ensures.ok;
       plan = c.in-Ok.ensures.plan;
       sets = c.in-Ok.ensures.sets;
+      fewer = c.in-Ok.ensures.fewer;
       moved = let moved = c.in-Ok.ensures.moved in let before = c.loop-count.invariant.moved in omega arith;
       failures = c.in-Ok.ensures.read ∙ c.loop-count.invariant.failures;
     }

@@ -1,4 +1,4 @@
-use Rattle.std.proofs.Common.{◌≡◌, ◌≤◌, ◌+◌}
+use Rattle.std.proofs.Common.{◌≡◌, ◌≤◌, ◌<◌, ◌+◌, length}
 use Rattle.p21_stream.proofs.SurveyFeeding.{InLoop}
 use Rattle.p21_transcribe_instance.specs.ExternalSet.{AreExternalSets}
 use Rattle.p21_transcribe_instance.specs.Steps.{IsPlanOf}
@@ -9,6 +9,7 @@ invariant-loop-count g l = record {
   surveyed : InLoop l.schema l.limits (g.R.Read.remaining l.initial.reader.inner) (g.R.Read.remaining l.reader.inner) l.surveying l.limits.file_source l.left;
   plan : IsPlanOf l.schema l.surveying.plan;
   sets : AreExternalSets l.schema l.surveying.sets;
+  fewer : length l.surveying.sieve.refusals.items < l.most;
   moved : l.reader.moved + l.left ≤ l.initial.reader.moved + l.limits.file_source;
   failures : l.reader.failures ≡ l.initial.reader.failures;
 }

@@ -16,3 +16,6 @@ returns-in-Ok-take_piece-clause-ok g c = record {
       surveyed-more c.args.schema.now c.args.limits c.args.most start _ _ c.args.surveying.now c.take_piece.new.surveying _ size c.in-Ok.count c.in-Ok.ensures.bytes.0 (length-take-le c.in-Ok.count c.read_piece.new.piece c.in-Ok.ensures.count.0) c.in-Ok-take_piece.ensures.gives from;
   ended = λ none. c.in-Ok.ensures.bytes.1 none (search rules);
 }
+
+pub returns-in-Err-clause-stops : goal.returns-in-Err-clause-stops
+returns-in-Err-clause-stops g c = λ other. c.requires.fewer

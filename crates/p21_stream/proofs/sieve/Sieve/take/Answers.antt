@@ -1,7 +1,7 @@
 use Rattle.p21_grammar.specs.Statements.{statement_of}
 use Rattle.p21_grammar.specs.declared.event.Event.{Event}
 use Rattle.p21_grammar.specs.declared.event.Event.TheVariants.{Header, Named, Section}
-use Rattle.p21_stream.proofs.SieveTaking.{taken-gives}
+use Rattle.p21_stream.proofs.SieveTaking.{lists-none, taken-gives}
 use Rattle.p21_stream.specs.SieveSteps.{StepGives}
 use Rattle.p21_stream.proofs.sieve.Sieve.take.Goals as goal
 use Rattle.std.proofs.Common.{subst, sym}
@@ -20,3 +20,12 @@ pub returns-in-Header-clause-gives : goal.returns-in-Header-clause-gives
 returns-in-Header-clause-gives c =
     subst (λ (e : Event). StepGives c.args.schema.now c.args.limits c.args.self.now (statement_of e) c.take_header.result (record c.args.self.now { kept = c.take_header.new.self })) (sym c.in-Header.is)
     (taken-gives c.args.schema.now c.args.limits c.args.self.now c.take_header.new.self (statement_of (Header c.in-Header.part)) c.take_header.result c.take_header.ensures.gives c.take_header.ensures.lines)
+
+pub returns-in-Section-clause-listed : goal.returns-in-Section-clause-listed
+returns-in-Section-clause-listed c = lists-none c.args.self.now.refusals.items c.take_line.result
+
+pub returns-in-Named-clause-listed : goal.returns-in-Named-clause-listed
+returns-in-Named-clause-listed c = lists-none c.args.self.now.refusals.items c.take_heading.result
+
+pub returns-in-Header-clause-listed : goal.returns-in-Header-clause-listed
+returns-in-Header-clause-listed c = lists-none c.args.self.now.refusals.items c.take_header.result

@@ -1,5 +1,5 @@
 use Rattle.p21_spec_exchange.specs.Statement.{instance}
-use Rattle.p21_stream.proofs.SieveTaking.{again-gives, found-passed, refused-gives, taken-gives}
+use Rattle.p21_stream.proofs.SieveTaking.{again-gives, found-passed, listed-one, listed-or_ended, refused-gives, taken-gives}
 use Rattle.p21_stream.proofs.sieve.Sieve.take_found.Goals as goal
 use Rattle.std.proofs.Common.{Ok, ap, subst, sym, ◌∙◌}
 use Rattle.p21_stream.specs.Sifting.{HasName}
@@ -18,3 +18,9 @@ returns-in-Ok-clause-gives c = λ record_ found.
 pub returns-in-Err-clause-gives : goal.returns-in-Err-clause-gives
 returns-in-Err-clause-gives c = λ record_ found.
     refused-gives c.args.schema.now c.well_formed-2.ensures c.args.limits c.args.self.now c.take_found.new.self c.list_or_end.new.self c.args.found.now.name record_ c.in-Err.fault c.list_or_end.result c.in-Err.ensures.unchanged (c.in-Err.ensures.gives record_ found) c.list_or_end.ensures.lists
+
+pub returns-then-contains-clause-listed : goal.returns-then-contains-clause-listed
+returns-then-contains-clause-listed c = listed-one c.args.self.now c.list.new.self _ _ c.list.result c.list.ensures.ok c.list.ensures.err
+
+pub returns-in-Err-clause-listed : goal.returns-in-Err-clause-listed
+returns-in-Err-clause-listed c = listed-or_ended (record c.args.self.now { kept = c.take_found.new.self }) c.list_or_end.new.self _ _ c.list_or_end.result c.list_or_end.ensures.lists

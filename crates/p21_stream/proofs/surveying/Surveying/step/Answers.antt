@@ -1,4 +1,4 @@
-use Rattle.std.proofs.Common.{ℕ, Ok, Option, Some, subst}
+use Rattle.std.proofs.Common.{ℕ, Ok, Option, Some, refl, subst, ◌∙◌}
 use Rattle.p21_grammar.specs.declared.event.Event.{Event}
 use Rattle.p21_stream_statements.specs.StatementReader as statements
 use Rattle.p21_stream.proofs.SurveySteps.{statement-follows, step-ends, step-piece, step-refused, step-statement, step-token}
@@ -41,3 +41,9 @@ take-requires c =
     (subst (λ (e : Option Event). statements.StepGives c.args.self.now.statements c.args.piece.now (Ok (Some (c.in-Some.count, e))) c.step.new.self) c.in-Some-event.is
     (subst (λ (a : Option (ℕ × Option Event)). statements.StepGives c.args.self.now.statements c.args.piece.now (Ok a) c.step.new.self) c.in-Some.is c.in-Ok.ensures.gives))
     c.in-Ok.ensures.limits
+
+pub returns-in-Err-clause-listed : goal.returns-in-Err-clause-listed
+returns-in-Err-clause-listed c = λ other. refl
+
+pub returns-in-Err-take-clause-listed : goal.returns-in-Err-take-clause-listed
+returns-in-Err-take-clause-listed c = λ other. c.in-Err-take.ensures.listed (λ none. other (c.refused-in-Err-take.ensures ∙ none))
