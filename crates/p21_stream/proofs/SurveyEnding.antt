@@ -2,17 +2,19 @@
 use Rattle.std.proofs.Common.{◌≡◌, ◌≢◌, ◌≤◌, ◌<◌, ◌⊎◌, ℕ, false, true, List, [], ◌∷◌, ◌++◌, length, Option, None, Result, Ok, Err, IfOk, OnOk, inl, inr, refl, sym, ap, subst, ◌∙◌, append-nil, length-append, arith}
 use Rattle.std.specs.BTreeSet.{BTreeSet, contains}
 use Rattle.std.proofs.KnownBytes.{Consumes-kept}
+use Rattle.std.proofs.lemmas.List.{same_from_push}
 use Rattle.std.specs.Io.KnownBytes.{Consumes, IsAtEnd, Keeps as KeepsBytes}
 use Rattle.std.specs.List.{AllByRecursion as Each}
 use Rattle.std.specs.Ordering.{nat_cmp}
 use Rattle.std.specs.Prelude.{Contains}
-use Rattle.p21_spec_basics.proofs.Members.{Contains-first, Contains-none, Each-member, Each-of_members, Each-weaker}
+use Rattle.p21_spec_basics.proofs.Members.{Contains-first, Contains-none, Each-append, Each-member, Each-of_members, Each-weaker}
 use Rattle.p21_spec_basics.specs.Limits.{Limits}
 use Rattle.p21_spec_laws.specs.CompleteFile.{Entry, IsMeant, entries_in, entity_sets_in}
 use Rattle.p21_spec_laws.specs.Taken.{AreStatementsTaken, instances_among}
 use Rattle.p21_spec_laws.proofs.Keeps.{keeps-unserved}
 use Rattle.p21_spec_laws.proofs.Storing.{none-stored_unknown, stored-serves, stored-unfit}
 use Rattle.p21_spec_laws.specs.Keeping.{IsServedBy, IsServedByNone, Keeps, Kept}
+use Rattle.p21_spec_laws.specs.Offending as offending
 use Rattle.p21_spec_laws.specs.Offending.{IsUnserved}
 use Rattle.p21_spec_laws.specs.Stored.{StoredEntry}
 use Rattle.p21_spec_laws.specs.UnrefusedStatements.{IsFound}
@@ -26,6 +28,7 @@ use Rattle.p21_spec_file.specs.Accepted.{IsAccepted, IsDead}
 use Rattle.p21_spec_file.specs.Reference.{IsServed}
 use Rattle.p21_spec_schema.specs.Schema.{Schema}
 use Rattle.p21_spec_schema.specs.WellFormed.{IsWellFormed}
+use Rattle.p21_stream_io.specs.Watch.{one_call_more}
 use Rattle.p21_stream_kept.specs.Served.{RefusesNeed}
 use Rattle.p21_stream_kept.specs.Taking.{IsKeptOfFile}
 use Rattle.p21_stream_output.specs.Ending.{IsFileOfKept}
@@ -49,16 +52,17 @@ use Rattle.p21_stream.proofs.Feeding.{refused-by}
 use Rattle.p21_stream.specs.Checked.{IsMeaningful}
 use Rattle.p21_stream.specs.Pieces.{IsBetweenPieces}
 use Rattle.p21_stream.specs.Session as session
-use Rattle.p21_stream.specs.ReaderInput.{IsRefused, RefusesRead}
+use Rattle.p21_stream.specs.ReaderInput.{IsRefused, RefusesRead, read_failures}
 use Rattle.p21_stream.specs.Survey.{EndsByRead, EndsList, IsAnswered, IsOfReference, IsRefusedFirst, ListsAtMost, ListsRecords, SurveysInput}
 use Rattle.p21_stream.specs.Surveying.{HasSifted, IsLive}
-use Rattle.p21_stream.specs.SurveyReading.{EndsWith, FinishGives, IsExtent, IsLiveBetween, StoppedGives, StopsMore, StopsByRead}
+use Rattle.p21_stream.specs.SurveyReading.{EndsWith, FinishGives, IsExtent, IsLiveBetween, StoppedGives, StopsMore, StopsByRead, stop_failures}
 use Rattle.p21_stream.specs.declared.listing.Extent.{Extent}
 use Rattle.p21_stream.specs.declared.listing.Extent.TheVariants as extent
 use Rattle.p21_stream.specs.declared.listing.Refusals.{Refusals}
 use Rattle.p21_stream.specs.declared.listing.Surveyed.{Surveyed}
 use Rattle.p21_stream.specs.declared.listing.Surveyed.TheVariants as survey
 use Rattle.p21_stream.specs.declared.surveying.Surveying.{Surveying}
+use Rattle.p21_stream.specs.declared.surveying.Stop.{Stop}
 use Rattle.p21_stream.specs.declared.surveying.Stop.TheVariants.{Most, Refused}
 
 -- ---- the records
@@ -165,6 +169,80 @@ ended-counted most refusals refusal (Err none) fewer ends other = tt
 -- as many as were asked for, or fewer
 pub listed-counted : (most : ℕ) (found : Refusals) → IsExtent found.extent (length found.list.items) most → length found.list.items ≤ most → ListsAtMost most (survey.Refused found)
 listed-counted most found is few = (few, λ whole. (let enough = subst (λ (e : Extent). IsExtent e (length found.list.items) most) whole is in omega (arith, few, enough)))
+
+-- a list that ends with a read that failed was ended by it
+pub read-ended : (refusals : List Refusal) (refusal : Refusal) (found : Surveyed) → EndsWith refusals refusal found → EndsByRead found → refusal.fault ≡ Read
+read-ended refusals refusal (survey.Accepted accepted) ends read = absurd ends
+read-ended refusals refusal (survey.Refused found) (list_is, extent_is) (before, last, last_is, part, fault_is) =
+    let (same, is) = same_from_push refusals before refusal last (sym list_is ∙ last_is) in
+    ap (λ (r : Refusal). r.fault) is ∙ fault_is
+
+pub ended-stopped : {E : Type 0} (refusals : List Refusal) (refusal : Refusal) (result : Result Surveyed E) → IfOk result (EndsWith refusals refusal) → IfOk result (λ found. EndsByRead found → StopsByRead (Refused refusal))
+ended-stopped refusals refusal (Ok found) ends = λ read. read-ended refusals refusal found ends read
+ended-stopped refusals refusal (Err none) ends = tt
+
+pub ended-unread : {E : Type 0} (refusals : List Refusal) (fault : Fault) (refusal : Refusal) (result : Result Surveyed E) → refusal.fault ≡ fault → IsOfBytes fault → IfOk result (EndsWith refusals refusal) → IfOk result (λ found. ¬ EndsByRead found)
+ended-unread refusals fault refusal (Ok found) is of ends = λ read. subst IsOfBytes (sym is ∙ read-ended refusals refusal found ends read) of
+ended-unread refusals fault refusal (Err none) is of ends = tt
+
+-- where the bytes ended
+pub listed-unread : (refusals : Refusals) (size most : ℕ) → IsExtent refusals.extent size most → ¬ EndsByRead (survey.Refused refusals)
+listed-unread refusals size most extent_is (before, last, last_is, part, fault_is) = subst (λ (e : Extent). IsExtent e size most) part extent_is
+
+pub stop-read : (count : ℕ) (stop : Stop) → StopsByRead stop → stop_failures count stop ≡ one_call_more count
+stop-read count (Refused refusal) is = ap (read_failures count) is
+stop-read count Most none = absurd none
+
+-- ---- a read that failed is the last of a list
+
+instance-unread : (fault : Fault) → IsOfInstance fault → fault ≢ Read
+instance-unread (Check fault) of = λ is. cc
+instance-unread DuplicateName of = λ is. cc
+instance-unread (Token fault) of = absurd of
+instance-unread (Grammar fault) of = absurd of
+instance-unread SchemaName of = absurd of
+instance-unread SectionTwice of = absurd of
+instance-unread CanonicalTooLong of = absurd of
+instance-unread Dangling of = absurd of
+instance-unread WrongTarget of = absurd of
+instance-unread NoMemory of = absurd of
+instance-unread Read of = absurd of
+instance-unread Write of = absurd of
+
+unserved-number : (s : Schema) (entries : List Entry) (reference : Reference) (number : ℕ) → IsUnserved s entries reference number → (number ≡ 56) ⊎ (number ≡ 57)
+unserved-number s entries reference number (offending.unknown _ none) = inl refl
+unserved-number s entries reference number (offending.unfit _ target among named serves) = inr refl
+
+reference-unread : (s : Schema) (entries : List Entry) (refused : List Refusal) (reference : Reference) (refusal : Refusal) → IsOfReference s entries refused reference refusal → refusal.fault ≢ Read
+reference-unread s entries refused reference refusal of is = elim (unserved-number s entries reference (fault_number refusal.fault) of.unserved) [
+  | inl number ↦ absurd (omega (arith, number, ap fault_number is))
+  | inr number ↦ absurd (omega (arith, number, ap fault_number is))
+]
+
+read-or_not : (fault : Fault) → (fault ≡ Read) ⊎ (fault ≢ Read)
+read-or_not Read = inl refl
+read-or_not fault = inr (λ is. cc)
+
+-- a list ends with a read that failed, or none of its refusals is of one
+pub read-last : (s : Schema) (limits : Limits) (old new : Option (List ℕ)) (refusals : Refusals) → SurveysInput s limits old new (survey.Refused refusals) → EndsByRead (survey.Refused refusals) ⊎ Each (λ (refusal : Refusal). refusal.fault ≢ Read) refusals.list.items
+read-last s limits old new refusals (first, lists) = by refusals.extent refl lists.ends
+  where
+    records : Each (λ (refusal : Refusal). refusal.fault ≢ Read) lists.records
+    records = Each-weaker (λ (refusal : Refusal). IsOfInstance refusal.fault) (λ (refusal : Refusal). refusal.fault ≢ Read) (λ refusal of. instance-unread refusal.fault of) lists.records (refusals-of_instances s lists.lists.given lists.lists.passed lists.records lists.lists.sifted)
+
+    all : Each (λ (refusal : Refusal). refusal.fault ≢ Read) lists.behind → Each (λ (refusal : Refusal). refusal.fault ≢ Read) refusals.list.items
+    all behind = subst (λ (rs : List Refusal). Each (λ (refusal : Refusal). refusal.fault ≢ Read) rs) (sym lists.list_is) (Each-append (λ (refusal : Refusal). refusal.fault ≢ Read) lists.records lists.behind records behind)
+
+    of_references : Each (λ (refusal : Refusal). (reference : Reference) × IsOfReference s lists.lists.entries lists.records reference refusal) lists.behind → Each (λ (refusal : Refusal). refusal.fault ≢ Read) lists.behind
+    of_references behind = Each-weaker (λ (refusal : Refusal). (reference : Reference) × IsOfReference s lists.lists.entries lists.records reference refusal) (λ (refusal : Refusal). refusal.fault ≢ Read) (λ refusal of. reference-unread s lists.lists.entries lists.records of.0 refusal of.1) lists.behind behind
+
+    by : (e : Extent) → refusals.extent ≡ e → EndsList s lists.bytes lists.records lists.lists lists.behind e → EndsByRead (survey.Refused refusals) ⊎ Each (λ (refusal : Refusal). refusal.fault ≢ Read) refusals.list.items
+    by extent.Whole is ends = inr (all (of_references ends.1))
+    by extent.Most is ends = inr (all (of_references ends))
+    by extent.Part is (refusal, last) = elim (read-or_not refusal.fault) [
+      | inl read ↦ inl (lists.records, refusal, lists.list_is ∙ ap (λ (rs : List Refusal). lists.records ++ rs) last, is, read)
+      | inr other ↦ inr (all (subst (λ (rs : List Refusal). Each (λ (r : Refusal). r.fault ≢ Read) rs) (sym last) (other, tt)))
+    ]
 
 first-of : (refusals : List Refusal) (most : ℕ) → 0 < most → most ≤ length refusals → (first : Refusal) × (others : List Refusal) × (refusals ≡ first ∷ others)
 first-of [] most some enough = absurd (omega (arith, some, enough))

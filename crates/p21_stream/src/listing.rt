@@ -72,6 +72,7 @@ pub fn survey<R: Read>(
 
     ensures moved { reader.new.moved ≤ reader.old.moved + (limits.file_source + 1) }
     ensures failed { IfOk result (λ found. (reader.new.failures ≡ reader.old.failures) ⊎ ((reader.new.failures ≡ one_call_more reader.old.failures) × EndsByRead found)) }
+    ensures ends_by_read { IfOk result (λ found. EndsByRead found → reader.new.failures ≡ one_call_more reader.old.failures) }
     ensures failed_once { OnErr result ((reader.new.failures ≡ reader.old.failures) ⊎ (reader.new.failures ≡ one_call_more reader.old.failures)) }
 {
     schema.well_formed();
@@ -206,6 +207,7 @@ fn finish(surveying: Surveying, schema: &Schema, most: u64) -> Result<Surveyed, 
     requires fewer { length surveying.sieve.refusals.items < most }
     ensures gives { IfOk result (FinishGives schema.now surveying) }
     ensures counted { IfOk result (ListsAtMost most) }
+    ensures unread { IfOk result (λ found. ¬ EndsByRead found) }
 {
     schema.well_formed();
     let Surveying {
@@ -247,6 +249,7 @@ fn stopped(list: Vec<Refusal>, most: u64, stop: Stop) -> Result<Surveyed, NoMemo
     ensures gives { IfOk result (StoppedGives list.items stop) }
     ensures counted { IfOk result (ListsAtMost most) }
     ensures read { IfOk result (λ found. StopsByRead stop → EndsByRead found) }
+    ensures stopped { IfOk result (λ found. EndsByRead found → StopsByRead stop) }
 {
     match stop {
         Stop::Refused(refusal) => ended(list, refusal),

@@ -8,7 +8,7 @@ use Rattle.p21_spec_schema.specs.Schema.{Schema}
 use Rattle.p21_stream_output.specs.Ending.{IsFileOfKept}
 use Rattle.p21_stream_statements.specs.declared.refusal.Refusal.{Refusal}
 use Rattle.p21_stream.specs.Unserved.{ListsUnserved}
-use Rattle.p21_stream.proofs.SurveyEnding.{ended-counted, finish-accepted, finish-ended, finish-kept, finish-listed, listed-counted, none-listed, some-listed}
+use Rattle.p21_stream.proofs.SurveyEnding.{ended-counted, ended-unread, finish-accepted, finish-ended, finish-kept, finish-listed, listed-counted, listed-unread, none-listed, some-listed}
 use Rattle.p21_stream.specs.SurveyReading.{EndsWith, IsExtent}
 use Rattle.p21_stream.specs.declared.listing.Refusals.{Refusals}
 use Rattle.p21_stream.proofs.listing.finish.Goals as goal
@@ -18,6 +18,7 @@ returns-in-Err c =
     let ends = subst (λ (rs : List Refusal). IfOk c.ended.result (EndsWith rs c.refused.result)) (ap (λ v. v.items) c.into_refusals.ensures) c.ended.ensures.list in record {
       gives = finish-ended c.args.schema.now c.args.surveying c.in-Err.fault c.refused.result c.ended.result c.refused.ensures c.in-Err.ensures.kind c.in-Err.ensures.gives ends c.ended.ensures.other;
       counted = ended-counted c.args.most c.args.surveying.sieve.refusals.items c.refused.result c.ended.result (λ other. c.requires.fewer) ends c.ended.ensures.other;
+      unread = ended-unread c.into_refusals.result.items c.in-Err.fault c.refused.result c.ended.result c.refused.ensures c.in-Err.ensures.kind c.ended.ensures.list;
     }
 
 pub into_accepted-requires : goal.into_accepted-requires
@@ -34,6 +35,7 @@ returns-then-is_empty c =
       gives = finish-accepted c.args.schema.now c.well_formed-2.ensures c.args.surveying c.args.most c.list_unserved.new.self.refusals.items c.in_ok-accepted.accepted (let fewer = c.requires.fewer in omega (arith, fewer)) c.in-Ok.ensures.gives c.in_ok-list_unserved.ensures.lists none
           (subst (λ (k : Kept). (s : Schema) (limits : Limits) (given : List Statement) → Keeps s limits given k → IsFileOfKept k c.in_ok-accepted.accepted) same c.in_ok-accepted.ensures.kept);
       counted = tt;
+      unread = λ none. none;
     }
 
 pub returns : goal.returns
@@ -48,4 +50,5 @@ returns c =
     let few = let fewer = c.requires.fewer in c.in_ok-list_unserved.ensures.counted (omega (arith, fewer)) in record {
       gives = finish-listed c.args.schema.now c.well_formed-2.ensures c.args.surveying c.args.most found c.in-Ok.ensures.gives lists extent first others is;
       counted = listed-counted c.args.most found extent (omega (arith, few, sizes));
+      unread = listed-unread found (length found.list.items) c.args.most extent;
     }

@@ -1,5 +1,5 @@
 use Rattle.std.proofs.Common.{IfOk, arith, refl, subst, sym}
-use Rattle.p21_stream.proofs.SurveyEnding.{ended-counted, ended-gives, ended-reads, stopped-most}
+use Rattle.p21_stream.proofs.SurveyEnding.{ended-counted, ended-gives, ended-reads, ended-stopped, stopped-most}
 use Rattle.p21_stream.specs.Survey.{EndsByRead}
 use Rattle.p21_stream.specs.SurveyReading.{StoppedGives, StopsByRead}
 use Rattle.p21_stream.specs.declared.listing.Extent.TheVariants as extent
@@ -16,6 +16,10 @@ returns-in-Refused-clause-gives c =
 pub returns-in-Refused-clause-read : goal.returns-in-Refused-clause-read
 returns-in-Refused-clause-read c =
     subst (λ (stop : Stop). IfOk c.ended.result (λ found. StopsByRead stop → EndsByRead found)) (sym c.in-Refused.is) (ended-reads c.args.list.items c.in-Refused.refusal c.ended.result c.ended.ensures.list)
+
+pub returns-in-Refused-clause-stopped : goal.returns-in-Refused-clause-stopped
+returns-in-Refused-clause-stopped c =
+    subst (λ (stop : Stop). IfOk c.ended.result (λ found. EndsByRead found → StopsByRead stop)) (sym c.in-Refused.is) (ended-stopped c.args.list.items c.in-Refused.refusal c.ended.result c.ended.ensures.list)
 
 pub returns-in-Most-clause-gives : goal.returns-in-Most-clause-gives
 returns-in-Most-clause-gives c =

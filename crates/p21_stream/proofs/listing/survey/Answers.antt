@@ -1,9 +1,11 @@
-use Rattle.std.proofs.Common.{ℕ, List, IfOk, ap, arith, length, subst, sym}
+use Rattle.std.proofs.Common.{◌≡◌, ◌∙◌, ℕ, List, IfOk, ap, arith, length, subst, sym}
 use Rattle.std.proofs.lemmas.Result.{IfOk-weaker}
+use Rattle.p21_stream_io.specs.Watch.{one_call_more}
 use Rattle.p21_stream_statements.specs.declared.refusal.Refusal.{Refusal}
+use Rattle.p21_stream.proofs.SurveyEnding.{stop-read}
 use Rattle.p21_stream.proofs.SurveyFeeding.{surveyed-none}
-use Rattle.p21_stream.specs.Survey.{ListsAtMost}
-use Rattle.p21_stream.specs.SurveyReading.{StoppedGives, StopsSurvey}
+use Rattle.p21_stream.specs.Survey.{EndsByRead, ListsAtMost}
+use Rattle.p21_stream.specs.SurveyReading.{StopsByRead, StoppedGives, StopsSurvey}
 use Rattle.p21_stream.specs.Surveying.{StopsWithin}
 use Rattle.p21_stream.specs.declared.listing.Surveyed.{Surveyed}
 use Rattle.p21_stream.proofs.listing.survey.Goals as goal
@@ -36,3 +38,13 @@ returns-in-Ok-clause-counted g c = subst (λ (most : ℕ). IfOk c.finish.result 
 
 pub returns-in-Err-clause-counted : goal.returns-in-Err-clause-counted
 returns-in-Err-clause-counted g c = subst (λ (most : ℕ). IfOk c.stopped.result (ListsAtMost most)) c.at_least_one-most.ensures.asked c.stopped.ensures.counted
+
+pub returns-in-Ok-clause-ends_by_read : goal.returns-in-Ok-clause-ends_by_read
+returns-in-Ok-clause-ends_by_read g c =
+    let Counts : Surveyed → Type 0 = λ found. EndsByRead found → c.read_all.new.reader.failures ≡ one_call_more c.args.reader.now.failures in
+    IfOk-weaker _ _ Counts (λ (found : Surveyed) (unread : ¬ EndsByRead found) read. absurd (unread read)) c.finish.ensures.unread
+
+pub returns-in-Err-clause-ends_by_read : goal.returns-in-Err-clause-ends_by_read
+returns-in-Err-clause-ends_by_read g c =
+    let Counts : Surveyed → Type 0 = λ found. EndsByRead found → c.read_all.new.reader.failures ≡ one_call_more c.args.reader.now.failures in
+    IfOk-weaker _ _ Counts (λ (found : Surveyed) (stopped : EndsByRead found → StopsByRead c.in-Err.stop) read. c.in-Err.ensures.failed ∙ stop-read c.args.reader.now.failures c.in-Err.stop (stopped read)) c.stopped.ensures.stopped
