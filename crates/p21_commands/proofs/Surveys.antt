@@ -1,17 +1,38 @@
 -- What a survey of a file has to say.
-use Rattle.std.proofs.Common.{◌≡◌, ℕ, List, Option, subst}
+use Rattle.std.specs.Prelude.{OnErr, OnOk}
+use Rattle.std.specs.Io.KnownBytes.{Appends}
+use Rattle.std.proofs.Common.{◌≡◌, ◌⊎◌, ◌||◌, ◌∙◌, ℕ, true, false, List, [], ◌∷◌, Option, None, Result, Ok, Err, inl, inr, ap, refl, subst, string_bytes}
+use Rattle.std.proofs.KnownBytes.{Keeps-refl}
+use Rattle.std.proofs.lemmas.Bool.{or_right}
+use Rattle.std.proofs.lemmas.List.Folds.{list_any-append}
 use Rattle.p21_spec_basics.specs.Limits.{Limits, usual}
-use Rattle.p21_commands.specs.CheckAll.{Answers, IsSurveyed, ListsRefusals}
+use Rattle.p21_commands.specs.Check.{IsChecked}
+use Rattle.p21_commands.specs.CheckAll.{Answers, AnswersNothing, FailsToRead, Gets, IsFailedBy, IsListedUnder, IsReadBy, IsSurveyed, Lists, has_read_fault, is_read, listed_text}
+use Rattle.p21_commands.specs.Command.{Fails, FailsBy, written_by}
+use Rattle.p21_commands.specs.Failures.{Failures, NoneFailed}
+use Rattle.p21_commands.specs.Fault.{Reports, fault_line}
 use Rattle.p21_commands.specs.Files.{IsAcceptedUnder}
 use Rattle.p21_commands.specs.Load.{DeclaresRead}
+use Rattle.p21_commands.specs.Status.{failed, refused}
 use Rattle.p21_commands.specs.declared.check_all.Answer.{Answer}
 use Rattle.p21_commands.specs.declared.check_all.Answer.TheVariants.{Accepted, Refused, Unread}
+use Rattle.p21_commands.specs.declared.fault.CommandFault.{CommandFault}
+use Rattle.p21_commands.specs.declared.fault.CommandFault.TheVariants as command
+use Rattle.p21_commands.specs.Transfer.{Writes}
+use Rattle.p21_commands.proofs.Failing.{before_writing}
+use Rattle.p21_commands.proofs.Reporting.{failure_reported, refusal_written}
 use Rattle.p21_spec_schema.specs.Schema.{Schema}
-use Rattle.p21_stream.specs.Survey.{SurveysInput}
+use Rattle.p21_stream.specs.Survey.{EndsByRead, SurveysInput}
 use Rattle.p21_stream.specs.declared.listing.Refusals.{Refusals}
 use Rattle.p21_stream.specs.declared.listing.Surveyed.{Surveyed}
 use Rattle.p21_stream.specs.declared.listing.Surveyed.TheVariants as surveyed
+use Rattle.p21_stream_io.specs.Transfer.{AppendsPartOf}
+use Rattle.p21_stream_io.specs.Watch.{one_call_more}
 use Rattle.p21_stream_output.specs.Output.{Output}
+use Rattle.p21_stream_statements.specs.declared.fault.Fault.{Fault}
+use Rattle.p21_stream_statements.specs.declared.refusal.Refusal.{Refusal}
+
+-- ---- what is found
 
 -- under the usual limits, of a variant
 surveys-as : (s : Schema) (limits : Limits) (old new : Option (List ℕ)) (found as_ : Surveyed) → limits ≡ usual → found ≡ as_ → SurveysInput s limits old new found → SurveysInput s usual old new as_
@@ -20,10 +41,67 @@ surveys-as s limits old new found as_ are is surveys = subst (λ (l : Limits). S
 pub accepted-under : (schema old new : Option (List ℕ)) (s : Schema) (limits : Limits) (found : Surveyed) (output : Output) → DeclaresRead schema s → limits ≡ usual → found ≡ surveyed.Accepted output → SurveysInput s limits old new found → IsAcceptedUnder schema old new output
 accepted-under schema old new s limits found output declares are is surveys = record { declared = s; declares = declares; accepted = surveys-as s limits old new found (surveyed.Accepted output) are is surveys }
 
-surveyed-under : (schema old new : Option (List ℕ)) (s : Schema) (limits : Limits) (found : Surveyed) (refusals : Refusals) → DeclaresRead schema s → limits ≡ usual → found ≡ surveyed.Refused refusals → SurveysInput s limits old new found → IsSurveyed schema old new
-surveyed-under schema old new s limits found refusals declares are is surveys = record { declared = s; declares = declares; refusals = refusals; surveys = surveys-as s limits old new found (surveyed.Refused refusals) are is surveys }
+surveyed-under : (schema old new : Option (List ℕ)) (s : Schema) (limits : Limits) (found : Surveyed) (refusals : Refusals) (text : List ℕ) → DeclaresRead schema s → limits ≡ usual → found ≡ surveyed.Refused refusals → SurveysInput s limits old new found → text ≡ listed_text refusals → IsSurveyed schema old new refusals text
+surveyed-under schema old new s limits found refusals text declares are is surveys text_is = record {
+  declared = s;
+  declares = declares;
+  surveys = surveys-as s limits old new found (surveyed.Refused refusals) are is surveys;
+  text_is = text_is;
+}
 
-pub answers-refused : (schema old new : Option (List ℕ)) (s : Schema) (limits : Limits) (found : Surveyed) (refusals : Refusals) (answer : Answer) → DeclaresRead schema s → limits ≡ usual → found ≡ surveyed.Refused refusals → SurveysInput s limits old new found → ListsRefusals answer → Answers schema old new answer
-answers-refused schema old new s limits found refusals (Accepted line) declares are is surveys lists = absurd lists
-answers-refused schema old new s limits found refusals (Refused text) declares are is surveys lists = surveyed-under schema old new s limits found refusals declares are is surveys
-answers-refused schema old new s limits found refusals (Unread text) declares are is surveys lists = surveyed-under schema old new s limits found refusals declares are is surveys
+pub answers-listed : (schema old new : Option (List ℕ)) (s : Schema) (limits : Limits) (found : Surveyed) (refusals : Refusals) (answer : Answer) → DeclaresRead schema s → limits ≡ usual → found ≡ surveyed.Refused refusals → SurveysInput s limits old new found → Lists refusals answer → Answers schema old new answer
+answers-listed schema old new s limits found refusals (Accepted line) declares are is surveys lists = absurd lists
+answers-listed schema old new s limits found refusals (Refused text) declares are is surveys lists = (refusals, surveyed-under schema old new s limits found refusals (string_bytes text) declares are is surveys lists.0, lists.1)
+answers-listed schema old new s limits found refusals (Unread text) declares are is surveys lists = (refusals, surveyed-under schema old new s limits found refusals (string_bytes text) declares are is surveys lists.0, lists.1)
+
+-- ---- which calls failed
+
+-- a list that ends with a read that failed has one
+none-ends : (refusals : Refusals) → has_read_fault refusals.list.items ≡ false → EndsByRead (surveyed.Refused refusals) → ⊥
+none-ends refusals none (before, refusal, list_is, extent_is, fault_is) =
+    let last : (is_read refusal.fault || false) ≡ true = ap (λ (fault : Fault). is_read fault || false) fault_is in
+    let some : has_read_fault refusals.list.items ≡ true = ap has_read_fault list_is ∙ list_any-append (λ (r : Refusal). is_read r.fault) before (refusal ∷ []) ∙ or_right (has_read_fault before) (is_read refusal.fault || false) last in
+    cc
+
+pub listed-read : (schema file : Failures) (found : Surveyed) (refusals : Refusals) (answer : Answer) → found ≡ surveyed.Refused refusals → Lists refusals answer → schema.after ≡ schema.before → (file.after ≡ file.before) ⊎ ((file.after ≡ one_call_more file.before) × EndsByRead found) → IsReadBy schema file answer
+listed-read schema file found refusals (Accepted line) is lists read calls = absurd lists
+listed-read schema file found refusals (Refused text) is lists read (inl same) = (read, (same, tt))
+listed-read schema file found refusals (Refused text) is lists read (inr more) = absurd (none-ends refusals lists.1 (subst EndsByRead is more.1))
+listed-read schema file found refusals (Unread text) is lists read (inl same) = ((read, tt), inl (same, tt))
+listed-read schema file found refusals (Unread text) is lists read (inr more) = ((read, tt), inr (inl (more.0, tt)))
+
+-- ---- how the command ends
+
+no-answer : (schema old new output : Option (List ℕ)) (fault : CommandFault) → AnswersNothing schema old new fault → FailsBy (IsChecked schema old new) (IsListedUnder schema old new) output output fault
+no-answer schema old new output (command.Refused line) is = (is, Keeps-refl output)
+no-answer schema old new output command.NoMemory is = Keeps-refl output
+no-answer schema old new output command.Read is = Keeps-refl output
+no-answer schema old new output command.Write is = absurd is
+
+pub unanswered-refused : (schema old new faults_old faults_new : Option (List ℕ)) (calls : Failures) (fault : CommandFault) (status : ℕ) → AnswersNothing schema old new fault → Reports fault status faults_old faults_new calls → status ≡ refused → Writes (IsListedUnder schema old new) faults_old faults_new
+unanswered-refused schema old new faults_old faults_new calls fault status is r e = refusal_written faults_old faults_new calls (IsChecked schema old new) (IsListedUnder schema old new) None None fault status (no-answer schema old new None fault is) r e
+
+memory-gets : (old new : Option (List ℕ)) (calls : Failures) (fault : CommandFault) (status : ℕ) → fault ≡ command.NoMemory → Reports fault status old new calls → Gets (fault_line command.NoMemory) (written_by old new calls)
+memory-gets old new calls fault status is (inl r) = inl (subst (λ (f : CommandFault). Appends old new (fault_line f)) is r.1, r.2)
+memory-gets old new calls fault status is (inr r) = inr (subst (λ (f : CommandFault). AppendsPartOf old new (fault_line f)) is r.1, r.2)
+
+module _ (schema old new output faults_old faults_new : Option (List ℕ)) (schema_calls file_calls output_calls faults_calls : Failures) where
+  pub unanswered-failed : (fault : CommandFault) (status : ℕ) → AnswersNothing schema old new fault → IsFailedBy schema_calls file_calls fault → NoneFailed (output_calls ∷ []) → Reports fault status faults_old faults_new faults_calls → status ≡ failed
+      → Fails (IsChecked schema old new) (IsListedUnder schema old new) output output faults_old faults_new (schema_calls ∷ file_calls ∷ []) output_calls faults_calls
+      ⊎ FailsToRead schema old new schema_calls file_calls (written_by output output output_calls) (written_by faults_old faults_new faults_calls)
+  unanswered-failed fault status is (inl by) none r e =
+      inl (failure_reported faults_old faults_new faults_calls (IsChecked schema old new) (IsListedUnder schema old new) output output (schema_calls ∷ file_calls ∷ []) output_calls fault status (no-answer schema old new output fault is) (before_writing (schema_calls ∷ file_calls ∷ []) (output_calls ∷ []) fault by none) r e)
+  unanswered-failed fault status is (inr by) none r e = inr (record {
+    text = fault_line command.NoMemory;
+    is_text = inr refl;
+    gets = memory-gets faults_old faults_new faults_calls fault status by.0 r;
+    unwritten = Keeps-refl output;
+    failed = inr by.2;
+    others = (by.1.0, none);
+  })
+
+-- the text of a file of which a read failed
+pub text-gets : (result : Result (Unit {0}) CommandFault) (old new : Option (List ℕ)) (calls : Failures) (text bytes : List ℕ) → bytes ≡ text
+    → OnOk result (Appends old new bytes) → OnErr result (AppendsPartOf old new bytes) → OnOk result (calls.after ≡ calls.before) → OnErr result (calls.after ≡ one_call_more calls.before) → Gets text (written_by old new calls)
+text-gets (Ok done) old new calls text bytes is ok part none one = inl (subst (λ (bs : List ℕ). Appends old new bs) is ok, (none, tt))
+text-gets (Err fault) old new calls text bytes is ok part none one = inr (subst (λ (bs : List ℕ). AppendsPartOf old new bs) is part, inl (one, tt))

@@ -1,34 +1,106 @@
--- What `p21 check --all` answers. The words of its lines are tested.
-use Rattle.std.specs.Prelude.{Option, ◌⊎◌, ℕ, List, string_bytes}
-use Rattle.std.specs.Io.KnownBytes.{Keeps}
+-- What `p21 check --all` answers: a text of what a survey finds of the file.
+use Rattle.std.specs.Prelude.{Option, ◌≡◌, ◌⊎◌, ℕ, List, Bool, true, false, not, [], ◌∷◌, ◌++◌, if◌then◌else◌, codes, count_by, decimal, flat_map, string_bytes}
+use Rattle.std.specs.Io.KnownBytes.{Appends, Keeps}
+use Rattle.std.specs.List.{list_any}
 use Rattle.p21_spec_basics.specs.Limits.{usual}
 use Rattle.p21_commands.specs.Check.{IsChecked}
+use Rattle.p21_commands.specs.Command.{Written}
+use Rattle.p21_commands.specs.Failures.{Failures, FailedBy, NoneFailed, OneFailed}
+use Rattle.p21_commands.specs.Fault.{fault_line}
 use Rattle.p21_commands.specs.Load.{DeclaresRead, IsSchemaRefused}
+use Rattle.p21_commands.specs.Refusals.{refusal_line}
 use Rattle.p21_commands.specs.declared.check_all.Answer.{Answer}
 use Rattle.p21_commands.specs.declared.check_all.Answer.TheVariants.{Accepted, Refused, Unread}
 use Rattle.p21_commands.specs.declared.fault.CommandFault.{CommandFault}
 use Rattle.p21_commands.specs.declared.fault.CommandFault.TheVariants as command
 use Rattle.p21_spec_schema.specs.Schema.{Schema}
 use Rattle.p21_stream.specs.Survey.{SurveysInput}
+use Rattle.p21_stream.specs.declared.listing.Extent.{Extent}
+use Rattle.p21_stream.specs.declared.listing.Extent.TheVariants.{Most, Part, Whole}
 use Rattle.p21_stream.specs.declared.listing.Refusals.{Refusals}
-use Rattle.p21_stream.specs.declared.listing.Surveyed.TheVariants as surveyed
+use Rattle.p21_stream.specs.declared.listing.Surveyed.TheVariants as found
+use Rattle.p21_stream_io.specs.Transfer.{AppendsPartOf}
+use Rattle.p21_stream_statements.specs.declared.fault.Fault.{Fault}
+use Rattle.p21_stream_statements.specs.declared.fault.Fault.TheVariants.{Read}
+use Rattle.p21_stream_statements.specs.declared.refusal.Refusal.{Refusal}
 
--- under the schema that its reader declares, a survey finds these refusals of the file
-pub record IsSurveyed (schema file_old file_new : Option (List ℕ)) : Type 0 where
+-- ---- the text
+
+-- whether the fault is that of a read that failed
+abbrev pub is_read : Fault → Bool
+is_read Read = true
+is_read fault = false
+
+-- whether a refusal of the list is
+abbrev pub has_read_fault : List Refusal → Bool
+has_read_fault list = list_any (λ (refusal : Refusal). is_read refusal.fault) list
+
+-- the line of a refusal, or of a read that failed
+abbrev pub listed_line : Refusal → List ℕ
+listed_line refusal = if is_read refusal.fault then fault_line command.Read else refusal_line [] refusal
+
+-- how many refusals a list has, a read that failed left out
+abbrev pub listed_count : List Refusal → ℕ
+listed_count list = count_by (λ (refusal : Refusal). not (is_read refusal.fault)) list
+
+-- `refusals N`, what is said of the rest of the file, and a line feed
+abbrev pub count_line : ℕ → Extent → List ℕ
+count_line count Whole = codes "refusals " ++ (decimal count ++ codes "\n")
+count_line count Part = codes "refusals " ++ (decimal count ++ codes ", the rest was not read\n")
+count_line count Most = codes "refusals " ++ (decimal count ++ codes ", no more were looked for\n")
+
+-- a line for each refusal, in the order of the list, and the line that counts them
+abbrev pub listed_text : Refusals → List ℕ
+listed_text refusals = flat_map listed_line refusals.list.items ++ count_line (listed_count refusals.list.items) refusals.extent
+
+-- ---- what it is about
+
+-- under the schema that its reader declares, a survey finds these refusals of the file; the text is their lines and their count
+pub record IsSurveyed (schema file_old file_new : Option (List ℕ)) (refusals : Refusals) (text : List ℕ) : Type 0 where
   pub declared : Schema
   pub declares : DeclaresRead schema declared
-  pub refusals : Refusals
-  pub surveys : SurveysInput declared usual file_old file_new (surveyed.Refused refusals)
+  pub surveys : SurveysInput declared usual file_old file_new (found.Refused refusals)
+  pub text_is : text ≡ listed_text refusals
+
+-- the text is about the refusals that a survey finds of the file, none of which is a read that failed
+abbrev pub IsListed : Option (List ℕ) → Option (List ℕ) → Option (List ℕ) → List ℕ → Type 0
+IsListed schema file_old file_new text = (refusals : Refusals) × IsSurveyed schema file_old file_new refusals text × (has_read_fault refusals.list.items ≡ false)
 
 -- the line is of the schema, and the file isn't read; or the text is about what a survey finds of the file
 abbrev pub IsListedUnder : Option (List ℕ) → Option (List ℕ) → Option (List ℕ) → List ℕ → Type 0
-IsListedUnder schema file_old file_new text = (IsSchemaRefused schema text × Keeps file_old file_new) ⊎ IsSurveyed schema file_old file_new
+IsListedUnder schema file_old file_new text = (IsSchemaRefused schema text × Keeps file_old file_new) ⊎ IsListed schema file_old file_new text
+
+-- the text is about the refusals that a survey finds of the file, of which one is a read that failed
+abbrev pub IsUnread : Option (List ℕ) → Option (List ℕ) → Option (List ℕ) → List ℕ → Type 0
+IsUnread schema file_old file_new text = (refusals : Refusals) × IsSurveyed schema file_old file_new refusals text × (has_read_fault refusals.list.items ≡ true)
+
+-- ---- a read that failed
+
+-- no more than one call failed
+abbrev pub FailedOnceAtMost : Failures → Type 0
+FailedOnceAtMost calls = NoneFailed (calls ∷ []) ⊎ OneFailed (calls ∷ [])
+
+-- the writer got the text and didn't fail, or it failed and got only a part of the text
+abbrev pub Gets : List ℕ → Written → Type 0
+Gets text writer = (Appends writer.before writer.behind text × NoneFailed (writer.failures ∷ [])) ⊎ (AppendsPartOf writer.before writer.behind text × OneFailed (writer.failures ∷ []))
+
+-- A read of the file failed: the fault output gets the text about what was found, or the line of want of memory where there is none
+-- for that text. The output is as it was
+pub record FailsToRead (schema file_old file_new : Option (List ℕ)) (schema_calls file_calls : Failures) (output faults : Written) : Type 0 where
+  pub text : List ℕ
+  pub is_text : IsUnread schema file_old file_new text ⊎ (text ≡ fault_line command.NoMemory)
+  pub gets : Gets text faults
+  pub unwritten : Keeps output.before output.behind
+  pub failed : FailedOnceAtMost file_calls
+  pub others : NoneFailed (schema_calls ∷ output.failures ∷ [])
+
+-- ---- the steps of the command
 
 -- what a survey has to say
 abbrev pub Answers : Option (List ℕ) → Option (List ℕ) → Option (List ℕ) → Answer → Type 0
 Answers schema file_old file_new (Accepted line) = IsChecked schema file_old file_new (string_bytes line)
-Answers schema file_old file_new (Refused text) = IsSurveyed schema file_old file_new
-Answers schema file_old file_new (Unread text) = IsSurveyed schema file_old file_new
+Answers schema file_old file_new (Refused text) = IsListed schema file_old file_new (string_bytes text)
+Answers schema file_old file_new (Unread text) = IsUnread schema file_old file_new (string_bytes text)
 
 -- there is no answer: the schema is refused, or memory or a reader failed
 abbrev pub AnswersNothing : Option (List ℕ) → Option (List ℕ) → Option (List ℕ) → CommandFault → Type 0
@@ -37,8 +109,18 @@ AnswersNothing schema file_old file_new command.NoMemory = Unit {0}
 AnswersNothing schema file_old file_new command.Read = Unit {0}
 AnswersNothing schema file_old file_new command.Write = ⊥
 
--- the answer lists refusals
-abbrev pub ListsRefusals : Answer → Type 0
-ListsRefusals (Accepted line) = ⊥
-ListsRefusals (Refused text) = Unit {0}
-ListsRefusals (Unread text) = Unit {0}
+-- which calls of the readers of a schema and a file failed, by the answer: one of the file's at most
+abbrev pub IsReadBy : Failures → Failures → Answer → Type 0
+IsReadBy schema file (Accepted line) = NoneFailed (schema ∷ file ∷ [])
+IsReadBy schema file (Refused text) = NoneFailed (schema ∷ file ∷ [])
+IsReadBy schema file (Unread text) = NoneFailed (schema ∷ []) × FailedOnceAtMost file
+
+-- the same where there is no answer: memory may run out behind a read of the file that failed
+abbrev pub IsFailedBy : Failures → Failures → CommandFault → Type 0
+IsFailedBy schema file fault = FailedBy (schema ∷ file ∷ []) [] fault ⊎ ((fault ≡ command.NoMemory) × NoneFailed (schema ∷ []) × OneFailed (file ∷ []))
+
+-- the answer has the text of the refusals, by whether one of them is a read that failed
+abbrev pub Lists : Refusals → Answer → Type 0
+Lists refusals (Accepted line) = ⊥
+Lists refusals (Refused text) = (string_bytes text ≡ listed_text refusals) × (has_read_fault refusals.list.items ≡ false)
+Lists refusals (Unread text) = (string_bytes text ≡ listed_text refusals) × (has_read_fault refusals.list.items ≡ true)

@@ -1,9 +1,11 @@
 //! The command `check --all`.
-ghost use Rattle.std.specs.Prelude.{◌≡◌, ◌⊎◌, IfErr, IfOk};
+ghost use Rattle.std.specs.Prelude.{◌≡◌, ◌≢◌, ◌⊎◌, ◌++◌, [], ◌∷◌, IfErr, IfOk, OnOk, flat_map, string_bytes};
 ghost use Rattle.std.specs.Io.KnownBytes.{Keeps};
 ghost use Rattle.p21_spec_basics.specs.Limits.{usual};
 ghost use Rattle.p21_commands.specs.Check.{IsChecked};
-ghost use Rattle.p21_commands.specs.CheckAll.{Answers, AnswersNothing, IsListedUnder, ListsRefusals};
+ghost use Rattle.p21_commands.specs.CheckAll.{Answers, AnswersNothing, FailsToRead, IsFailedBy, IsListedUnder, IsReadBy, Lists, count_line, has_read_fault, is_read, listed_count, listed_line};
+ghost use Rattle.p21_commands.specs.Command.{Fails, written_by};
+ghost use Rattle.p21_commands.specs.Failures.{NoneFailed, failures_of};
 ghost use Rattle.p21_commands.specs.Status.{done, failed, refused};
 ghost use Rattle.p21_commands.specs.Transfer as text;
 ghost use Rattle.p21_commands.specs.Transfer.{Writes};
@@ -16,7 +18,7 @@ use crate::load::load_schema;
 use crate::status::{DONE, FAILED};
 use crate::transfer::write_whole;
 use p21_stream::{Extent, Fault, Refusal, Refusals, Surveyed, Watched, survey};
-use p21_values::Limits;
+use p21_values::{Limits, NoMemory};
 use std::alloc::{AllocError, Global};
 use std::io::{Read, Write};
 
@@ -52,6 +54,15 @@ pub fn check_all_command<S: Read, R: Read, W: Write, F: Write>(
     ensures refused { result ≡ refused
         → Writes (IsListedUnder (S.remaining schema.old.inner) (R.remaining file.old.inner) (R.remaining file.new.inner)) (F.contents faults.old.inner) (F.contents faults.new.inner) }
     ensures unwritten { result ≡ refused → Keeps (W.contents output.old.inner) (W.contents output.new.inner) }
+
+    ensures failed { result ≡ failed
+        → Fails (IsChecked (S.remaining schema.old.inner) (R.remaining file.old.inner) (R.remaining file.new.inner)) (IsListedUnder (S.remaining schema.old.inner) (R.remaining file.old.inner) (R.remaining file.new.inner))
+        (W.contents output.old.inner) (W.contents output.new.inner) (F.contents faults.old.inner) (F.contents faults.new.inner)
+        (failures_of schema.old schema.new ∷ failures_of file.old file.new ∷ []) (failures_of output.old output.new) (failures_of faults.old faults.new)
+        ⊎ FailsToRead (S.remaining schema.old.inner) (R.remaining file.old.inner) (R.remaining file.new.inner) (failures_of schema.old schema.new) (failures_of file.old file.new)
+        (written_by (W.contents output.old.inner) (W.contents output.new.inner) (failures_of output.old output.new))
+        (written_by (F.contents faults.old.inner) (F.contents faults.new.inner) (failures_of faults.old faults.new)) }
+    ensures unfailed { result ≢ failed → NoneFailed (failures_of schema.old schema.new ∷ failures_of file.old file.new ∷ failures_of output.old output.new ∷ failures_of faults.old faults.new ∷ []) }
 {
     match find_answer(alloc, schema, file, most) {
         Ok(Answer::Accepted(line)) => match write_whole(output, line.as_bytes()) {
@@ -79,10 +90,14 @@ fn find_answer<S: Read, R: Read>(
     ensures err { IfErr result (AnswersNothing (S.remaining schema.old.inner) (R.remaining file.old.inner) (R.remaining file.new.inner)) }
     ensures consumed_schema { text.ConsumesAtMost (S.remaining schema.old.inner) (S.remaining schema.new.inner) }
     ensures consumed_file { ConsumesAtMost usual (R.remaining file.old.inner) (R.remaining file.new.inner) }
+
+    ensures read { IfOk result (IsReadBy (failures_of schema.old schema.new) (failures_of file.old file.new)) }
+    ensures failed { IfErr result (IsFailedBy (failures_of schema.old schema.new) (failures_of file.old file.new)) }
 {
     let schema = load_schema(alloc, schema)?;
-    let Ok(found) = survey(alloc, &schema, Limits::usual(), most, file) else {
-        return Err(CommandFault::NoMemory);
+    let found = match survey(alloc, &schema, Limits::usual(), most, file) {
+        Ok(found) => found,
+        Err(NoMemory) => return Err(CommandFault::NoMemory),
     };
     match found {
         Surveyed::Accepted(accepted) => {
@@ -95,21 +110,11 @@ fn find_answer<S: Read, R: Read>(
 
 /// The lines of what is refused.
 fn lines_of(alloc: Global, refusals: &Refusals) -> Result<Answer, AllocError>
-    ensures { IfOk result ListsRefusals }
+    ensures { IfOk result (Lists refusals.now) }
 {
-    let mut text = String::new(alloc);
-    let mut count: u64 = 0;
-    let mut unread = false;
-    for refusal in &refusals.list {
-        if refusal.fault == Fault::Read {
-            text.push_str("read fault\n")?;
-            unread = true;
-        } else {
-            text.push_str(&refusal_text(alloc, "", *refusal)?)?;
-            count = count.saturating_add(1);
-        }
-    }
-    text.push_str(&count_line(alloc, count, refusals.extent)?)?;
+    let mut text = refusal_lines(alloc, &refusals.list)?;
+    let (count, unread) = count_of(&refusals.list);
+    text.push_str(&count_text(alloc, count, refusals.extent)?)?;
     if unread {
         Ok(Answer::Unread(text))
     } else {
@@ -117,8 +122,57 @@ fn lines_of(alloc: Global, refusals: &Refusals) -> Result<Answer, AllocError>
     }
 }
 
+/// A line for each refusal.
+fn refusal_lines(alloc: Global, list: &[Refusal]) -> Result<String, AllocError>
+    ensures { IfOk result (λ lines. string_bytes lines ≡ flat_map listed_line list.now) }
+{
+    let mut lines = String::new(alloc);
+    for refusal in list {
+        push_line(alloc, *refusal, &mut lines)?;
+    }
+    Ok(lines)
+}
+
+/// Appends the line of a refusal, or of a read that failed.
+fn push_line(alloc: Global, refusal: Refusal, lines: &mut String) -> Result<(), AllocError>
+    ensures { OnOk result (string_bytes lines.new ≡ string_bytes lines.old ++ listed_line refusal) }
+{
+    if is_read(refusal.fault) {
+        lines.push_str("read fault\n")?;
+        return Ok(());
+    }
+    lines.push_str(&refusal_text(alloc, "", refusal)?)?;
+    Ok(())
+}
+
+/// How many refusals are listed, and whether a read failed, which isn't counted.
+fn count_of(list: &[Refusal]) -> (u64, bool)
+    ensures count { result.0 ≡ listed_count list.now }
+    ensures unread { result.1 ≡ has_read_fault list.now }
+{
+    let mut count: u64 = 0;
+    let mut unread = false;
+    for refusal in list {
+        if is_read(refusal.fault) {
+            unread = true;
+        } else {
+            count += 1;
+        }
+    }
+    (count, unread)
+}
+
+/// Whether the fault is that of a read that failed.
+fn is_read(fault: Fault) -> bool
+    ensures { result ≡ is_read fault }
+{
+    fault == Fault::Read
+}
+
 /// The line that counts the refusals.
-fn count_line(alloc: Global, count: u64, extent: Extent) -> Result<String, AllocError> {
+fn count_text(alloc: Global, count: u64, extent: Extent) -> Result<String, AllocError>
+    ensures { IfOk result (λ line. string_bytes line ≡ count_line count extent) }
+{
     match extent {
         Extent::Whole => format!(in alloc; "refusals {count}\n"),
         Extent::Part => format!(in alloc; "refusals {count}, the rest was not read\n"),

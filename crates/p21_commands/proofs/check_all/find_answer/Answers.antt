@@ -1,6 +1,6 @@
 use Rattle.std.proofs.Common.{◌∙◌, ℕ, ap, length}
 use Rattle.p21_commands.specs.Check.{check_answer_line}
-use Rattle.p21_commands.proofs.Surveys.{accepted-under, answers-refused}
+use Rattle.p21_commands.proofs.Surveys.{accepted-under, answers-listed, listed-read}
 use Rattle.p21_commands.proofs.check_all.find_answer.Goals as goal
 
 pub returns-in-Accepted-clause-ok : goal.returns-in-Accepted-clause-ok
@@ -11,4 +11,7 @@ returns-in-Accepted-clause-ok g c = record {
 }
 
 pub returns-clause-ok : goal.returns-clause-ok
-returns-clause-ok g c = answers-refused _ _ _ c.in_ok-schema.schema c.usual.result c.in-Ok.found c.in-Refused.refusals c.in_ok-lines_of-in-Refused.field-0 c.in_ok-schema.ensures.ok c.usual.ensures c.in-Refused.is c.in-Ok.ensures.surveys c.in_ok-lines_of-in-Refused.ensures
+returns-clause-ok g c = answers-listed _ _ _ c.in_ok-schema.schema c.usual.result c.in-Ok.found c.in-Refused.refusals c.in_ok-lines_of-in-Refused.field-0 c.in_ok-schema.ensures.ok c.usual.ensures c.in-Refused.is c.in-Ok.ensures.surveys c.in_ok-lines_of-in-Refused.ensures
+
+pub returns-clause-read : goal.returns-clause-read
+returns-clause-read g c = listed-read _ _ c.in-Ok.found c.in-Refused.refusals c.in_ok-lines_of-in-Refused.field-0 c.in-Refused.is c.in_ok-lines_of-in-Refused.ensures c.in_ok-schema.ensures.read c.in-Ok.ensures.failed
