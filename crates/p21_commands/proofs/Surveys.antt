@@ -1,9 +1,10 @@
 -- What a survey of a file has to say.
 use Rattle.std.specs.Prelude.{OnErr, OnOk}
 use Rattle.std.specs.Io.KnownBytes.{Appends}
-use Rattle.std.proofs.Common.{◌≡◌, ◌⊎◌, ◌||◌, ◌∙◌, ℕ, true, false, List, [], ◌∷◌, Option, None, Result, Ok, Err, inl, inr, ap, refl, subst, string_bytes}
+use Rattle.std.proofs.Common.{◌≡◌, ◌≢◌, ◌⊎◌, ◌||◌, ◌∙◌, ℕ, true, false, List, [], ◌∷◌, Option, None, Result, Ok, Err, inl, inr, ap, refl, subst, sym, string_bytes}
 use Rattle.std.proofs.KnownBytes.{Keeps-refl}
-use Rattle.std.proofs.lemmas.Bool.{or_right}
+use Rattle.std.proofs.lemmas.Bool.{or_cases, or_right}
+use Rattle.std.specs.List.{AllByRecursion as Each}
 use Rattle.std.proofs.lemmas.List.Folds.{list_any-append}
 use Rattle.p21_spec_basics.specs.Limits.{Limits, usual}
 use Rattle.p21_commands.specs.Check.{IsChecked}
@@ -22,6 +23,7 @@ use Rattle.p21_commands.specs.Transfer.{Writes}
 use Rattle.p21_commands.proofs.Failing.{before_writing}
 use Rattle.p21_commands.proofs.Reporting.{failure_reported, refusal_written}
 use Rattle.p21_spec_schema.specs.Schema.{Schema}
+use Rattle.p21_stream.proofs.SurveyEnding.{read-last}
 use Rattle.p21_stream.specs.Survey.{EndsByRead, SurveysInput}
 use Rattle.p21_stream.specs.declared.listing.Refusals.{Refusals}
 use Rattle.p21_stream.specs.declared.listing.Surveyed.{Surveyed}
@@ -30,6 +32,7 @@ use Rattle.p21_stream_io.specs.Transfer.{AppendsPartOf}
 use Rattle.p21_stream_io.specs.Watch.{one_call_more}
 use Rattle.p21_stream_output.specs.Output.{Output}
 use Rattle.p21_stream_statements.specs.declared.fault.Fault.{Fault}
+use Rattle.p21_stream_statements.specs.declared.fault.Fault.TheVariants as file
 use Rattle.p21_stream_statements.specs.declared.refusal.Refusal.{Refusal}
 
 -- ---- what is found
@@ -49,26 +52,47 @@ surveyed-under schema old new s limits found refusals text declares are is surve
   text_is = text_is;
 }
 
-pub answers-listed : (schema old new : Option (List ℕ)) (s : Schema) (limits : Limits) (found : Surveyed) (refusals : Refusals) (answer : Answer) → DeclaresRead schema s → limits ≡ usual → found ≡ surveyed.Refused refusals → SurveysInput s limits old new found → Lists refusals answer → Answers schema old new answer
-answers-listed schema old new s limits found refusals (Accepted line) declares are is surveys lists = absurd lists
-answers-listed schema old new s limits found refusals (Refused text) declares are is surveys lists = (refusals, surveyed-under schema old new s limits found refusals (string_bytes text) declares are is surveys lists.0, lists.1)
-answers-listed schema old new s limits found refusals (Unread text) declares are is surveys lists = (refusals, surveyed-under schema old new s limits found refusals (string_bytes text) declares are is surveys lists.0, lists.1)
+-- ---- a read that failed
 
--- ---- which calls failed
+read-is : (fault : Fault) → is_read fault ≡ true → fault ≡ file.Read
+read-is file.Read is = refl
+read-is fault is = cc
 
--- a list that ends with a read that failed has one
+none-read : (list : List Refusal) → Each (λ (refusal : Refusal). refusal.fault ≢ file.Read) list → has_read_fault list ≡ true → ⊥
+none-read [] none some = cc
+none-read (refusal ∷ list) (other, none) some = elim (or_cases (is_read refusal.fault) (has_read_fault list) some) [
+  | inl first ↦ other (read-is refusal.fault first)
+  | inr more ↦ none-read list none more
+]
+
+-- where a list has one, it ends with it
+ends-by-read : (s : Schema) (limits : Limits) (old new : Option (List ℕ)) (refusals : Refusals) → SurveysInput s limits old new (surveyed.Refused refusals) → has_read_fault refusals.list.items ≡ true → EndsByRead (surveyed.Refused refusals)
+ends-by-read s limits old new refusals surveys some = elim (read-last s limits old new refusals surveys) [ inl ends ↦ ends | inr none ↦ absurd (none-read refusals.list.items none some) ]
+
+-- where it ends with one, it has it
 none-ends : (refusals : Refusals) → has_read_fault refusals.list.items ≡ false → EndsByRead (surveyed.Refused refusals) → ⊥
 none-ends refusals none (before, refusal, list_is, extent_is, fault_is) =
     let last : (is_read refusal.fault || false) ≡ true = ap (λ (fault : Fault). is_read fault || false) fault_is in
     let some : has_read_fault refusals.list.items ≡ true = ap has_read_fault list_is ∙ list_any-append (λ (r : Refusal). is_read r.fault) before (refusal ∷ []) ∙ or_right (has_read_fault before) (is_read refusal.fault || false) last in
     cc
 
-pub listed-read : (schema file : Failures) (found : Surveyed) (refusals : Refusals) (answer : Answer) → found ≡ surveyed.Refused refusals → Lists refusals answer → schema.after ≡ schema.before → (file.after ≡ file.before) ⊎ ((file.after ≡ one_call_more file.before) × EndsByRead found) → IsReadBy schema file answer
-listed-read schema file found refusals (Accepted line) is lists read calls = absurd lists
-listed-read schema file found refusals (Refused text) is lists read (inl same) = (read, (same, tt))
-listed-read schema file found refusals (Refused text) is lists read (inr more) = absurd (none-ends refusals lists.1 (subst EndsByRead is more.1))
-listed-read schema file found refusals (Unread text) is lists read (inl same) = ((read, tt), inl (same, tt))
-listed-read schema file found refusals (Unread text) is lists read (inr more) = ((read, tt), inr (inl (more.0, tt)))
+-- ---- what is listed
+
+module _ (s : Schema) (limits : Limits) (old new : Option (List ℕ)) (found : Surveyed) (refusals : Refusals) (is : found ≡ surveyed.Refused refusals) (surveys : SurveysInput s limits old new found) where
+  ends : has_read_fault refusals.list.items ≡ true → EndsByRead (surveyed.Refused refusals)
+  ends some = ends-by-read s limits old new refusals (subst (SurveysInput s limits old new) is surveys) some
+
+  pub answers-listed : (schema : Option (List ℕ)) (answer : Answer) → DeclaresRead schema s → limits ≡ usual → Lists refusals answer → Answers schema old new answer
+  answers-listed schema (Accepted line) declares are lists = absurd lists
+  answers-listed schema (Refused text) declares are lists = (refusals, surveyed-under schema old new s limits found refusals (string_bytes text) declares are is surveys lists.0, lists.1)
+  answers-listed schema (Unread text) declares are lists = (refusals, surveyed-under schema old new s limits found refusals (string_bytes text) declares are is surveys lists.0, ends lists.1)
+
+  -- which calls of the readers failed
+  pub listed-read : (schema file : Failures) (answer : Answer) → Lists refusals answer → schema.after ≡ schema.before → (file.after ≡ file.before) ⊎ ((file.after ≡ one_call_more file.before) × EndsByRead found) → (EndsByRead found → file.after ≡ one_call_more file.before) → IsReadBy schema file answer
+  listed-read schema file (Accepted line) lists read calls more = absurd lists
+  listed-read schema file (Refused text) lists read (inl same) more = (read, (same, tt))
+  listed-read schema file (Refused text) lists read (inr failed) more = absurd (none-ends refusals lists.1 (subst EndsByRead is failed.1))
+  listed-read schema file (Unread text) lists read calls more = ((read, tt), inl (more (subst EndsByRead (sym is) (ends lists.1)), tt))
 
 -- ---- how the command ends
 
@@ -87,16 +111,18 @@ memory-gets old new calls fault status is (inr r) = inr (subst (λ (f : CommandF
 
 module _ (schema old new output faults_old faults_new : Option (List ℕ)) (schema_calls file_calls output_calls faults_calls : Failures) where
   pub unanswered-failed : (fault : CommandFault) (status : ℕ) → AnswersNothing schema old new fault → IsFailedBy schema_calls file_calls fault → NoneFailed (output_calls ∷ []) → Reports fault status faults_old faults_new faults_calls → status ≡ failed
-      → Fails (IsChecked schema old new) (IsListedUnder schema old new) output output faults_old faults_new (schema_calls ∷ file_calls ∷ []) output_calls faults_calls
+      → (Fails (IsChecked schema old new) (IsListedUnder schema old new) output output faults_old faults_new (schema_calls ∷ []) output_calls faults_calls × NoneFailed (file_calls ∷ []))
       ⊎ FailsToRead schema old new schema_calls file_calls (written_by output output output_calls) (written_by faults_old faults_new faults_calls)
-  unanswered-failed fault status is (inl by) none r e =
-      inl (failure_reported faults_old faults_new faults_calls (IsChecked schema old new) (IsListedUnder schema old new) output output (schema_calls ∷ file_calls ∷ []) output_calls fault status (no-answer schema old new output fault is) (before_writing (schema_calls ∷ file_calls ∷ []) (output_calls ∷ []) fault by none) r e)
+  unanswered-failed fault status is (inl by) none r e = inl (
+    failure_reported faults_old faults_new faults_calls (IsChecked schema old new) (IsListedUnder schema old new) output output (schema_calls ∷ []) output_calls fault status (no-answer schema old new output fault is) (before_writing (schema_calls ∷ []) (output_calls ∷ []) fault by.0 none) r e,
+    by.1,
+  )
   unanswered-failed fault status is (inr by) none r e = inr (record {
     text = fault_line command.NoMemory;
     is_text = inr refl;
     gets = memory-gets faults_old faults_new faults_calls fault status by.0 r;
     unwritten = Keeps-refl output;
-    failed = inr by.2;
+    failed = by.2;
     others = (by.1.0, none);
   })
 

@@ -14,7 +14,7 @@ use Rattle.p21_commands.specs.declared.check_all.Answer.TheVariants.{Accepted, R
 use Rattle.p21_commands.specs.declared.fault.CommandFault.{CommandFault}
 use Rattle.p21_commands.specs.declared.fault.CommandFault.TheVariants as command
 use Rattle.p21_spec_schema.specs.Schema.{Schema}
-use Rattle.p21_stream.specs.Survey.{SurveysInput}
+use Rattle.p21_stream.specs.Survey.{EndsByRead, SurveysInput}
 use Rattle.p21_stream.specs.declared.listing.Extent.{Extent}
 use Rattle.p21_stream.specs.declared.listing.Extent.TheVariants.{Most, Part, Whole}
 use Rattle.p21_stream.specs.declared.listing.Refusals.{Refusals}
@@ -31,15 +31,15 @@ abbrev pub is_read : Fault → Bool
 is_read Read = true
 is_read fault = false
 
--- whether a refusal of the list is
+-- whether the list has the refusal of a read that failed
 abbrev pub has_read_fault : List Refusal → Bool
 has_read_fault list = list_any (λ (refusal : Refusal). is_read refusal.fault) list
 
--- the line of a refusal, or of a read that failed
+-- the line of a refusal; that of a read that failed is the line of a read fault
 abbrev pub listed_line : Refusal → List ℕ
 listed_line refusal = if is_read refusal.fault then fault_line command.Read else refusal_line [] refusal
 
--- how many refusals a list has, a read that failed left out
+-- how many refusals the list has, the one of a read that failed left out
 abbrev pub listed_count : List Refusal → ℕ
 listed_count list = count_by (λ (refusal : Refusal). not (is_read refusal.fault)) list
 
@@ -70,28 +70,24 @@ IsListed schema file_old file_new text = (refusals : Refusals) × IsSurveyed sch
 abbrev pub IsListedUnder : Option (List ℕ) → Option (List ℕ) → Option (List ℕ) → List ℕ → Type 0
 IsListedUnder schema file_old file_new text = (IsSchemaRefused schema text × Keeps file_old file_new) ⊎ IsListed schema file_old file_new text
 
--- the text is about the refusals that a survey finds of the file, of which one is a read that failed
+-- the text is about the refusals that a survey finds of the file, of which the last is a read that failed
 abbrev pub IsUnread : Option (List ℕ) → Option (List ℕ) → Option (List ℕ) → List ℕ → Type 0
-IsUnread schema file_old file_new text = (refusals : Refusals) × IsSurveyed schema file_old file_new refusals text × (has_read_fault refusals.list.items ≡ true)
+IsUnread schema file_old file_new text = (refusals : Refusals) × IsSurveyed schema file_old file_new refusals text × EndsByRead (found.Refused refusals)
 
 -- ---- a read that failed
-
--- no more than one call failed
-abbrev pub FailedOnceAtMost : Failures → Type 0
-FailedOnceAtMost calls = NoneFailed (calls ∷ []) ⊎ OneFailed (calls ∷ [])
 
 -- the writer got the text and didn't fail, or it failed and got only a part of the text
 abbrev pub Gets : List ℕ → Written → Type 0
 Gets text writer = (Appends writer.before writer.behind text × NoneFailed (writer.failures ∷ [])) ⊎ (AppendsPartOf writer.before writer.behind text × OneFailed (writer.failures ∷ []))
 
--- A read of the file failed: the fault output gets the text about what was found, or the line of want of memory where there is none
--- for that text. The output is as it was
+-- One read of the file failed, and none of the schema: the fault output gets the text about what was found, or the line of want of
+-- memory. The output is as it was
 pub record FailsToRead (schema file_old file_new : Option (List ℕ)) (schema_calls file_calls : Failures) (output faults : Written) : Type 0 where
   pub text : List ℕ
   pub is_text : IsUnread schema file_old file_new text ⊎ (text ≡ fault_line command.NoMemory)
   pub gets : Gets text faults
   pub unwritten : Keeps output.before output.behind
-  pub failed : FailedOnceAtMost file_calls
+  pub failed : OneFailed (file_calls ∷ [])
   pub others : NoneFailed (schema_calls ∷ output.failures ∷ [])
 
 -- ---- the steps of the command
@@ -109,15 +105,15 @@ AnswersNothing schema file_old file_new command.NoMemory = Unit {0}
 AnswersNothing schema file_old file_new command.Read = Unit {0}
 AnswersNothing schema file_old file_new command.Write = ⊥
 
--- which calls of the readers of a schema and a file failed, by the answer: one of the file's at most
+-- which calls of the readers of a schema and a file failed, by the answer
 abbrev pub IsReadBy : Failures → Failures → Answer → Type 0
 IsReadBy schema file (Accepted line) = NoneFailed (schema ∷ file ∷ [])
 IsReadBy schema file (Refused text) = NoneFailed (schema ∷ file ∷ [])
-IsReadBy schema file (Unread text) = NoneFailed (schema ∷ []) × FailedOnceAtMost file
+IsReadBy schema file (Unread text) = NoneFailed (schema ∷ []) × OneFailed (file ∷ [])
 
 -- the same where there is no answer: memory may run out behind a read of the file that failed
 abbrev pub IsFailedBy : Failures → Failures → CommandFault → Type 0
-IsFailedBy schema file fault = FailedBy (schema ∷ file ∷ []) [] fault ⊎ ((fault ≡ command.NoMemory) × NoneFailed (schema ∷ []) × OneFailed (file ∷ []))
+IsFailedBy schema file fault = (FailedBy (schema ∷ []) [] fault × NoneFailed (file ∷ [])) ⊎ ((fault ≡ command.NoMemory) × NoneFailed (schema ∷ []) × OneFailed (file ∷ []))
 
 -- the answer has the text of the refusals, by whether one of them is a read that failed
 abbrev pub Lists : Refusals → Answer → Type 0

@@ -56,9 +56,10 @@ pub fn check_all_command<S: Read, R: Read, W: Write, F: Write>(
     ensures unwritten { result ≡ refused → Keeps (W.contents output.old.inner) (W.contents output.new.inner) }
 
     ensures failed { result ≡ failed
-        → Fails (IsChecked (S.remaining schema.old.inner) (R.remaining file.old.inner) (R.remaining file.new.inner)) (IsListedUnder (S.remaining schema.old.inner) (R.remaining file.old.inner) (R.remaining file.new.inner))
+        → (Fails (IsChecked (S.remaining schema.old.inner) (R.remaining file.old.inner) (R.remaining file.new.inner)) (IsListedUnder (S.remaining schema.old.inner) (R.remaining file.old.inner) (R.remaining file.new.inner))
         (W.contents output.old.inner) (W.contents output.new.inner) (F.contents faults.old.inner) (F.contents faults.new.inner)
-        (failures_of schema.old schema.new ∷ failures_of file.old file.new ∷ []) (failures_of output.old output.new) (failures_of faults.old faults.new)
+        (failures_of schema.old schema.new ∷ []) (failures_of output.old output.new) (failures_of faults.old faults.new)
+        × NoneFailed (failures_of file.old file.new ∷ []))
         ⊎ FailsToRead (S.remaining schema.old.inner) (R.remaining file.old.inner) (R.remaining file.new.inner) (failures_of schema.old schema.new) (failures_of file.old file.new)
         (written_by (W.contents output.old.inner) (W.contents output.new.inner) (failures_of output.old output.new))
         (written_by (F.contents faults.old.inner) (F.contents faults.new.inner) (failures_of faults.old faults.new)) }

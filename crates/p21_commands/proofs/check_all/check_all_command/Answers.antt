@@ -2,9 +2,8 @@ use Rattle.std.proofs.Common.{Err, [], ◌∷◌, inl, inr, refl, subst, sym, st
 use Rattle.std.proofs.KnownBytes.{Keeps-refl}
 use Rattle.p21_commands.specs.Check.{IsChecked}
 use Rattle.p21_commands.specs.CheckAll.{IsListedUnder}
-use Rattle.p21_commands.specs.Failures.{failures_of}
+use Rattle.p21_commands.specs.Failures.{FailedBy, failures_of}
 use Rattle.p21_commands.specs.declared.fault.CommandFault.TheVariants as command
-use Rattle.p21_commands.proofs.Counting.{read-unwritten}
 use Rattle.p21_commands.proofs.Reporting.{failure_reported, part_written}
 use Rattle.p21_commands.proofs.Surveys.{text-gets, unanswered-failed, unanswered-refused}
 use Rattle.p21_commands.proofs.check_all.check_all_command.Goals as goal
@@ -14,13 +13,16 @@ returns-in-Ok-Accepted-clause-failed g c e =
     let IsAnswer = IsChecked (g.S.Read.remaining c.args.schema.now.inner) (g.R.Read.remaining c.args.file.now.inner) (g.R.Read.remaining c.find_answer.new.file.inner) in
     let IsRefusal = IsListedUnder (g.S.Read.remaining c.args.schema.now.inner) (g.R.Read.remaining c.args.file.now.inner) (g.R.Read.remaining c.find_answer.new.file.inner) in
     let schema = failures_of c.args.schema.now c.find_answer.new.schema in
-    let file = failures_of c.args.file.now c.find_answer.new.file in
+    let output = failures_of c.args.output.now c.write_whole.new.writer in
     let fault = c.in-Err-write_whole.fault in
     let answer = rw c.in-Ok-Accepted.field-0-is at c.in-Ok-Accepted.ensures.ok in
     let read = rw c.in-Ok-Accepted.field-0-is at c.in-Ok-Accepted.ensures.read in
-    inl (failure_reported _ _ _ IsAnswer IsRefusal _ _ (schema ∷ file ∷ []) _ fault _
-    (part_written IsAnswer IsRefusal (Err fault) _ _ _ (subst IsAnswer (sym c.as_bytes.ensures.value) answer) c.in-Err-write_whole.ensures.err c.in-Err-write_whole.ensures.fault)
-    (read-unwritten (Err fault) schema file _ read c.in-Err-write_whole.ensures.fault c.in-Err-write_whole.ensures.failed) c.report.ensures e)
+    let by : FailedBy (schema ∷ []) (output ∷ []) fault = subst (FailedBy (schema ∷ []) (output ∷ [])) (sym c.in-Err-write_whole.ensures.fault) ((read.0, tt), inl (c.in-Err-write_whole.ensures.failed, tt)) in
+    inl (
+      failure_reported _ _ _ IsAnswer IsRefusal _ _ (schema ∷ []) _ fault _
+          (part_written IsAnswer IsRefusal (Err fault) _ _ _ (subst IsAnswer (sym c.as_bytes.ensures.value) answer) c.in-Err-write_whole.ensures.err c.in-Err-write_whole.ensures.fault) by c.report.ensures e,
+      (read.1.0, tt),
+    )
 
 pub returns-in-Ok-Refused-clause-refused : goal.returns-in-Ok-Refused-clause-refused
 returns-in-Ok-Refused-clause-refused g c e =
@@ -31,7 +33,7 @@ pub returns-in-Ok-Refused-clause-failed : goal.returns-in-Ok-Refused-clause-fail
 returns-in-Ok-Refused-clause-failed g c e =
     let answer = rw c.in-Ok-Refused.field-0-is at c.in-Ok-Refused.ensures.ok in
     let read = rw c.in-Ok-Refused.field-0-is at c.in-Ok-Refused.ensures.read in
-    unanswered-failed _ _ _ _ _ _ _ _ _ _ (command.Refused c.in-Ok-Refused.lines) _ (inr answer) (inl (read, tt)) (refl, tt) c.report-in-Ok-Refused.ensures e
+    unanswered-failed _ _ _ _ _ _ _ _ _ _ (command.Refused c.in-Ok-Refused.lines) _ (inr answer) (inl (((read.0, tt), tt), (read.1.0, tt))) (refl, tt) c.report-in-Ok-Refused.ensures e
 
 pub returns-in-Ok-Unread-clause-failed : goal.returns-in-Ok-Unread-clause-failed
 returns-in-Ok-Unread-clause-failed g c e =

@@ -11,7 +11,9 @@ returns-in-Accepted-clause-ok g c = record {
 }
 
 pub returns-clause-ok : goal.returns-clause-ok
-returns-clause-ok g c = answers-listed _ _ _ c.in_ok-schema.schema c.usual.result c.in-Ok.found c.in-Refused.refusals c.in_ok-lines_of-in-Refused.field-0 c.in_ok-schema.ensures.ok c.usual.ensures c.in-Refused.is c.in-Ok.ensures.surveys c.in_ok-lines_of-in-Refused.ensures
+returns-clause-ok g c =
+    answers-listed c.in_ok-schema.schema c.usual.result _ _ c.in-Ok.found c.in-Refused.refusals c.in-Refused.is c.in-Ok.ensures.surveys _ c.in_ok-lines_of-in-Refused.field-0 c.in_ok-schema.ensures.ok c.usual.ensures c.in_ok-lines_of-in-Refused.ensures
 
 pub returns-clause-read : goal.returns-clause-read
-returns-clause-read g c = listed-read _ _ c.in-Ok.found c.in-Refused.refusals c.in_ok-lines_of-in-Refused.field-0 c.in-Refused.is c.in_ok-lines_of-in-Refused.ensures c.in_ok-schema.ensures.read c.in-Ok.ensures.failed
+returns-clause-read g c =
+    listed-read c.in_ok-schema.schema c.usual.result _ _ c.in-Ok.found c.in-Refused.refusals c.in-Refused.is c.in-Ok.ensures.surveys _ _ c.in_ok-lines_of-in-Refused.field-0 c.in_ok-lines_of-in-Refused.ensures c.in_ok-schema.ensures.read c.in-Ok.ensures.failed c.in-Ok.ensures.ends_by_read
