@@ -24,7 +24,7 @@ use Rattle.p21_commands.proofs.Failing.{before_writing}
 use Rattle.p21_commands.proofs.Reporting.{failure_reported, refusal_written}
 use Rattle.p21_spec_schema.specs.Schema.{Schema}
 use Rattle.p21_stream.proofs.SurveyEnding.{read-last}
-use Rattle.p21_stream.specs.Survey.{EndsByRead, SurveysInput}
+use Rattle.p21_stream.specs.Survey.{EndsByRead, ListsAtMost, SurveysInput, asked_for}
 use Rattle.p21_stream.specs.declared.listing.Refusals.{Refusals}
 use Rattle.p21_stream.specs.declared.listing.Surveyed.{Surveyed}
 use Rattle.p21_stream.specs.declared.listing.Surveyed.TheVariants as surveyed
@@ -44,11 +44,12 @@ surveys-as s limits old new found as_ are is surveys = subst (λ (l : Limits). S
 pub accepted-under : (schema old new : Option (List ℕ)) (s : Schema) (limits : Limits) (found : Surveyed) (output : Output) → DeclaresRead schema s → limits ≡ usual → found ≡ surveyed.Accepted output → SurveysInput s limits old new found → IsAcceptedUnder schema old new output
 accepted-under schema old new s limits found output declares are is surveys = record { declared = s; declares = declares; accepted = surveys-as s limits old new found (surveyed.Accepted output) are is surveys }
 
-surveyed-under : (schema old new : Option (List ℕ)) (s : Schema) (limits : Limits) (found : Surveyed) (refusals : Refusals) (text : List ℕ) → DeclaresRead schema s → limits ≡ usual → found ≡ surveyed.Refused refusals → SurveysInput s limits old new found → text ≡ listed_text refusals → IsSurveyed schema old new refusals text
-surveyed-under schema old new s limits found refusals text declares are is surveys text_is = record {
+surveyed-under : (most : ℕ) (schema old new : Option (List ℕ)) (s : Schema) (limits : Limits) (found : Surveyed) (refusals : Refusals) (text : List ℕ) → DeclaresRead schema s → limits ≡ usual → found ≡ surveyed.Refused refusals → SurveysInput s limits old new found → ListsAtMost (asked_for most) found → text ≡ listed_text refusals → IsSurveyed most schema old new refusals text
+surveyed-under most schema old new s limits found refusals text declares are is surveys counted text_is = record {
   declared = s;
   declares = declares;
   surveys = surveys-as s limits old new found (surveyed.Refused refusals) are is surveys;
+  counted = subst (ListsAtMost (asked_for most)) is counted;
   text_is = text_is;
 }
 
@@ -82,10 +83,10 @@ module _ (s : Schema) (limits : Limits) (old new : Option (List ℕ)) (found : S
   ends : has_read_fault refusals.list.items ≡ true → EndsByRead (surveyed.Refused refusals)
   ends some = ends-by-read s limits old new refusals (subst (SurveysInput s limits old new) is surveys) some
 
-  pub answers-listed : (schema : Option (List ℕ)) (answer : Answer) → DeclaresRead schema s → limits ≡ usual → Lists refusals answer → Answers schema old new answer
-  answers-listed schema (Accepted line) declares are lists = absurd lists
-  answers-listed schema (Refused text) declares are lists = (refusals, surveyed-under schema old new s limits found refusals (string_bytes text) declares are is surveys lists.0, lists.1)
-  answers-listed schema (Unread text) declares are lists = (refusals, surveyed-under schema old new s limits found refusals (string_bytes text) declares are is surveys lists.0, ends lists.1)
+  pub answers-listed : (most : ℕ) (schema : Option (List ℕ)) (answer : Answer) → DeclaresRead schema s → limits ≡ usual → ListsAtMost (asked_for most) found → Lists refusals answer → Answers most schema old new answer
+  answers-listed most schema (Accepted line) declares are counted lists = absurd lists
+  answers-listed most schema (Refused text) declares are counted lists = (refusals, surveyed-under most schema old new s limits found refusals (string_bytes text) declares are is surveys counted lists.0, lists.1)
+  answers-listed most schema (Unread text) declares are counted lists = (refusals, surveyed-under most schema old new s limits found refusals (string_bytes text) declares are is surveys counted lists.0, ends lists.1)
 
   -- which calls of the readers failed
   pub listed-read : (schema file : Failures) (answer : Answer) → Lists refusals answer → schema.after ≡ schema.before → (file.after ≡ file.before) ⊎ ((file.after ≡ one_call_more file.before) × EndsByRead found) → (EndsByRead found → file.after ≡ one_call_more file.before) → IsReadBy schema file answer
@@ -96,25 +97,25 @@ module _ (s : Schema) (limits : Limits) (old new : Option (List ℕ)) (found : S
 
 -- ---- how the command ends
 
-no-answer : (schema old new output : Option (List ℕ)) (fault : CommandFault) → AnswersNothing schema old new fault → FailsBy (IsChecked schema old new) (IsListedUnder schema old new) output output fault
-no-answer schema old new output (command.Refused line) is = (is, Keeps-refl output)
-no-answer schema old new output command.NoMemory is = Keeps-refl output
-no-answer schema old new output command.Read is = Keeps-refl output
-no-answer schema old new output command.Write is = absurd is
+no-answer : (most : ℕ) (schema old new output : Option (List ℕ)) (fault : CommandFault) → AnswersNothing most schema old new fault → FailsBy (IsChecked schema old new) (IsListedUnder most schema old new) output output fault
+no-answer most schema old new output (command.Refused line) is = (is, Keeps-refl output)
+no-answer most schema old new output command.NoMemory is = Keeps-refl output
+no-answer most schema old new output command.Read is = Keeps-refl output
+no-answer most schema old new output command.Write is = absurd is
 
-pub unanswered-refused : (schema old new faults_old faults_new : Option (List ℕ)) (calls : Failures) (fault : CommandFault) (status : ℕ) → AnswersNothing schema old new fault → Reports fault status faults_old faults_new calls → status ≡ refused → Writes (IsListedUnder schema old new) faults_old faults_new
-unanswered-refused schema old new faults_old faults_new calls fault status is r e = refusal_written faults_old faults_new calls (IsChecked schema old new) (IsListedUnder schema old new) None None fault status (no-answer schema old new None fault is) r e
+pub unanswered-refused : (most : ℕ) (schema old new faults_old faults_new : Option (List ℕ)) (calls : Failures) (fault : CommandFault) (status : ℕ) → AnswersNothing most schema old new fault → Reports fault status faults_old faults_new calls → status ≡ refused → Writes (IsListedUnder most schema old new) faults_old faults_new
+unanswered-refused most schema old new faults_old faults_new calls fault status is r e = refusal_written faults_old faults_new calls (IsChecked schema old new) (IsListedUnder most schema old new) None None fault status (no-answer most schema old new None fault is) r e
 
 memory-gets : (old new : Option (List ℕ)) (calls : Failures) (fault : CommandFault) (status : ℕ) → fault ≡ command.NoMemory → Reports fault status old new calls → Gets (fault_line command.NoMemory) (written_by old new calls)
 memory-gets old new calls fault status is (inl r) = inl (subst (λ (f : CommandFault). Appends old new (fault_line f)) is r.1, r.2)
 memory-gets old new calls fault status is (inr r) = inr (subst (λ (f : CommandFault). AppendsPartOf old new (fault_line f)) is r.1, r.2)
 
-module _ (schema old new output faults_old faults_new : Option (List ℕ)) (schema_calls file_calls output_calls faults_calls : Failures) where
-  pub unanswered-failed : (fault : CommandFault) (status : ℕ) → AnswersNothing schema old new fault → IsFailedBy schema_calls file_calls fault → NoneFailed (output_calls ∷ []) → Reports fault status faults_old faults_new faults_calls → status ≡ failed
-      → (Fails (IsChecked schema old new) (IsListedUnder schema old new) output output faults_old faults_new (schema_calls ∷ []) output_calls faults_calls × NoneFailed (file_calls ∷ []))
-      ⊎ FailsToRead schema old new schema_calls file_calls (written_by output output output_calls) (written_by faults_old faults_new faults_calls)
+module _ (most : ℕ) (schema old new output faults_old faults_new : Option (List ℕ)) (schema_calls file_calls output_calls faults_calls : Failures) where
+  pub unanswered-failed : (fault : CommandFault) (status : ℕ) → AnswersNothing most schema old new fault → IsFailedBy schema_calls file_calls fault → NoneFailed (output_calls ∷ []) → Reports fault status faults_old faults_new faults_calls → status ≡ failed
+      → (Fails (IsChecked schema old new) (IsListedUnder most schema old new) output output faults_old faults_new (schema_calls ∷ []) output_calls faults_calls × NoneFailed (file_calls ∷ []))
+      ⊎ FailsToRead most schema old new schema_calls file_calls (written_by output output output_calls) (written_by faults_old faults_new faults_calls)
   unanswered-failed fault status is (inl by) none r e = inl (
-    failure_reported faults_old faults_new faults_calls (IsChecked schema old new) (IsListedUnder schema old new) output output (schema_calls ∷ []) output_calls fault status (no-answer schema old new output fault is) (before_writing (schema_calls ∷ []) (output_calls ∷ []) fault by.0 none) r e,
+    failure_reported faults_old faults_new faults_calls (IsChecked schema old new) (IsListedUnder most schema old new) output output (schema_calls ∷ []) output_calls fault status (no-answer most schema old new output fault is) (before_writing (schema_calls ∷ []) (output_calls ∷ []) fault by.0 none) r e,
     by.1,
   )
   unanswered-failed fault status is (inr by) none r e = inr (record {

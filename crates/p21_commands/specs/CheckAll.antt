@@ -14,7 +14,7 @@ use Rattle.p21_commands.specs.declared.check_all.Answer.TheVariants.{Accepted, R
 use Rattle.p21_commands.specs.declared.fault.CommandFault.{CommandFault}
 use Rattle.p21_commands.specs.declared.fault.CommandFault.TheVariants as command
 use Rattle.p21_spec_schema.specs.Schema.{Schema}
-use Rattle.p21_stream.specs.Survey.{EndsByRead, SurveysInput}
+use Rattle.p21_stream.specs.Survey.{EndsByRead, ListsAtMost, SurveysInput, asked_for}
 use Rattle.p21_stream.specs.declared.listing.Extent.{Extent}
 use Rattle.p21_stream.specs.declared.listing.Extent.TheVariants.{Most, Part, Whole}
 use Rattle.p21_stream.specs.declared.listing.Refusals.{Refusals}
@@ -55,24 +55,26 @@ listed_text refusals = flat_map listed_line refusals.list.items ++ count_line (l
 
 -- ---- what it is about
 
--- under the schema that its reader declares, a survey finds these refusals of the file; the text is their lines and their count
-pub record IsSurveyed (schema file_old file_new : Option (List ℕ)) (refusals : Refusals) (text : List ℕ) : Type 0 where
+-- under the schema that its reader declares, a survey finds these refusals of the file, no more than were asked for; the text is
+-- their lines and their count
+pub record IsSurveyed (most : ℕ) (schema file_old file_new : Option (List ℕ)) (refusals : Refusals) (text : List ℕ) : Type 0 where
   pub declared : Schema
   pub declares : DeclaresRead schema declared
   pub surveys : SurveysInput declared usual file_old file_new (found.Refused refusals)
+  pub counted : ListsAtMost (asked_for most) (found.Refused refusals)
   pub text_is : text ≡ listed_text refusals
 
 -- the text is about the refusals that a survey finds of the file, none of which is a read that failed
-abbrev pub IsListed : Option (List ℕ) → Option (List ℕ) → Option (List ℕ) → List ℕ → Type 0
-IsListed schema file_old file_new text = (refusals : Refusals) × IsSurveyed schema file_old file_new refusals text × (has_read_fault refusals.list.items ≡ false)
+abbrev pub IsListed : ℕ → Option (List ℕ) → Option (List ℕ) → Option (List ℕ) → List ℕ → Type 0
+IsListed most schema file_old file_new text = (refusals : Refusals) × IsSurveyed most schema file_old file_new refusals text × (has_read_fault refusals.list.items ≡ false)
 
 -- the line is of the schema, and the file isn't read; or the text is about what a survey finds of the file
-abbrev pub IsListedUnder : Option (List ℕ) → Option (List ℕ) → Option (List ℕ) → List ℕ → Type 0
-IsListedUnder schema file_old file_new text = (IsSchemaRefused schema text × Keeps file_old file_new) ⊎ IsListed schema file_old file_new text
+abbrev pub IsListedUnder : ℕ → Option (List ℕ) → Option (List ℕ) → Option (List ℕ) → List ℕ → Type 0
+IsListedUnder most schema file_old file_new text = (IsSchemaRefused schema text × Keeps file_old file_new) ⊎ IsListed most schema file_old file_new text
 
 -- the text is about the refusals that a survey finds of the file, of which the last is a read that failed
-abbrev pub IsUnread : Option (List ℕ) → Option (List ℕ) → Option (List ℕ) → List ℕ → Type 0
-IsUnread schema file_old file_new text = (refusals : Refusals) × IsSurveyed schema file_old file_new refusals text × EndsByRead (found.Refused refusals)
+abbrev pub IsUnread : ℕ → Option (List ℕ) → Option (List ℕ) → Option (List ℕ) → List ℕ → Type 0
+IsUnread most schema file_old file_new text = (refusals : Refusals) × IsSurveyed most schema file_old file_new refusals text × EndsByRead (found.Refused refusals)
 
 -- ---- a read that failed
 
@@ -82,9 +84,9 @@ Gets text writer = (Appends writer.before writer.behind text × NoneFailed (writ
 
 -- One read of the file failed, and none of the schema: the fault output gets the text about what was found, or the line of want of
 -- memory. The output is as it was
-pub record FailsToRead (schema file_old file_new : Option (List ℕ)) (schema_calls file_calls : Failures) (output faults : Written) : Type 0 where
+pub record FailsToRead (most : ℕ) (schema file_old file_new : Option (List ℕ)) (schema_calls file_calls : Failures) (output faults : Written) : Type 0 where
   pub text : List ℕ
-  pub is_text : IsUnread schema file_old file_new text ⊎ (text ≡ fault_line command.NoMemory)
+  pub is_text : IsUnread most schema file_old file_new text ⊎ (text ≡ fault_line command.NoMemory)
   pub gets : Gets text faults
   pub unwritten : Keeps output.before output.behind
   pub failed : OneFailed (file_calls ∷ [])
@@ -93,17 +95,17 @@ pub record FailsToRead (schema file_old file_new : Option (List ℕ)) (schema_ca
 -- ---- the steps of the command
 
 -- what a survey has to say
-abbrev pub Answers : Option (List ℕ) → Option (List ℕ) → Option (List ℕ) → Answer → Type 0
-Answers schema file_old file_new (Accepted line) = IsChecked schema file_old file_new (string_bytes line)
-Answers schema file_old file_new (Refused text) = IsListed schema file_old file_new (string_bytes text)
-Answers schema file_old file_new (Unread text) = IsUnread schema file_old file_new (string_bytes text)
+abbrev pub Answers : ℕ → Option (List ℕ) → Option (List ℕ) → Option (List ℕ) → Answer → Type 0
+Answers most schema file_old file_new (Accepted line) = IsChecked schema file_old file_new (string_bytes line)
+Answers most schema file_old file_new (Refused text) = IsListed most schema file_old file_new (string_bytes text)
+Answers most schema file_old file_new (Unread text) = IsUnread most schema file_old file_new (string_bytes text)
 
 -- there is no answer: the schema is refused, or memory or a reader failed
-abbrev pub AnswersNothing : Option (List ℕ) → Option (List ℕ) → Option (List ℕ) → CommandFault → Type 0
-AnswersNothing schema file_old file_new (command.Refused line) = IsListedUnder schema file_old file_new (string_bytes line)
-AnswersNothing schema file_old file_new command.NoMemory = Unit {0}
-AnswersNothing schema file_old file_new command.Read = Unit {0}
-AnswersNothing schema file_old file_new command.Write = ⊥
+abbrev pub AnswersNothing : ℕ → Option (List ℕ) → Option (List ℕ) → Option (List ℕ) → CommandFault → Type 0
+AnswersNothing most schema file_old file_new (command.Refused line) = IsListedUnder most schema file_old file_new (string_bytes line)
+AnswersNothing most schema file_old file_new command.NoMemory = Unit {0}
+AnswersNothing most schema file_old file_new command.Read = Unit {0}
+AnswersNothing most schema file_old file_new command.Write = ⊥
 
 -- which calls of the readers of a schema and a file failed, by the answer
 abbrev pub IsReadBy : Failures → Failures → Answer → Type 0

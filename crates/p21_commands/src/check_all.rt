@@ -52,15 +52,15 @@ pub fn check_all_command<S: Read, R: Read, W: Write, F: Write>(
     ensures silent { result ≡ done → Keeps (F.contents faults.old.inner) (F.contents faults.new.inner) }
 
     ensures refused { result ≡ refused
-        → Writes (IsListedUnder (S.remaining schema.old.inner) (R.remaining file.old.inner) (R.remaining file.new.inner)) (F.contents faults.old.inner) (F.contents faults.new.inner) }
+        → Writes (IsListedUnder most (S.remaining schema.old.inner) (R.remaining file.old.inner) (R.remaining file.new.inner)) (F.contents faults.old.inner) (F.contents faults.new.inner) }
     ensures unwritten { result ≡ refused → Keeps (W.contents output.old.inner) (W.contents output.new.inner) }
 
     ensures failed { result ≡ failed
-        → (Fails (IsChecked (S.remaining schema.old.inner) (R.remaining file.old.inner) (R.remaining file.new.inner)) (IsListedUnder (S.remaining schema.old.inner) (R.remaining file.old.inner) (R.remaining file.new.inner))
+        → (Fails (IsChecked (S.remaining schema.old.inner) (R.remaining file.old.inner) (R.remaining file.new.inner)) (IsListedUnder most (S.remaining schema.old.inner) (R.remaining file.old.inner) (R.remaining file.new.inner))
         (W.contents output.old.inner) (W.contents output.new.inner) (F.contents faults.old.inner) (F.contents faults.new.inner)
         (failures_of schema.old schema.new ∷ []) (failures_of output.old output.new) (failures_of faults.old faults.new)
         × NoneFailed (failures_of file.old file.new ∷ []))
-        ⊎ FailsToRead (S.remaining schema.old.inner) (R.remaining file.old.inner) (R.remaining file.new.inner) (failures_of schema.old schema.new) (failures_of file.old file.new)
+        ⊎ FailsToRead most (S.remaining schema.old.inner) (R.remaining file.old.inner) (R.remaining file.new.inner) (failures_of schema.old schema.new) (failures_of file.old file.new)
         (written_by (W.contents output.old.inner) (W.contents output.new.inner) (failures_of output.old output.new))
         (written_by (F.contents faults.old.inner) (F.contents faults.new.inner) (failures_of faults.old faults.new)) }
     ensures unfailed { result ≢ failed → NoneFailed (failures_of schema.old schema.new ∷ failures_of file.old file.new ∷ failures_of output.old output.new ∷ failures_of faults.old faults.new ∷ []) }
@@ -87,8 +87,8 @@ fn find_answer<S: Read, R: Read>(
     file: &mut Watched<R>,
     most: u64,
 ) -> Result<Answer, CommandFault>
-    ensures ok { IfOk result (Answers (S.remaining schema.old.inner) (R.remaining file.old.inner) (R.remaining file.new.inner)) }
-    ensures err { IfErr result (AnswersNothing (S.remaining schema.old.inner) (R.remaining file.old.inner) (R.remaining file.new.inner)) }
+    ensures ok { IfOk result (Answers most (S.remaining schema.old.inner) (R.remaining file.old.inner) (R.remaining file.new.inner)) }
+    ensures err { IfErr result (AnswersNothing most (S.remaining schema.old.inner) (R.remaining file.old.inner) (R.remaining file.new.inner)) }
     ensures consumed_schema { text.ConsumesAtMost (S.remaining schema.old.inner) (S.remaining schema.new.inner) }
     ensures consumed_file { ConsumesAtMost usual (R.remaining file.old.inner) (R.remaining file.new.inner) }
 

@@ -11,7 +11,7 @@ use Rattle.p21_commands.proofs.check_all.check_all_command.Goals as goal
 pub returns-in-Ok-Accepted-clause-failed : goal.returns-in-Ok-Accepted-clause-failed
 returns-in-Ok-Accepted-clause-failed g c e =
     let IsAnswer = IsChecked (g.S.Read.remaining c.args.schema.now.inner) (g.R.Read.remaining c.args.file.now.inner) (g.R.Read.remaining c.find_answer.new.file.inner) in
-    let IsRefusal = IsListedUnder (g.S.Read.remaining c.args.schema.now.inner) (g.R.Read.remaining c.args.file.now.inner) (g.R.Read.remaining c.find_answer.new.file.inner) in
+    let IsRefusal = IsListedUnder c.args.most (g.S.Read.remaining c.args.schema.now.inner) (g.R.Read.remaining c.args.file.now.inner) (g.R.Read.remaining c.find_answer.new.file.inner) in
     let schema = failures_of c.args.schema.now c.find_answer.new.schema in
     let output = failures_of c.args.output.now c.write_whole.new.writer in
     let fault = c.in-Err-write_whole.fault in
@@ -27,13 +27,13 @@ returns-in-Ok-Accepted-clause-failed g c e =
 pub returns-in-Ok-Refused-clause-refused : goal.returns-in-Ok-Refused-clause-refused
 returns-in-Ok-Refused-clause-refused g c e =
     let answer = rw c.in-Ok-Refused.field-0-is at c.in-Ok-Refused.ensures.ok in
-    unanswered-refused _ _ _ _ _ _ (command.Refused c.in-Ok-Refused.lines) _ (inr answer) c.report-in-Ok-Refused.ensures e
+    unanswered-refused _ _ _ _ _ _ _ (command.Refused c.in-Ok-Refused.lines) _ (inr answer) c.report-in-Ok-Refused.ensures e
 
 pub returns-in-Ok-Refused-clause-failed : goal.returns-in-Ok-Refused-clause-failed
 returns-in-Ok-Refused-clause-failed g c e =
     let answer = rw c.in-Ok-Refused.field-0-is at c.in-Ok-Refused.ensures.ok in
     let read = rw c.in-Ok-Refused.field-0-is at c.in-Ok-Refused.ensures.read in
-    unanswered-failed _ _ _ _ _ _ _ _ _ _ (command.Refused c.in-Ok-Refused.lines) _ (inr answer) (inl (((read.0, tt), tt), (read.1.0, tt))) (refl, tt) c.report-in-Ok-Refused.ensures e
+    unanswered-failed _ _ _ _ _ _ _ _ _ _ _ (command.Refused c.in-Ok-Refused.lines) _ (inr answer) (inl (((read.0, tt), tt), (read.1.0, tt))) (refl, tt) c.report-in-Ok-Refused.ensures e
 
 pub returns-in-Ok-Unread-clause-failed : goal.returns-in-Ok-Unread-clause-failed
 returns-in-Ok-Unread-clause-failed g c e =
@@ -49,4 +49,4 @@ returns-in-Ok-Unread-clause-failed g c e =
     })
 
 pub returns-clause-failed : goal.returns-clause-failed
-returns-clause-failed g c e = unanswered-failed _ _ _ _ _ _ _ _ _ _ c.in-Err.fault _ c.in-Err.ensures.err c.in-Err.ensures.failed (refl, tt) c.report-in-Err.ensures e
+returns-clause-failed g c e = unanswered-failed _ _ _ _ _ _ _ _ _ _ _ c.in-Err.fault _ c.in-Err.ensures.err c.in-Err.ensures.failed (refl, tt) c.report-in-Err.ensures e

@@ -12,7 +12,7 @@ returns-in-Accepted-clause-ok g c = record {
 
 pub returns-clause-ok : goal.returns-clause-ok
 returns-clause-ok g c =
-    answers-listed c.in_ok-schema.schema c.usual.result _ _ c.in-Ok.found c.in-Refused.refusals c.in-Refused.is c.in-Ok.ensures.surveys _ c.in_ok-lines_of-in-Refused.field-0 c.in_ok-schema.ensures.ok c.usual.ensures c.in_ok-lines_of-in-Refused.ensures
+    answers-listed c.in_ok-schema.schema c.usual.result _ _ c.in-Ok.found c.in-Refused.refusals c.in-Refused.is c.in-Ok.ensures.surveys c.args.most _ c.in_ok-lines_of-in-Refused.field-0 c.in_ok-schema.ensures.ok c.usual.ensures c.in-Ok.ensures.counted c.in_ok-lines_of-in-Refused.ensures
 
 pub returns-clause-read : goal.returns-clause-read
 returns-clause-read g c =
