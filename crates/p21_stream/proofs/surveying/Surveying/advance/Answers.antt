@@ -1,4 +1,4 @@
-use Rattle.std.proofs.Common.{◌≡◌, ℕ, List, Ok, Option, ap, subst, sym}
+use Rattle.std.proofs.Common.{◌≡◌, ℕ, List, Ok, Option, subst, sym}
 use Rattle.p21_stream_statements.specs.StatementReader as statements
 use Rattle.p21_stream_statements.specs.declared.refusal.Refusal.{Refusal}
 use Rattle.p21_stream.specs.declared.sieve.Sieve.{Sieve}
