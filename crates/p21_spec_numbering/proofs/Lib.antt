@@ -1,0 +1,23 @@
+mod Examples
+pub mod Lists
+pub mod Ranks
+pub mod Fresh
+pub mod Renaming
+pub mod Uses
+pub mod Settled
+pub mod Labels
+pub mod Moved
+pub mod Reading
+pub mod Theorems
+pub mod Orders
+pub mod Targets
+pub mod Copies
+pub mod CopiesMoved
+pub mod CopiesRules
+pub mod CopiesOrders
+pub mod Decided
+pub mod CopiesParts
+pub mod OwnOrders
+pub mod Claim
+pub mod Records
+pub mod Existence

@@ -1,0 +1,11 @@
+pub mod Renamed
+pub mod RenamedRecord
+pub mod Uses
+pub mod Graph
+pub mod Fresh
+pub mod Numbered
+pub mod Ordered
+pub mod Copies
+pub mod Settled
+pub mod Laws
+pub mod Claim
