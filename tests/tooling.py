@@ -2,6 +2,7 @@
 
 import os
 import pathlib
+import shlex
 import subprocess
 import sys
 import tempfile
@@ -54,12 +55,21 @@ class Tests:
         path.write_bytes(text.encode("utf-8") if isinstance(text, str) else text)
         return str(path)
 
-    def run(self, arguments, text=None, file=None):
-        """What the tool writes to each stream, and its status. It is given a text by a pipe, or an open file."""
+    def run(self, arguments, text=None, file=None, program=None):
+        """What the tool writes to each stream, and its status. It is given a text by a pipe, or an open file, and maybe another
+        program."""
         command = [f"tools/{self.tool}", *(argument.format(here=self.here) for argument in arguments)]
         given = {"input": text} if file is None else {"stdin": file}
+        if program is not None:
+            given["env"] = {**os.environ, "P21": program}
         done = subprocess.run(command, capture_output=True, check=False, timeout=MOST_SECONDS, **given)
         return done.stdout.decode(), done.stderr.decode(), done.returncode
+
+    def program_with(self, name, lines):
+        """A program that begins with these lines of a shell, in which `$program` is the true one, and goes on as that does."""
+        path = self.make(name, f"#!/bin/sh\nprogram={shlex.quote(self.program)}\n{lines}\nexec \"$program\" \"$@\"\n")
+        os.chmod(path, 0o755)
+        return path
 
     def full_disk(self, arguments):
         """What the tool says where nothing can be written to its output, and its status."""

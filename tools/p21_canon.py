@@ -15,10 +15,7 @@ def handed(path: str) -> str:
     try:
         path.encode("utf-8")
     except UnicodeEncodeError:
-        try:
-            descriptor = os.open(path, os.O_RDONLY)
-        except OSError as error:
-            raise reading.Trouble(f"cannot open {shown(path)}: {error.strerror}") from None
+        descriptor = os.open(path, os.O_RDONLY)
         os.set_inheritable(descriptor, True)
         path = f"/dev/fd/{descriptor}"
     return str(reading.lasting(path))
@@ -40,6 +37,10 @@ def write_pairs(file: BinaryIO, pairs: Iterator[Tuple[int, int]]) -> None:
         file.write(b"#%d\t#%d\n" % (first, second))
 
 
+# No instance has a greater name.
+GREATEST_NAME = 2**64 - 1
+
+
 def read_pairs(named: str) -> Dict[bytes, bytes]:
     """Reads a pairing, which `-` has from standard input: the second name of each first one."""
     found: Dict[bytes, bytes] = {}
@@ -48,6 +49,8 @@ def read_pairs(named: str) -> Dict[bytes, bytes]:
             names = re.fullmatch(rb"#(0|[1-9]\d{0,19})\t#(0|[1-9]\d{0,19})\n?", line)
             if names is None:
                 raise reading.Trouble(f"{shown(named)}: line {number} has not two names")
+            if max(map(int, names.groups())) > GREATEST_NAME:
+                raise reading.Trouble(f"{shown(named)}: line {number} has a name above #{GREATEST_NAME}, which is the greatest")
             if names[1] in found:
                 raise reading.Trouble(f"{shown(named)}: #{names[1].decode()} stands twice")
             found[names[1]] = names[2]

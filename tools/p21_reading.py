@@ -9,6 +9,7 @@ import argparse
 import array
 import codecs
 import contextlib
+import errno
 import itertools
 import mmap
 import os
@@ -37,7 +38,6 @@ from typing import (
     Optional,
     Pattern,
     Sequence,
-    Set,
     Tuple,
     TypeVar,
     Union,
@@ -59,6 +59,13 @@ Found = TypeVar("Found")
 
 class Trouble(Exception):
     """What keeps a tool from its answer, as a line."""
+
+
+class Unfinished(Trouble, ValueError):
+    """A statement is taken apart that has no end."""
+
+    def __init__(self) -> None:
+        super().__init__("the text ends inside a statement")
 
 
 class Answer(NamedTuple):
@@ -124,7 +131,7 @@ def ended(tool: str, status: int, work: Callable[[], int]) -> int:
             return work()
         finally:
             sys.stdout.flush()
-    except (Trouble, OSError) as trouble:
+    except (Trouble, OSError, MemoryError) as trouble:
         with contextlib.suppress(OSError):
             print(f"{tool}: {shown(told(trouble))}", file=sys.stderr, flush=True)
         # What waits to be written would fail again at the end.
@@ -135,9 +142,20 @@ def ended(tool: str, status: int, work: Callable[[], int]) -> int:
 
 def told(trouble: BaseException) -> str:
     """What keeps a tool from its answer, as a line."""
+    if isinstance(trouble, MemoryError) or (isinstance(trouble, OSError) and trouble.errno == errno.ENOMEM):
+        return OUT_OF_MEMORY
     if isinstance(trouble, OSError) and isinstance(trouble.filename, str):
-        return f"cannot open {trouble.filename}: {why_not(trouble.filename) or trouble.strerror}"
+        return f"cannot open {trouble.filename}: {reason_of(trouble)}"
     return str(trouble)
+
+
+def reason_of(trouble: OSError, is_read: bool = False) -> str:
+    """Why a file can't be opened: for reading, or for whatever it is."""
+    if trouble.errno == errno.ENOENT:
+        return "there is no such file"
+    if isinstance(trouble, PermissionError):
+        return FORBIDDEN if is_read or why_not(trouble.filename) == FORBIDDEN else "it may not be written"
+    return FOLDER if isinstance(trouble, IsADirectoryError) else trouble.strerror or str(trouble)
 
 
 # --- The program ---
@@ -159,26 +177,44 @@ def find_program() -> str:
     return next((str(path) for path in installed if path.is_file()), shutil.which("p21") or "p21")
 
 
+# The status of the program where it has no answer.
+NO_ANSWER = 3
+
+
 def line_of(error: bytes, status: int) -> str:
-    """What the program wrote to its second stream, without the last line end, and the signal that ended it."""
+    """What the program wrote to its second stream, without the last line end, behind the signal that ended it."""
     line = error.decode("utf-8", "surrogateescape")
     line = line[:-1] if line.endswith("\n") else line
-    return line if status >= 0 else f"{line} ended by signal {-status}".lstrip()
+    return line if status >= 0 else f"ended by signal {-status}" + (f": {line}" if line else "")
 
 
+def status_of(status: int) -> int:
+    """The status of a run of the program. One that a signal ended has no answer."""
+    return status if status >= 0 else NO_ANSWER
+
+
+OUT_OF_MEMORY = "out of memory"
 FOLDER = "it is a folder"
+FORBIDDEN = "it may not be read"
 # How the names of STEP files end.
 ENDINGS = (".step", ".stp", ".p21", ".ifc", ".spf")
 
 
 def below(path: str) -> Tuple[List[str], List[str]]:
     """The path itself, which may be `-` for standard input, or for a folder the STEP files below it in the order of their
-    names; and the endings of all others."""
+    names, with links that lead nowhere and folders that may not be read; and the endings of all others."""
     if not os.path.isdir(path):
         return [path], []
-    found = [file for file in pathlib.Path(path).rglob("*") if file.is_file()]
-    steps = sorted(str(file) for file in found if file.suffix.lower() in ENDINGS)
+    closed: List[str] = []
+    folders = os.walk(path, onerror=lambda error: closed.append(str(error.filename)))
+    found = [file for folder, _, names in folders for file in map(pathlib.Path(folder).joinpath, names) if is_listed(file)]
+    steps = sorted([*closed, *(str(file) for file in found if file.suffix.lower() in ENDINGS)])
     return steps, [file.suffix.lower() for file in found if file.suffix.lower() not in ENDINGS]
+
+
+def is_listed(file: pathlib.Path) -> bool:
+    """Is it a file of a folder, or a link that leads to none?"""
+    return file.is_file() or (file.is_symlink() and not os.path.exists(file))
 
 
 nothing = contextlib.nullcontext
@@ -189,16 +225,14 @@ def why_not(path: str) -> Optional[str]:
     if path == "-":
         return None
     if os.path.isdir(path):
-        return FOLDER
+        return FOLDER if os.access(path, os.R_OK | os.X_OK) else FORBIDDEN
     try:
         with open(path, "rb"):
             return None
     except FileNotFoundError:
-        return "there is no such file"
-    except PermissionError:
-        return "it may not be read"
+        return f"it is a link to {os.readlink(path)}, which isn't there" if os.path.islink(path) else "there is no such file"
     except OSError as error:
-        return error.strerror
+        return reason_of(error, is_read=True)
 
 
 def with_reason(line: str, *paths: str) -> str:
@@ -263,11 +297,19 @@ def opened(path: str) -> Iterator[str]:
             os.close(int(found.rpartition("/")[2]))
 
 
-def text_of(path: str) -> Text:
-    """The bytes of a file. Those of a plain one aren't read before they are looked at."""
+def text_of(path: str) -> bytes:
+    """The bytes of a file. They are kept, since a file that is looked at where it lies may be cut short meanwhile."""
     with open(path, "rb") as file:
-        size = os.fstat(file.fileno()).st_size
-        return mmap.mmap(file.fileno(), 0, access=mmap.ACCESS_READ) if size else b""
+        return file.read()
+
+
+def state_of(path: Optional[str]) -> Optional[Tuple[int, ...]]:
+    """What tells whether a file was changed: which one it is, its size and when it was written. None where there is none."""
+    try:
+        found = os.stat(path) if path is not None else None
+    except OSError:
+        return None
+    return found and (found.st_dev, found.st_ino, found.st_size, found.st_mtime_ns)
 
 
 def words_of(program: str, command: str, *paths: str, options: Sequence[str] = ()) -> List[str]:
@@ -301,7 +343,14 @@ def run(
             )
         except OSError as error:
             raise Trouble(f"cannot run {program}: {error.strerror}") from None
-    return Answer(done.stdout or b"", line_of(done.stderr, done.returncode), done.returncode)
+    return Answer(done.stdout or b"", line_of(done.stderr, done.returncode), status_of(done.returncode))
+
+
+def answered(answer: Answer) -> Answer:
+    """An answer of the program where it has one. Where it has none its sentence says what keeps the tool from its own."""
+    if answer.status == NO_ANSWER:
+        raise Trouble(answer.error)
+    return answer
 
 
 REFUSAL = re.compile(r"(?:schema )?refused (S?\d+) (\w+(?:\(\w+\))?)(?: at statement (\d+)| in (#\d+))?")
@@ -331,16 +380,9 @@ def first_that_names(answers: Iterable[Found], line_of_answer: Callable[[Found],
     return first
 
 
-class Listing(NamedTuple):
-    """What `p21 schema` prints: the schema's name, each entity's attributes in order, and which entities are abstract."""
-
-    name: str
-    attributes: Mapping[str, List[str]]
-    abstract: Set[str]
-
-
 class Attributes(Mapping[str, List[str]]):
-    """The attributes of each entity, which are read from the listing where they are asked for."""
+    """The attributes of each entity in their order, which are read from the listing where they are asked for: what `p21 schema`
+    prints."""
 
     def __init__(self, text: Text) -> None:
         self.text = text
@@ -361,24 +403,40 @@ class Attributes(Mapping[str, List[str]]):
         return len(self.places)
 
 
-LISTED = re.compile(rb"\n(ABSTRACT )?(\w+)\(")
+def answer_of_schema(program: str, schema: str, text: Optional[Iterable[Piece]] = None) -> Answer:
+    """What the program says of a schema: its refusal, or nothing. It is asked to check a file without a byte, since `p21 schema`
+    would print the attributes of each supertype once for each subtype."""
+    answer = run(program, "check", schema, os.devnull, text=text)
+    is_read = answer.status == 1 and not answer.error.startswith("schema refused")
+    return Answer(b"", "", 0) if is_read else answer
 
 
-def listing(program: str, schema: str, named: str) -> Listing:
-    """The listing of a schema, which the command line names so. It may be longer than the schema by far."""
-    with tempfile.TemporaryFile() as output:
-        answer = run(program, "schema", schema, output=output)
-        if answer.status != 0:
-            raise Trouble(f"{named}: {with_reason(answer.error, named)}")
-        text = mmap.mmap(output.fileno(), 0, access=mmap.ACCESS_READ)
+def read_schema(program: str, schema: str, named: str) -> None:
+    """Nothing where the program reads a schema, which the command line names so."""
+    answer = answer_of_schema(program, schema)
+    if answer.status != 0:
+        raise Trouble(f"{named}: {with_reason(answer.error, named)}")
+
+
+LISTED = re.compile(rb"\n(?:ABSTRACT )?(\w+)\(")
+
+
+def listing(program: str, schema: str, most: int) -> Optional[Mapping[str, List[str]]]:
+    """The attributes of each entity of a schema that is read, or None where the listing has more bytes than these."""
+    words = words_of(program, "schema", schema)
+    with subprocess.Popen(words, stdout=subprocess.PIPE, stderr=subprocess.PIPE, close_fds=False) as listed:
+        assert listed.stdout and listed.stderr
+        text = listed.stdout.read(most + 1)
+        if len(text) > most:
+            listed.kill()
+            return None
+        error = listed.stderr.read()
+    if listed.returncode != 0:
+        raise Trouble(line_of(error, listed.returncode))
     attributes = Attributes(text)
-    found = Listing(text[: text.find(b"\n")].split()[1].decode("ascii"), attributes, set())
     for entity in LISTED.finditer(text):
-        name = entity[2].decode("ascii")
-        attributes.places[name] = entity.end()
-        if entity[1]:
-            found.abstract.add(name)
-    return found
+        attributes.places[entity[1].decode("ascii")] = entity.end()
+    return attributes
 
 
 # --- Rows of things in a text ---
@@ -466,8 +524,13 @@ def matched(pattern: Pattern[bytes], text: Union[Text, Piece], at: int, end: int
 # --- Statements ---
 
 BLANKS = re.compile(rb"[\0- \x7f]*")
-# What ends a string, and what in it looks like its end: two apostrophes, two backslashes, and \S\ with any character.
-IN_STRING = re.compile(rb"''|\\S\\[ -~]|\\\\|'")
+# What ends a string, and what in it may hold a sign that looks like its end: two apostrophes, and what begins with a backslash as
+# the reader takes it: two of them, `\S\` with any character, and `\PA\`, `\X\`, `\X2\`, `\X4\` and `\X0\`, whose last sign begins
+# nothing.
+IN_STRING = re.compile(rb"''|\\(?:\\|S\\[ -~]|PA\\|X[024]?\\)|'")
+# An apostrophe behind `\S\` is a character. No other `\S\'` stands in a string that is read: a backslash in front of it would leave
+# `\'`, which is refused.
+PAGED = b"\\S\\'"
 LEXEME = re.compile(rb"[\0- \x7f]+|'|/\*|([^\0- \x7f(),;='\"/]+|\"[^\"]*\"|.)", re.S)
 # What stands around the values of a list, and what hides it.
 SIGN = re.compile(rb"[(),]")
@@ -558,7 +621,7 @@ class Value(NamedTuple):
         """The elements of a list, or the one value of a typed parameter; none of any other."""
         if self.text[self.end - 1 : self.end] != b")":
             return ()
-        return values_of(self.text, next(outside(SIGN, self.text, self.start)).start())
+        return values_of(self.text, sign_behind(self.text, self.start).start())
 
 
 class Part(NamedTuple):
@@ -577,12 +640,21 @@ def closing(text: Text, opening: int) -> int:
         depth += 1 if found[0] == b"(" else -1
         if depth == 0:
             return found.start()
-    raise ValueError("the text ends inside a statement")
+    raise Unfinished()
+
+
+def sign_behind(text: Text, at: int) -> Match[bytes]:
+    """The first sign of a list from a place on."""
+    found = next(outside(SIGN, text, at), None)
+    if found is None:
+        raise Unfinished()
+    return found
 
 
 def signs_in_list(text: Text, sign: int) -> Generator[int, None, int]:
     """The place of the sign before each value of a list, from a `(` or a `,` on. It answers that of the `)` behind the list."""
-    if text[sign] == ord("(") and text[behind_blanks(text, sign + 1)] == ord(")"):
+    behind = behind_blanks(text, sign + 1)
+    if text[sign : sign + 1] == b"(" and text[behind : behind + 1] == b")":
         return closing(text, sign)
     yield sign
     at = sign + 1
@@ -594,12 +666,14 @@ def signs_in_list(text: Text, sign: int) -> Generator[int, None, int]:
                 at = closing(text, found.start()) + 1
                 break
             yield found.start()
+        else:
+            raise Unfinished()
 
 
 def signs_in_parts(text: Text, at: int) -> Iterator[int]:
     """The same of all parts, from the keyword of one on, or from a sign."""
-    if text[at] not in b"(,":
-        at = next(outside(SIGN, text, at)).start()
+    if text[at : at + 1] not in (b"(", b","):
+        at = sign_behind(text, at).start()
     while True:
         end = yield from signs_in_list(text, at)
         found = next(outside(SIGN, text, end + 1), None)
@@ -611,7 +685,7 @@ def signs_in_parts(text: Text, at: int) -> Iterator[int]:
 def value_behind(text: Text, sign: int) -> Value:
     """The value behind a `(` or a `,`."""
     start = end = behind_blanks(text, sign + 1)
-    found = next(outside(SIGN, text, start))
+    found = sign_behind(text, start)
     if found[0] == b"(":
         return Value(text, start, closing(text, found.start()) + 1)
     for _, end in lexemes(text, start, found.start()):
@@ -648,16 +722,18 @@ def read_parts(text: Text, start: int = 0) -> Sequence[Part]:
         return [part_at(text, start)]
 
     def places(place: int) -> Iterator[int]:
-        while text[place : place + 1] not in (b")", b""):
+        while text[place : place + 1] != b")":
+            if place == len(text):
+                raise Unfinished()
             yield place
-            place = behind_blanks(text, closing(text, next(outside(SIGN, text, place)).start()) + 1)
+            place = behind_blanks(text, closing(text, sign_behind(text, place).start()) + 1)
 
     return Row(places, lambda place: part_at(text, place), behind_blanks(text, start + 1))
 
 
 def part_at(text: Text, start: int) -> Part:
     """A keyword and the values in parentheses behind it."""
-    _, end = next(lexemes(text, start, len(text)))
+    _, end = next(lexemes(text, start, len(text)), (start, start))
     opening = behind_blanks(text, end)
     return Part(text[start:end].decode("latin-1"), start, values_of(text, opening), closing(text, opening))
 
