@@ -37,7 +37,8 @@ a { color: var(--link); } mark { background: var(--mark); color: inherit; border
 .verdict { border-left: 4px solid var(--soft); padding: .4rem .8rem; background: var(--card); margin: .8rem 0; }
 .soft { color: var(--soft); } .changed { color: var(--changed); } .came { color: var(--came); } .went { color: var(--went); }
 table { border-collapse: collapse; } th, td { padding: .15rem .6rem; text-align: right; vertical-align: middle; }
-th:first-child, td:first-child { text-align: left; } td.bars { width: 20rem; text-align: left; }
+th:first-child, td:first-child { text-align: left; overflow-wrap: anywhere; min-width: 8rem; }
+td.bars { width: 20rem; min-width: 6rem; text-align: left; white-space: nowrap; }
 .bar { display: inline-block; height: .8rem; min-width: 2px; vertical-align: middle; }
 .bar.changed { background: var(--changed); } .bar.came { background: var(--came); } .bar.went { background: var(--went); }
 button.entity { all: unset; cursor: pointer; color: var(--link); text-decoration: underline; }
