@@ -63,8 +63,8 @@ def diff(
     def is_second(pieces: Iterator[bytes]) -> bool:
         return same(schema, b"".join(pieces), both[1])
 
-    rules = differences.Rules(sets.attributes(), sets if names else None, near, True)
-    files = differences.Files(rules, both, data, is_second)
+    rules = differences.Rules(schemas.AttributeNames(outline), sets if names else None, near, True)
+    files = differences.Files(rules, both, data, is_second, lambda: sets)
     found = Differences(difference.object() for difference in files.counted())
     found.append(files.object(files.verdict()))
     return found
