@@ -9,6 +9,8 @@ import argparse
 import array
 import codecs
 import contextlib
+import enum
+import errno
 import itertools
 import mmap
 import os
@@ -17,12 +19,15 @@ import re
 import shlex
 import shutil
 import signal
+import stat
 import subprocess
 import sys
 import tempfile
+import traceback
 from typing import (
     IO,
     Any,
+    BinaryIO,
     Callable,
     Dict,
     Generator,
@@ -59,6 +64,24 @@ Found = TypeVar("Found")
 
 class Trouble(Exception):
     """What keeps a tool from its answer, as a line."""
+
+
+class NotPlain(Trouble):
+    """A path that leads to something else than a plain file, where nothing else is read, with the reason."""
+
+    def __init__(self, path: str, reason: str) -> None:
+        super().__init__(f"cannot open {path}: {reason}")
+        self.reason = reason
+
+
+class Status(enum.IntEnum):
+    """What a check comes to, and the exit statuses of the program and the tools: it is done; something is refused, different or
+    not found; nothing is done, as by a wrong command line; or there is no answer, as where memory or a file fails."""
+
+    DONE = 0
+    REFUSED = 1
+    MISUSED = 2
+    FAILED = 3
 
 
 class Answer(NamedTuple):
@@ -124,20 +147,31 @@ def ended(tool: str, status: int, work: Callable[[], int]) -> int:
             return work()
         finally:
             sys.stdout.flush()
-    except (Trouble, OSError) as trouble:
+    except Exception as trouble:
         with contextlib.suppress(OSError):
-            print(f"{tool}: {shown(told(trouble))}", file=sys.stderr, flush=True)
+            if isinstance(trouble, TROUBLES):
+                print(f"{tool}: {shown(told(trouble))}", file=sys.stderr, flush=True)
+            else:
+                # A fault of the tool itself is no answer either.
+                traceback.print_exc()
         # What waits to be written would fail again at the end.
         for stream in (sys.stdout, sys.stderr):
             os.dup2(os.open(os.devnull, os.O_WRONLY), stream.fileno())
         return status
 
 
+# What keeps a tool from an answer without being a fault of its own.
+TROUBLES = (Trouble, OSError, MemoryError)
+OUT_OF_MEMORY = "out of memory"
+
+
 def told(trouble: BaseException) -> str:
     """What keeps a tool from its answer, as a line."""
+    if isinstance(trouble, MemoryError) or (isinstance(trouble, OSError) and trouble.errno == errno.ENOMEM):
+        return OUT_OF_MEMORY
     if isinstance(trouble, OSError) and isinstance(trouble.filename, str):
         return f"cannot open {trouble.filename}: {why_not(trouble.filename) or trouble.strerror}"
-    return str(trouble)
+    return str(trouble) or type(trouble).__name__
 
 
 # --- The program ---
@@ -153,35 +187,107 @@ def find_program() -> str:
         return os.environ["P21"]
     repository = HERE.parent
     if (repository / "crates.txt").exists():
-        subprocess.run([repository / "p21", "--version"], stdout=subprocess.DEVNULL, check=True)
+        built = subprocess.run([repository / "p21", "--version"], stdout=subprocess.DEVNULL, check=False)
+        if built.returncode != Status.DONE:
+            raise Trouble(f"the program of {repository} could not be built")
         return str(repository / "crates" / "p21" / "out" / "p21")
     installed = (HERE.parent.parent / "bin" / "p21", pathlib.Path(sys.argv[0]).parent / "p21")
     return next((str(path) for path in installed if path.is_file()), shutil.which("p21") or "p21")
 
 
 def line_of(error: bytes, status: int) -> str:
-    """What the program wrote to its second stream, without the last line end, and the signal that ended it."""
+    """What the program wrote to its second stream, without the last line end, and the signal that ended it, or the status where
+    it isn't one of its own, or where nothing else is said."""
     line = error.decode("utf-8", "surrogateescape")
     line = line[:-1] if line.endswith("\n") else line
-    return line if status >= 0 else f"{line} ended by signal {-status}".lstrip()
+    if status < 0:
+        return f"{line} ended by signal {-status}".lstrip()
+    return f"{line} ended with status {status}".lstrip() if status > Status.FAILED or (status and not line) else line
+
+
+def came_to(line: str, status: int) -> Status:
+    """What a check of the program came to, by what it wrote to its second stream and its status: it is done, or something is
+    refused, or else there is no answer, as where a signal ended it."""
+    if status == Status.DONE:
+        return Status.DONE
+    return Status.REFUSED if status == Status.REFUSED and REFUSAL.fullmatch(line) else Status.FAILED
 
 
 FOLDER = "it is a folder"
+FORBIDDEN = "it may not be read"
+NOT_PLAIN = "it is no plain file"
 # How the names of STEP files end.
 ENDINGS = (".step", ".stp", ".p21", ".ifc", ".spf")
 
 
-def below(path: str) -> Tuple[List[str], List[str]]:
-    """The path itself, which may be `-` for standard input, or for a folder the STEP files below it in the order of their
-    names; and the endings of all others."""
+class Below(NamedTuple):
+    """What a path of the command line stands for: its STEP files in the order of their names, the endings of the others, what
+    can't be read of it with the reason, and the links to other folders, which aren't followed."""
+
+    files: List[str]
+    others: List[str]
+    unread: Dict[str, str]
+    links: List[str]
+
+
+def below(path: str) -> Below:
+    """The path itself, which may be `-` for standard input, or all that stands below a folder."""
     if not os.path.isdir(path):
-        return [path], []
-    found = [file for file in pathlib.Path(path).rglob("*") if file.is_file()]
-    steps = sorted(str(file) for file in found if file.suffix.lower() in ENDINGS)
-    return steps, [file.suffix.lower() for file in found if file.suffix.lower() not in ENDINGS]
+        return Below([path], [], {}, [])
+    found = Below([], [], {}, [])
+
+    def unread(error: OSError) -> None:
+        found.unread[os.fsdecode(error.filename)] = reason_of(error)
+
+    for folder, folders, names in os.walk(path, onerror=unread):
+        at = pathlib.Path(folder)
+        found.links.extend(str(at / name) for name in folders if (at / name).is_symlink())
+        for name in names:
+            sort_in(found, at / name)
+    found.files.sort()
+    return found
+
+
+def sort_in(found: Below, path: pathlib.Path) -> None:
+    """Puts what stands in a folder where it belongs. A dangling link, or a pipe with the name of a STEP file, isn't read."""
+    ending = path.suffix.lower()
+    reason = why_not_plain(str(path))
+    if ending not in ENDINGS:
+        found.others.extend([] if reason else [ending])
+    elif reason:
+        found.unread[str(path)] = reason
+    else:
+        found.files.append(str(path))
 
 
 nothing = contextlib.nullcontext
+
+
+def why_not_plain(path: str) -> Optional[str]:
+    """Why a path leads to no plain file, or None where it does."""
+    try:
+        mode = os.stat(path).st_mode
+    except OSError as error:
+        return reason_of(error)
+    return FOLDER if stat.S_ISDIR(mode) else None if stat.S_ISREG(mode) else NOT_PLAIN
+
+
+def plain(path: str) -> BinaryIO:
+    """A plain file, open for reading. Whatever else a path leads to isn't opened, and isn't waited for."""
+    descriptor = -1
+    reason = why_not_plain(path)
+    if reason not in (FOLDER, NOT_PLAIN):
+        descriptor = os.open(path, os.O_RDONLY | os.O_NONBLOCK)
+        if stat.S_ISREG(os.fstat(descriptor).st_mode):
+            return open(descriptor, "rb", buffering=0)
+        os.close(descriptor)
+    raise NotPlain(path, reason or NOT_PLAIN)
+
+
+def state_of(path: str) -> Tuple[int, ...]:
+    """What becomes another one where a file is written, or where another file takes its place."""
+    found = os.stat(path)
+    return found.st_dev, found.st_ino, found.st_size, found.st_mtime_ns, found.st_ctime_ns
 
 
 def why_not(path: str) -> Optional[str]:
@@ -189,16 +295,19 @@ def why_not(path: str) -> Optional[str]:
     if path == "-":
         return None
     if os.path.isdir(path):
-        return FOLDER
+        return FOLDER if os.access(path, os.R_OK | os.X_OK) else FORBIDDEN
     try:
         with open(path, "rb"):
             return None
-    except FileNotFoundError:
-        return "there is no such file"
-    except PermissionError:
-        return "it may not be read"
     except OSError as error:
-        return error.strerror
+        return reason_of(error)
+
+
+def reason_of(error: OSError) -> str:
+    """Why a file can't be read, by what the system says."""
+    if isinstance(error, FileNotFoundError):
+        return "it is a link to what isn't there" if os.path.islink(error.filename) else "there is no such file"
+    return FORBIDDEN if isinstance(error, PermissionError) else error.strerror or "it can't be read"
 
 
 def with_reason(line: str, *paths: str) -> str:
@@ -300,8 +409,28 @@ def run(
                 close_fds=False,
             )
         except OSError as error:
-            raise Trouble(f"cannot run {program}: {error.strerror}") from None
+            raise cannot_run(program, error) from None
     return Answer(done.stdout or b"", line_of(done.stderr, done.returncode), done.returncode)
+
+
+def started(program: str, command: str, *paths: str, errors: IO[bytes]) -> "subprocess.Popen[bytes]":
+    """A command of the program over these paths, whose output is read as it comes."""
+    try:
+        return subprocess.Popen(
+            words_of(program, command, *paths),
+            stdin=subprocess.DEVNULL,
+            stdout=subprocess.PIPE,
+            stderr=errors,
+            bufsize=0,
+            close_fds=False,
+        )
+    except OSError as error:
+        raise cannot_run(program, error) from None
+
+
+def cannot_run(program: str, error: OSError) -> Trouble:
+    """Why the program isn't run."""
+    return Trouble(OUT_OF_MEMORY if error.errno == errno.ENOMEM else f"cannot run {program}: {error.strerror}")
 
 
 REFUSAL = re.compile(r"(?:schema )?refused (S?\d+) (\w+(?:\(\w+\))?)(?: at statement (\d+)| in (#\d+))?")
