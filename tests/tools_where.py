@@ -824,7 +824,7 @@ def unfinished(tests):
 # Programs that don't answer: in front of all, behind a line, or where something is asked about a place; and what is said.
 SILENT = [
     ("ends by a signal", "kill -9 $$", "ended by signal 9"),
-    ("ends by a signal behind a line", "echo 'refused 45 Count in #3' >&2; kill -9 $$", "ended by signal 9: refused 45 Count in #3"),
+    ("ends by a signal behind a line", "echo 'refused 45 Count in #3' >&2; kill -9 $$", "refused 45 Count in #3 ended by signal 9"),
     ("has no memory", "echo 'out of memory' >&2; exit 3", "out of memory"),
 ]
 ASKED = 'case "$*" in */dev/stdin*) {} ;; esac'
@@ -834,7 +834,7 @@ def silent(tests):
     """What the program didn't answer is no answer: the status is 3, and its sentence is said in each form."""
     count, product = "examples/refused/Count.step", "examples/product.step"
     for name, lines, sentence in SILENT:
-        program = tests.program_with("silent", f'[ "$1" = check ] && {{ {lines}; }}')
+        program = tests.rigged("silent", f'[ "$1" = check ] && {{ {lines}; }}')
         for options in ([], ["--all"], ["--most", "1"]):
             output, error, status = tests.run([*options, SCHEMA, product, count], program=program)
             wanted = [f"{path}: {sentence}" for path in (product, count)]
@@ -849,11 +849,11 @@ def silent(tests):
             said = run["invocations"][0]
             found = run["results"], said["executionSuccessful"], said["exitCode"], said["toolExecutionNotifications"][0]["message"]["text"]
             tests.judge(f"a program that {name}, SARIF, {options}", ([], False, 3, sentence, "", 3), (*found, error, status))
-        found = tests.run(["--format", "sarif", SCHEMA, count], program=tests.program_with("silent", lines))
+        found = tests.run(["--format", "sarif", SCHEMA, count], program=tests.rigged("silent", lines))
         tests.judge(f"a program that {name} and doesn't say its version", ("", f"p21-where: {sentence}\n", 3), found)
         output, error, status = tests.run([SCHEMA], program=program)
         tests.judge(f"a program that {name}, a schema", (f"{sentence}\n", "", 3), (output, error, status))
-        program = tests.program_with("silent", ASKED.format(lines))
+        program = tests.rigged("silent", ASKED.format(lines))
         for path in ("WrongKind", "BadByte", "Missing", "NotUtf8"):
             for options in ([], ["--all"], ["--format", "json"], ["--format", "sarif"], ["--format", "lines", "--all"]):
                 found = tests.run([*options, SCHEMA, f"examples/refused/{path}.step"], program=program)
@@ -869,13 +869,13 @@ def cut_short(tests):
     path = tests.make("cut.step", text)
     for options in ([], ["--all"]):
         tests.make("cut.step", text)
-        program = tests.program_with("cutting", ASKED.format(f": > {path}"))
+        program = tests.rigged("cutting", ASKED.format(f": > {path}"))
         output, error, status = tests.run([*options, "--format", "lines", DEMO, path], program=program)
         found = output.partition(": ")[0], error, status
         tests.judge(f"a file cut short behind the answer, {options}", (f"{path}:9007:18", "", 1), found)
     tests.make("cut.step", text)
-    cutting = f'"$program" "$@"; status=$?; : > {path}; exit $status'
-    found = tests.run([DEMO, path], program=tests.program_with("cutting", cutting))
+    cutting = f'"$real" "$@"; status=$?; : > {path}; exit $status'
+    found = tests.run([DEMO, path], program=tests.rigged("cutting", cutting))
     tests.judge("a file cut short with the answer", ("", f"p21-where: {path} was changed while it was read\n", 3), found)
 
 
@@ -917,7 +917,7 @@ def references(tests):
 
 def lists(tests):
     """The listing of a schema isn't asked for, which may be many times as long as the schema."""
-    program = tests.program_with("listing", '[ "$1" = schema ] && { echo "the listing is asked for" >&2; exit 3; }')
+    program = tests.rigged("listing", '[ "$1" = schema ] && { echo "the listing is asked for" >&2; exit 3; }')
     for given in (["examples/refused"], ["--all", "examples/refused"], ["examples/product.step"], []):
         tests.judge(f"{given} without a listing", tests.run([SCHEMA, *given]), tests.run([SCHEMA, *given], program=program))
     schema = tests.make("unknown.exp", "SCHEMA s; ENTITY a; x : length; END_ENTITY; END_SCHEMA;")

@@ -9,6 +9,21 @@ from typing import BinaryIO, Dict, Iterator, Optional, Tuple
 import p21_reading as reading
 from p21_reading import shown
 
+# How a canonical file ends, and what a program says that gives less.
+END = b"\nEND-ISO-10303-21;\n"
+NOT_WHOLE = "the canonical file isn't whole"
+FORM = re.compile(r"p21 \S+ \(canonical form (\d+)\)\n")
+
+
+def form_of(program: str) -> int:
+    """The version of the canonical form that the program writes, as the program says it."""
+    answer = reading.run(program, "--version")
+    said = answer.output[:80].decode("ascii", "replace")
+    found = FORM.fullmatch(said)
+    if answer.status != reading.Status.DONE or found is None:
+        raise reading.Trouble(f"{program} doesn't say which canonical form it writes: it says {answer.error or said or 'nothing'}")
+    return int(found[1])
+
 
 def handed(path: str) -> str:
     """A path that the program can take and read again: of a file whose name isn't UTF-8 that of the open file."""
@@ -21,14 +36,26 @@ def handed(path: str) -> str:
     return str(reading.lasting(path))
 
 
+def asked(program: str, schema: str, path: str) -> Tuple[Optional[mmap.mmap], str, reading.Status]:
+    """The canonical file of a file, or None and why there is none, and what that came to."""
+    with tempfile.TemporaryFile() as output:
+        answer = reading.run(program, "canon", schema, path, output=output)
+        status = reading.came_to(answer.error, answer.status)
+        if status != reading.Status.DONE:
+            return None, answer.error, status
+        text = mmap.mmap(output.fileno(), 0, access=mmap.ACCESS_READ) if os.fstat(output.fileno()).st_size else None
+        if text is None or text[-len(END) :] != END:
+            return None, NOT_WHOLE, reading.Status.FAILED
+        return text, "", status
+
+
 def canonical(program: str, schema: str, path: str, named: Optional[str] = None) -> mmap.mmap:
     """The canonical file of a file, which a refusal names by its path, or as it is named here."""
-    with tempfile.TemporaryFile() as output:
-        answer = reading.run(program, "canon", schema, handed(path), output=output)
-        if answer.status != 0:
-            named = path if named is None else named
-            raise reading.Trouble(f"{shown(named)}: {shown(reading.with_reason(answer.error, schema, named))}")
-        return mmap.mmap(output.fileno(), 0, access=mmap.ACCESS_READ)
+    text, answer, _ = asked(program, schema, handed(path))
+    if text is None:
+        named = path if named is None else named
+        raise reading.Trouble(f"{shown(named)}: {shown(reading.with_reason(answer, schema, named))}")
+    return text
 
 
 def write_pairs(file: BinaryIO, pairs: Iterator[Tuple[int, int]]) -> None:

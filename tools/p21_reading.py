@@ -9,6 +9,7 @@ import argparse
 import array
 import codecs
 import contextlib
+import enum
 import errno
 import itertools
 import mmap
@@ -18,12 +19,15 @@ import re
 import shlex
 import shutil
 import signal
+import stat
 import subprocess
 import sys
 import tempfile
+import traceback
 from typing import (
     IO,
     Any,
+    BinaryIO,
     Callable,
     Dict,
     Generator,
@@ -66,6 +70,24 @@ class Unfinished(Trouble, ValueError):
 
     def __init__(self) -> None:
         super().__init__("the text ends inside a statement")
+
+
+class NotPlain(Trouble):
+    """A path that leads to something else than a plain file, where nothing else is read, with the reason."""
+
+    def __init__(self, path: str, reason: str) -> None:
+        super().__init__(f"cannot open {path}: {reason}")
+        self.reason = reason
+
+
+class Status(enum.IntEnum):
+    """What a check comes to, and the exit statuses of the program and the tools: it is done; something is refused, different or
+    not found; nothing is done, as by a wrong command line; or there is no answer, as where memory or a file fails."""
+
+    DONE = 0
+    REFUSED = 1
+    MISUSED = 2
+    FAILED = 3
 
 
 class Answer(NamedTuple):
@@ -131,13 +153,22 @@ def ended(tool: str, status: int, work: Callable[[], int]) -> int:
             return work()
         finally:
             sys.stdout.flush()
-    except (Trouble, OSError, MemoryError) as trouble:
+    except Exception as trouble:
         with contextlib.suppress(OSError):
-            print(f"{tool}: {shown(told(trouble))}", file=sys.stderr, flush=True)
+            if isinstance(trouble, TROUBLES):
+                print(f"{tool}: {shown(told(trouble))}", file=sys.stderr, flush=True)
+            else:
+                # A fault of the tool itself is no answer either.
+                traceback.print_exc()
         # What waits to be written would fail again at the end.
         for stream in (sys.stdout, sys.stderr):
             os.dup2(os.open(os.devnull, os.O_WRONLY), stream.fileno())
         return status
+
+
+# What keeps a tool from an answer without being a fault of its own.
+TROUBLES = (Trouble, OSError, MemoryError)
+OUT_OF_MEMORY = "out of memory"
 
 
 def told(trouble: BaseException) -> str:
@@ -145,17 +176,10 @@ def told(trouble: BaseException) -> str:
     if isinstance(trouble, MemoryError) or (isinstance(trouble, OSError) and trouble.errno == errno.ENOMEM):
         return OUT_OF_MEMORY
     if isinstance(trouble, OSError) and isinstance(trouble.filename, str):
-        return f"cannot open {trouble.filename}: {reason_of(trouble)}"
-    return str(trouble)
-
-
-def reason_of(trouble: OSError, is_read: bool = False) -> str:
-    """Why a file can't be opened: for reading, or for whatever it is."""
-    if trouble.errno == errno.ENOENT:
-        return "there is no such file"
-    if isinstance(trouble, PermissionError):
-        return FORBIDDEN if is_read or why_not(trouble.filename) == FORBIDDEN else "it may not be written"
-    return FOLDER if isinstance(trouble, IsADirectoryError) else trouble.strerror or str(trouble)
+        # What may not be written may be read, or isn't there.
+        is_written = isinstance(trouble, PermissionError) and why_not(trouble.filename) != FORBIDDEN
+        return f"cannot open {trouble.filename}: {NOT_WRITTEN if is_written else why_not(trouble.filename) or reason_of(trouble)}"
+    return str(trouble) or type(trouble).__name__
 
 
 # --- The program ---
@@ -171,53 +195,113 @@ def find_program() -> str:
         return os.environ["P21"]
     repository = HERE.parent
     if (repository / "crates.txt").exists():
-        subprocess.run([repository / "p21", "--version"], stdout=subprocess.DEVNULL, check=True)
+        built = subprocess.run([repository / "p21", "--version"], stdout=subprocess.DEVNULL, check=False)
+        if built.returncode != Status.DONE:
+            raise Trouble(f"the program of {repository} could not be built")
         return str(repository / "crates" / "p21" / "out" / "p21")
     installed = (HERE.parent.parent / "bin" / "p21", pathlib.Path(sys.argv[0]).parent / "p21")
     return next((str(path) for path in installed if path.is_file()), shutil.which("p21") or "p21")
 
 
-# The status of the program where it has no answer.
-NO_ANSWER = 3
-
-
 def line_of(error: bytes, status: int) -> str:
-    """What the program wrote to its second stream, without the last line end, behind the signal that ended it."""
+    """What the program wrote to its second stream, without the last line end, and the signal that ended it, or the status where
+    it isn't one of its own, or where nothing else is said."""
     line = error.decode("utf-8", "surrogateescape")
     line = line[:-1] if line.endswith("\n") else line
-    return line if status >= 0 else f"ended by signal {-status}" + (f": {line}" if line else "")
+    if status < 0:
+        return f"{line} ended by signal {-status}".lstrip()
+    return f"{line} ended with status {status}".lstrip() if status > Status.FAILED or (status and not line) else line
 
 
-def status_of(status: int) -> int:
-    """The status of a run of the program. One that a signal ended has no answer."""
-    return status if status >= 0 else NO_ANSWER
+def came_to(line: str, status: int) -> Status:
+    """What a check of the program came to, by what it wrote to its second stream and its status: it is done, or something is
+    refused, or else there is no answer, as where a signal ended it."""
+    if status == Status.DONE:
+        return Status.DONE
+    return Status.REFUSED if status == Status.REFUSED and REFUSAL.fullmatch(line) else Status.FAILED
 
 
-OUT_OF_MEMORY = "out of memory"
+def status_of(status: int) -> Status:
+    """The status of a run of the program. One that a signal ended, or that isn't one of its own, is no answer."""
+    return Status(status) if 0 <= status <= Status.FAILED else Status.FAILED
+
+
 FOLDER = "it is a folder"
 FORBIDDEN = "it may not be read"
+NOT_WRITTEN = "it may not be written"
+NOT_PLAIN = "it is no plain file"
 # How the names of STEP files end.
 ENDINGS = (".step", ".stp", ".p21", ".ifc", ".spf")
 
 
-def below(path: str) -> Tuple[List[str], List[str]]:
-    """The path itself, which may be `-` for standard input, or for a folder the STEP files below it in the order of their
-    names, with links that lead nowhere and folders that may not be read; and the endings of all others."""
+class Below(NamedTuple):
+    """What a path of the command line stands for: its STEP files in the order of their names, the endings of the others, what
+    can't be read of it with the reason, and the links to other folders, which aren't followed."""
+
+    files: List[str]
+    others: List[str]
+    unread: Dict[str, str]
+    links: List[str]
+
+
+def below(path: str) -> Below:
+    """The path itself, which may be `-` for standard input, or all that stands below a folder."""
     if not os.path.isdir(path):
-        return [path], []
-    closed: List[str] = []
-    folders = os.walk(path, onerror=lambda error: closed.append(str(error.filename)))
-    found = [file for folder, _, names in folders for file in map(pathlib.Path(folder).joinpath, names) if is_listed(file)]
-    steps = sorted([*closed, *(str(file) for file in found if file.suffix.lower() in ENDINGS)])
-    return steps, [file.suffix.lower() for file in found if file.suffix.lower() not in ENDINGS]
+        return Below([path], [], {}, [])
+    found = Below([], [], {}, [])
+
+    def unread(error: OSError) -> None:
+        found.unread[os.fsdecode(error.filename)] = reason_of(error)
+
+    for folder, folders, names in os.walk(path, onerror=unread):
+        at = pathlib.Path(folder)
+        found.links.extend(str(at / name) for name in folders if (at / name).is_symlink())
+        for name in names:
+            sort_in(found, at / name)
+    found.files.sort()
+    return found
 
 
-def is_listed(file: pathlib.Path) -> bool:
-    """Is it a file of a folder, or a link that leads to none?"""
-    return file.is_file() or (file.is_symlink() and not os.path.exists(file))
+def sort_in(found: Below, path: pathlib.Path) -> None:
+    """Puts what stands in a folder where it belongs. A dangling link, or a pipe with the name of a STEP file, isn't read."""
+    ending = path.suffix.lower()
+    reason = why_not_plain(str(path))
+    if ending not in ENDINGS:
+        found.others.extend([] if reason else [ending])
+    elif reason:
+        found.unread[str(path)] = reason
+    else:
+        found.files.append(str(path))
 
 
 nothing = contextlib.nullcontext
+
+
+def why_not_plain(path: str) -> Optional[str]:
+    """Why a path leads to no plain file, or None where it does."""
+    try:
+        mode = os.stat(path).st_mode
+    except OSError as error:
+        return reason_of(error)
+    return FOLDER if stat.S_ISDIR(mode) else None if stat.S_ISREG(mode) else NOT_PLAIN
+
+
+def plain(path: str) -> BinaryIO:
+    """A plain file, open for reading. Whatever else a path leads to isn't opened, and isn't waited for."""
+    descriptor = -1
+    reason = why_not_plain(path)
+    if reason not in (FOLDER, NOT_PLAIN):
+        descriptor = os.open(path, os.O_RDONLY | os.O_NONBLOCK)
+        if stat.S_ISREG(os.fstat(descriptor).st_mode):
+            return open(descriptor, "rb", buffering=0)
+        os.close(descriptor)
+    raise NotPlain(path, reason or NOT_PLAIN)
+
+
+def state_of(path: str) -> Tuple[int, ...]:
+    """What becomes another one where a file is written, or where another file takes its place."""
+    found = os.stat(path)
+    return found.st_dev, found.st_ino, found.st_size, found.st_mtime_ns, found.st_ctime_ns
 
 
 def why_not(path: str) -> Optional[str]:
@@ -227,12 +311,18 @@ def why_not(path: str) -> Optional[str]:
     if os.path.isdir(path):
         return FOLDER if os.access(path, os.R_OK | os.X_OK) else FORBIDDEN
     try:
-        with open(path, "rb"):
-            return None
-    except FileNotFoundError:
-        return f"it is a link to {os.readlink(path)}, which isn't there" if os.path.islink(path) else "there is no such file"
+        # A pipe isn't waited for.
+        os.close(os.open(path, os.O_RDONLY | os.O_NONBLOCK))
     except OSError as error:
-        return reason_of(error, is_read=True)
+        return reason_of(error)
+    return None
+
+
+def reason_of(error: OSError) -> str:
+    """Why a file can't be read, by what the system says."""
+    if isinstance(error, FileNotFoundError):
+        return "it is a link to what isn't there" if os.path.islink(error.filename) else "there is no such file"
+    return FORBIDDEN if isinstance(error, PermissionError) else error.strerror or "it can't be read"
 
 
 def with_reason(line: str, *paths: str) -> str:
@@ -303,15 +393,6 @@ def text_of(path: str) -> bytes:
         return file.read()
 
 
-def state_of(path: Optional[str]) -> Optional[Tuple[int, ...]]:
-    """What tells whether a file was changed: which one it is, its size and when it was written. None where there is none."""
-    try:
-        found = os.stat(path) if path is not None else None
-    except OSError:
-        return None
-    return found and (found.st_dev, found.st_ino, found.st_size, found.st_mtime_ns)
-
-
 def words_of(program: str, command: str, *paths: str, options: Sequence[str] = ()) -> List[str]:
     """The command line of a command with some options over these paths, of which one may begin with a dash."""
     return [program, command, *options, "--", *paths]
@@ -342,15 +423,35 @@ def run(
                 close_fds=False,
             )
         except OSError as error:
-            raise Trouble(f"cannot run {program}: {error.strerror}") from None
+            raise cannot_run(program, error) from None
     return Answer(done.stdout or b"", line_of(done.stderr, done.returncode), status_of(done.returncode))
 
 
 def answered(answer: Answer) -> Answer:
     """An answer of the program where it has one. Where it has none its sentence says what keeps the tool from its own."""
-    if answer.status == NO_ANSWER:
+    if answer.status == Status.FAILED:
         raise Trouble(answer.error)
     return answer
+
+
+def started(program: str, command: str, *paths: str, errors: IO[bytes]) -> "subprocess.Popen[bytes]":
+    """A command of the program over these paths, whose output is read as it comes."""
+    try:
+        return subprocess.Popen(
+            words_of(program, command, *paths),
+            stdin=subprocess.DEVNULL,
+            stdout=subprocess.PIPE,
+            stderr=errors,
+            bufsize=0,
+            close_fds=False,
+        )
+    except OSError as error:
+        raise cannot_run(program, error) from None
+
+
+def cannot_run(program: str, error: OSError) -> Trouble:
+    """Why the program isn't run."""
+    return Trouble(OUT_OF_MEMORY if error.errno == errno.ENOMEM else f"cannot run {program}: {error.strerror}")
 
 
 REFUSAL = re.compile(r"(?:schema )?refused (S?\d+) (\w+(?:\(\w+\))?)(?: at statement (\d+)| in (#\d+))?")
@@ -407,14 +508,14 @@ def answer_of_schema(program: str, schema: str, text: Optional[Iterable[Piece]] 
     """What the program says of a schema: its refusal, or nothing. It is asked to check a file without a byte, since `p21 schema`
     would print the attributes of each supertype once for each subtype."""
     answer = run(program, "check", schema, os.devnull, text=text)
-    is_read = answer.status == 1 and not answer.error.startswith("schema refused")
-    return Answer(b"", "", 0) if is_read else answer
+    is_read = answer.status == Status.REFUSED and answer.error.startswith("refused")
+    return Answer(b"", "", Status.DONE) if is_read else answer
 
 
 def read_schema(program: str, schema: str, named: str) -> None:
     """Nothing where the program reads a schema, which the command line names so."""
     answer = answer_of_schema(program, schema)
-    if answer.status != 0:
+    if answer.status != Status.DONE:
         raise Trouble(f"{named}: {with_reason(answer.error, named)}")
 
 
@@ -423,16 +524,19 @@ LISTED = re.compile(rb"\n(?:ABSTRACT )?(\w+)\(")
 
 def listing(program: str, schema: str, most: int) -> Optional[Mapping[str, List[str]]]:
     """The attributes of each entity of a schema that is read, or None where the listing has more bytes than these."""
-    words = words_of(program, "schema", schema)
-    with subprocess.Popen(words, stdout=subprocess.PIPE, stderr=subprocess.PIPE, close_fds=False) as listed:
-        assert listed.stdout and listed.stderr
-        text = listed.stdout.read(most + 1)
-        if len(text) > most:
-            listed.kill()
-            return None
-        error = listed.stderr.read()
-    if listed.returncode != 0:
-        raise Trouble(line_of(error, listed.returncode))
+    text = bytearray()
+    with tempfile.TemporaryFile() as errors:
+        with started(program, "schema", schema, errors=errors) as listed:
+            assert listed.stdout
+            while len(text) <= most and (piece := listed.stdout.read(PIECE)):
+                text += piece
+            if len(text) > most:
+                listed.kill()
+                return None
+        errors.seek(0)
+        error = line_of(errors.read(), listed.returncode)
+    if listed.returncode != Status.DONE:
+        raise Trouble(error)
     attributes = Attributes(text)
     for entity in LISTED.finditer(text):
         attributes.places[entity[1].decode("ascii")] = entity.end()
