@@ -304,6 +304,10 @@ def moved(tests):
     ]
     for how in ((), ("--full",)):
         tests.expect(f"moved, {how}", ["--verify", manifest, *how, SCHEMA, str(folder)], 1, lines, "6 files: 3 as it was, 2 moved, 1 new")
+    none = [f"not known: {folder}/none.step: there is no such file"]
+    counts = "6 files: 3 as it was, 2 missing, 1 not known"
+    output, error, status = tests.run(["--verify", manifest, SCHEMA, f"{folder}/none.step"])
+    tests.judge("a given file that isn't there", (none, f"{counts}\n", 3), (output.splitlines()[2:], error, status))
     missing = [f"missing: {folder}/{name}: No such file or directory" for name in ("b.step", "deep/Count.step")]
     tests.expect("where it isn't known to be", ["--verify", manifest, SCHEMA], 1, missing, "5 files: 3 as it was, 2 missing")
     bag = tests.make("moved/bag.txt", f"{sha256_of(folder / 'a.step')}  a.step\n{sha256_of(folder / 'deep/e.step')}  b.step\n")

@@ -180,6 +180,40 @@ def closed(tests):
     os.chmod(tests.here, 0o700)
 
 
+# Texts of FILE_SCHEMA that the program reads as one name, and whether they begin with PRODUCT_MODEL.
+SPELLINGS = [
+    ("product_Model { 1 0 10303 }", True),
+    ("PRODUCT\\PA\\_MODEL", True),
+    ("\\X\\50RODUCT_MODEL", True),
+    ("\\X2\\00500052004F\\X0\\DUCT_MODEL", True),
+    ("\\X4\\000000500000005200\\X0\\", None),
+    ("PRODUCT_MODE\\X4\\0000004C\\X0\\", True),
+    ("PRO\tDUCT_MODEL\x7f", True),
+    ("PRODUCT_MODEL''S", True),
+    ("PRODUCT_MODEL\\\\S", True),
+    ("PRODUCT_MODEL\\S\\D", True),
+    ("PRODUCT_MODEL\u00e4", True),
+    ("PRODUCT_MODEL\\X2\\0041\\X0\\", False),
+    ("PRODUCT_MODELS", False),
+    ("''PRODUCT_MODEL", None),
+]
+
+
+def spellings(tests, folder):
+    """A name is found however its string is spelled: as the program reads it, which says whether it is PRODUCT_MODEL."""
+    for text, is_product in SPELLINGS:
+        file = tests.make("spelled.step", file_of("", [("PRODUCT_MODEL", text)]))
+        alone = tests.run(["--format", "json", SCHEMA, file])
+        by_program = json.loads(alone[0])["answer"]
+        found = json.loads(tests.run(["--format", "json", "--schemas", folder, file])[0])
+        if is_product is not None:
+            tests.judge(f"{text}: the program", is_product, by_program == "accepted")
+            wanted = ("accepted", f"{folder}/product.exp") if is_product else ("no schema", None)
+            tests.judge(text, wanted, (found["answer"], found["schema"]))
+        else:
+            tests.judge(f"{text}: refused", True, by_program.startswith("refused ") and found["answer"].startswith("refused "))
+
+
 def headers(tests, folder):
     """The name is found behind a header record of any length, and wherever the first piece that is read of it ends."""
     for length in (0, 1 << 17, (1 << 18) - 130, (1 << 18) - 120, (1 << 18) - 110, 1 << 18, 1 << 21):
@@ -198,6 +232,7 @@ def main():
     places(tests, folder)
     differences(tests, folder)
     headers(tests, folder)
+    spellings(tests, folder)
     refused(tests)
     closed(tests)
     tests.end()

@@ -225,7 +225,10 @@ NO_ANSWERS = [
     ("a signal that a shell tells", "echo Killed >&2; exit 137", "Killed ended with status 137"),
     ("want of memory", "echo 'out of memory' >&2; exit 3", "out of memory"),
     ("no word", "exit 1", "ended with status 1"),
-    ("words that are no refusal", "echo 'refused 45 Count in #3, or so' >&2; exit 1", "refused 45 Count in #3, or so"),
+    ("words that are no refusal", "echo 'refused 45 Count in #3, or so' >&2; exit 1", "no answer: refused 45 Count in #3, or so"),
+    ("a refusal, and a signal", "echo 'refused 45 Count in #3' >&2; kill -9 $$", "no answer: refused 45 Count in #3 ended by signal 9"),
+    ("a refusal, and done", "echo 'refused 45 Count in #3' >&2; exit 0", "the canonical file isn't whole"),
+    ("words in front", "echo 'Loading p21'; \"$real\" \"$@\"; exit 0", "the canonical file isn't whole"),
     ("a command line that it doesn't know", "echo usage >&2; exit 2", "usage"),
     ("nothing, and done", "exit 0", "the canonical file isn't whole"),
     ("a part, and done", '"$real" "$@" | head -c 4871; exit 0', "the canonical file isn't whole"),
@@ -246,11 +249,11 @@ def unanswered(tests):
         for how, digest in digests.items():
             given = [*([how] if how == "--names" else []), "--format", "json", SCHEMA, str(folder)]
             output, error, status = tests.run(given, program=program)
-            fields = ("file", "answer", "instances", "sha256", "form")
+            fields = ("file", "answer", "instances", "sha256", "form", "number")
             found = [tuple(map(json.loads(line).get, fields)) for line in output.splitlines()]
             form = 1 if how == "with names" else None
-            rows = [(f"{folder}/{name}.step", "accepted", 128, digest, form) for name in "abc"]
-            rows[1] = (rows[1][0], answer, None, None, None)
+            rows = [(f"{folder}/{name}.step", "accepted", 128, digest, form, None) for name in "abc"]
+            rows[1] = (rows[1][0], answer, None, None, None, None)
             counts = "3 files, 2 accepted, 0 not, 1 without an answer"
             tests.judge(f"{name}, {how}", (rows, counts, 3), (found, error.split("\n")[0], status))
     program = tests.rigged("rigged", 'case "$1" in canon) head -c 1000000 /dev/zero | tr "\\0" x >&2; sleep 0.2 ;; esac')
@@ -332,6 +335,14 @@ BEFALLS = [
 ]
 
 
+def closed_streams(tests):
+    """Streams that are closed: nothing of one comes on the other, and no status is that of an answer."""
+    for closed, wanted in [(">&-", ("", "p21-table: standard output is closed\n", 2)), ("2>&-", (f"{BLOCK}\n", "", 0))]:
+        command = f"tools/p21-table {SCHEMA} examples/product.step {closed}"
+        done = subprocess.run(["sh", "-c", command], capture_output=True, check=False, text=True)
+        tests.judge(f"a stream that is closed: {closed}", wanted, (done.stdout[-65:], done.stderr, done.returncode))
+
+
 def befallen(tests):
     """Whatever befalls a tool, its status is that of trouble, and not the one that says that something is refused."""
     for what, line in BEFALLS:
@@ -355,6 +366,7 @@ def main():
     changing(tests)
     folders(tests)
     befallen(tests)
+    closed_streams(tests)
     full_disk(tests)
     headers(tests)
     refused = "examples/product.step: schema refused S2 Syntax"

@@ -9,8 +9,8 @@ from typing import BinaryIO, Dict, Iterator, Optional, Tuple
 import p21_reading as reading
 from p21_reading import shown
 
-# How a canonical file ends, and what a program says that gives less.
-END = b"\nEND-ISO-10303-21;\n"
+# How a canonical file begins and ends, and what is said of a program that gives something else.
+BEGIN, END = b"ISO-10303-21;\n", b"\nEND-ISO-10303-21;\n"
 NOT_WHOLE = "the canonical file isn't whole"
 FORM = re.compile(r"p21 \S+ \(canonical form (\d+)\)\n")
 
@@ -39,14 +39,19 @@ def handed(path: str) -> str:
 def asked(program: str, schema: str, path: str) -> Tuple[Optional[mmap.mmap], str, reading.Status]:
     """The canonical file of a file, or None and why there is none, and what that came to."""
     with tempfile.TemporaryFile() as output:
-        answer = reading.run(program, "canon", schema, path, output=output)
-        status = reading.came_to(answer.error, answer.status)
+        run = reading.run(program, "canon", schema, path, output=output)
+        answer, status = reading.judged(run.error, run.status)
         if status != reading.Status.DONE:
-            return None, answer.error, status
+            return None, answer, status
         text = mmap.mmap(output.fileno(), 0, access=mmap.ACCESS_READ) if os.fstat(output.fileno()).st_size else None
-        if text is None or text[-len(END) :] != END:
+        if text is None or not is_whole(text[: len(BEGIN)], text[-len(END) :]):
             return None, NOT_WHOLE, reading.Status.FAILED
         return text, "", status
+
+
+def is_whole(first: bytes, last: bytes) -> bool:
+    """Are these the beginning and the end of a canonical file?"""
+    return first.startswith(BEGIN) and last == END
 
 
 def canonical(program: str, schema: str, path: str, named: Optional[str] = None) -> mmap.mmap:

@@ -324,7 +324,8 @@ class Verifying:
             moved = self.moved(path) if found == Found.MISSING else None
             yield Line(path, *(moved or (found, why)))
         for file in self.new:
-            yield Line(file, Found.NEW, "")
+            reason = reading.why_not_plain(file)
+            yield Line(file, Found.NOT_KNOWN, reason) if reason else Line(file, Found.NEW, "")
 
     def said_of(self, path: str) -> Said:
         """What is said of a file of the manifest, and why."""

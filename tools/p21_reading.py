@@ -146,6 +146,11 @@ def ended(tool: str, status: int, work: Callable[[], int]) -> int:
     status."""
     signal.signal(signal.SIGPIPE, signal.SIG_DFL)
     signal.signal(signal.SIGINT, signal.SIG_DFL)
+    # A stream that is closed is None, and what is printed to it would go elsewhere.
+    sys.stderr = sys.stderr or open(os.devnull, "w", encoding="utf-8")
+    if not sys.stdout:
+        print(f"{tool}: standard output is closed", file=sys.stderr)
+        return status
     for stream in (sys.stdout, sys.stderr):
         stream.reconfigure(errors="backslashreplace")  # type: ignore[attr-defined]
     try:
@@ -213,12 +218,14 @@ def line_of(error: bytes, status: int) -> str:
     return f"{line} ended with status {status}".lstrip() if status > Status.FAILED or (status and not line) else line
 
 
-def came_to(line: str, status: int) -> Status:
+def judged(line: str, status: int) -> Tuple[str, Status]:
     """What a check of the program came to, by what it wrote to its second stream and its status: it is done, or something is
-    refused, or else there is no answer, as where a signal ended it."""
+    refused, or else there is no answer, as where a signal ended it. The line that says so never looks like an answer."""
     if status == Status.DONE:
-        return Status.DONE
-    return Status.REFUSED if status == Status.REFUSED and REFUSAL.fullmatch(line) else Status.FAILED
+        return line, Status.DONE
+    if status == Status.REFUSED and REFUSAL.fullmatch(line):
+        return line, Status.REFUSED
+    return f"no answer: {line}" if REFUSAL.match(line) else line, Status.FAILED
 
 
 def status_of(status: int) -> Status:

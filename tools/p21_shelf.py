@@ -12,7 +12,7 @@ import re
 import stat
 import tempfile
 import threading
-from typing import Dict, List, NamedTuple, Optional, Sequence, Set, Tuple
+from typing import Dict, List, Match, NamedTuple, Optional, Sequence, Set, Tuple
 
 import p21_files
 import p21_reading as reading
@@ -22,7 +22,13 @@ ALIASES = "aliases"
 VARIABLE = "P21_SCHEMAS"
 OPTION = f"a folder of schemas, each found by what a file names; in place of S. {VARIABLE} names one too"
 ALIAS = re.compile(r"(\w+)\s*=\s*(\S.*)", re.A)
-NAME = re.compile(rb"[A-Za-z0-9_]*")
+# What may stand in a string in front of the end of a name: characters, as themselves or by their numbers, and what stands for none.
+UNIT = re.compile(
+    rb"[\0-\x1f\x7f]|\\PA\\|([ -&(-\[\]-~])|\\X\\([0-9A-F]{2})|\\X2\\((?:[0-9A-F]{4})+)\\X0\\|\\X4\\((?:[0-9A-F]{8})+)\\X0\\"
+)
+# How many digits a number has, by the group of the pattern that has it; a character of its own has none.
+DIGITS = {1: 0, 2: 2, 3: 4, 4: 8}
+NAME = re.compile(r"[A-Za-z0-9_]*")
 # The header is looked for in so many bytes first, and in so many at most.
 FIRST_OF_HEADER, MOST_HEADER = 1 << 18, 1 << 28
 # What is answered of a file that names a schema which no listing serves.
@@ -50,6 +56,28 @@ def named(path: str, listing: str) -> Served:
     state = reading.state_of(path)
     with reading.plain(path) as file:
         return Served(path, listing, hashlib.sha256(file.read()).hexdigest(), "", state)
+
+
+def name_at(text: bytes, start: int) -> Optional[str]:
+    """The name with which the string begins whose first character stands here, in capitals, or None."""
+    found: List[str] = []
+    while unit := UNIT.match(text, start):
+        found.append(characters_of(unit))
+        start = unit.end()
+        if not NAME.fullmatch(found[-1]):
+            break
+    name = NAME.match("".join(found))
+    return name[0].upper() or None if name else None
+
+
+def characters_of(unit: Match[bytes]) -> str:
+    """The characters that a part of a string stands for."""
+    if unit.lastindex is None:
+        return ""
+    part, size = unit[unit.lastindex], DIGITS[unit.lastindex]
+    if not size:
+        return part.decode("ascii")
+    return "".join(chr(int(part[at : at + size], 16)) for at in range(0, len(part), size))
 
 
 class Given:
@@ -110,7 +138,7 @@ def name_of(data: bytes) -> Tuple[bool, Optional[str]]:
                 return False, None
             if text.startswith(b"FILE_SCHEMA"):
                 value = reading.read_parts(text)[0].values[0].inner[0]
-                return True, reading.matched(NAME, text, value.start + 1)[0].decode("ascii").upper() or None
+                return True, name_at(text, value.start + 1)
             if text.startswith((b"ENDSEC", b"#")):
                 break
     except (ValueError, IndexError, StopIteration, AssertionError):
