@@ -4,7 +4,7 @@ _p21_table() {
     local word=${COMP_WORDS[COMP_CWORD]}
     COMPREPLY=()
     case ${COMP_WORDS[COMP_CWORD - 1]}:$word in
-        *:-*) COMPREPLY=($(compgen -W '--help --schemas --data --names --schema --manifest --resume --bagit --verify --files-from --format --jobs' -- "$word")) ;;
+        *:-*) COMPREPLY=($(compgen -W '--help --schemas --data --names --schema --manifest --resume --bagit --verify --full --base --files-from --format --jobs' -- "$word")) ;;
     esac
     case ${COMP_WORDS[COMP_CWORD - 1]} in
         --format) COMPREPLY=($(compgen -W 'text tsv json' -- "$word")) ;;

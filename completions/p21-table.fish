@@ -9,6 +9,8 @@ complete -c p21-table -l manifest -r -F -d 'write a manifest of the files there 
 complete -c p21-table -l resume -d 'go on with a manifest whose run was interrupted'
 complete -c p21-table -l bagit -d 'with --manifest: print the lines of a manifest of BagIt, and no table'
 complete -c p21-table -l verify -r -F -d 'say what changed since a manifest, which may be one of BagIt'
+complete -c p21-table -l full -d 'with --verify: make each answer, number of instances and hash anew'
+complete -c p21-table -l base -r -F -d 'the folder below which the paths of a manifest lead'
 complete -c p21-table -l files-from -r -F -d 'a text with a file'\''s name in each line; - is standard input'
 complete -c p21-table -l format -x -a 'text tsv json' -d 'text, tab-separated, or a JSON object a line'
 complete -c p21-table -s j -l jobs -x -d 'files checked side by side'

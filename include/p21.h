@@ -23,7 +23,7 @@
  * What a call answers is a status. P21_REFUSED and P21_FAILED come with a report, and then nothing is handed out: what stood
  * in the handle or in the place of the answer is as it was.
  *
- * To link: libp21.so; or libp21_c.a and liblibc_c.a, in this order. pkg-config and CMake know it as p21. C++ has p21.hpp above it.
+ * To link: libp21.so or libp21.a. pkg-config and CMake know the library as p21. C++ has p21.hpp above it.
  */
 #ifndef P21_H
 #define P21_H

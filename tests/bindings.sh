@@ -85,6 +85,15 @@ else
     leave_out 'the interface that is written down' 'libabigail or gcc is not here'
 fi
 
+# The libraries that the header says to link.
+installed() {
+    names=$(sed -n '/To link:/,/\*\//p' "$root/include/p21.h" | grep -o 'lib[a-z0-9_]*\.\(so\|a\)' | sort -u)
+    [ -n "$names" ] && for name in $names; do
+        ls "$prefix/lib/$name" || return
+    done
+}
+part 'the libraries that the header names' installed
+
 # The version of the header: its parts, and what they are together.
 version=$(sed -n 's/.*VERSION: &str = "\([^ "]*\).*/\1/p' "$root/crates/p21_command_line/src/help.rt")
 sed -n 's/^#define P21_VERSION_[A-Z]* \([0-9]*\)$/\1/p' "$root/include/p21.h" | paste -sd . > "$here/found"
@@ -327,10 +336,15 @@ else
     leave_out 'mypy' 'mypy is not here'
 fi
 
-# The tests of the Python package run the programs of both pages in Python. What they lack is named.
+# The tests of the Python package run the programs of both pages in Python, as docs/LIBRARY.md says: in a clone, by the library
+# that tools/build-library puts into the package. What they lack is named.
+in_clone() (
+    mkdir "$here/repository" && ln -s "$root"/* "$here/repository" && rm "$here/repository/python" &&
+        cp -R "$root/python" "$here/repository" && cp "$shared" "$here/repository/python/p21/libp21.so" && cd "$here/repository" &&
+        unset P21_LIBRARY PYTHONPATH && PYTHONDONTWRITEBYTECODE=1 "$python" -m pytest -q -rs -p no:cacheprovider python
+)
 if "$python" -m pytest --version > /dev/null 2>&1; then
-    P21_LIBRARY=$shared PYTHONPATH=$root/python PYTHONDONTWRITEBYTECODE=1 \
-        part 'the Python package' "$python" -m pytest -q -rs -p no:cacheprovider "$root/python/tests"
+    part 'the Python package' in_clone
     tail -n 1 "$here/log"
     skipped=$(sed -n 's/^SKIPPED \[[0-9]*\] [^ ]* //p' "$here/log" | sort -u | paste -sd ,)
     [ -z "$skipped" ] || leave_out 'tests of the Python package' "$skipped"

@@ -1,7 +1,7 @@
 #!/usr/bin/env python3
 """Runs the recipes of docs/RECIPES.md for Slurm and Dask on real clusters of this machine: two nodes, or two workers, on the
-loopback addresses. In each, one of the two is killed in the middle of its work, and one file of the list takes more memory
-than a process is given. Each file of the list must have its row at the end, and none two.
+loopback addresses. In each, one of the two is killed in the middle of its work, one file of the list takes more memory than a
+process is given, and one names a schema that isn't on the shelf. Each file of the list must have its row at the end, and none two.
 
     tests/clusters.py [slurm | dask] [--files COUNT]
 
@@ -143,23 +143,25 @@ class Place:
         (folder / "list").write_text("".join(f"{file}\n" for file in self.files))
 
     def made(self, count, with_long):
-        """Files of one point each, a refused one, and in the middle, where it is wanted, the one that takes its memory."""
+        """Files of one point each, a refused one, one of another schema, and in the middle, where it is wanted, the one that takes its
+        memory."""
         (self.folder / "files").mkdir()
         head, end = (
-            "ISO-10303-21;\nHEADER;\nFILE_DESCRIPTION((''),'2;1');\nFILE_NAME('','',(''),(''),'','','');\n"
-            "FILE_SCHEMA(('PRODUCT_MODEL'));\nENDSEC;\nDATA;\n",
+            "ISO-10303-21;\nHEADER;\nFILE_DESCRIPTION((''),'2;1');\nFILE_NAME('','',(''),(''),'','','');\n",
             "ENDSEC;\nEND-ISO-10303-21;\n",
         )
         for number in range(count):
             name = f"files/{number:05}.step"
             text = "x" * LONG if with_long and number == count // 2 else str(number)
             values = "0." if number == 3 else f"'{text}',(0.,1.,{number}.)"
-            (self.folder / name).write_text(f"{head}#1=CARTESIAN_POINT({values});\n{end}")
+            schema = "ANOTHER" if number == 5 else "PRODUCT_MODEL"
+            data = f"FILE_SCHEMA(('{schema}'));\nENDSEC;\nDATA;\n#1=CARTESIAN_POINT({values});\n"
+            (self.folder / name).write_text(f"{head}{data}{end}")
             yield name
 
     def wanted(self):
         """The answers that there must be, with how many files have each."""
-        return {"accepted": len(self.files) - 2, "refused 45 Count in #1": 1, "out of memory": 1}
+        return {"accepted": len(self.files) - 3, "refused 45 Count in #1": 1, "no schema": 1, "out of memory": 1}
 
     def run(self, *words, **options):
         """A command that ends by itself."""

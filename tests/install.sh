@@ -71,7 +71,7 @@ files 'the files of a program alone' './bin/p21
 ./share/doc/p21/LICENSE'
 
 mkdir -p "$tree/man" "$tree/completions" "$tree/docs/dev" "$tree/examples/refused"
-for part in README.md man/p21.1 man/p21-a.1 docs/dev/CODE.md docs/FAULTS.md docs/RECIPES.md docs/SCHEMAS.md completions/p21.bash completions/_p21 \
+for part in README.md CHANGELOG.md man/p21.1 man/p21-a.1 docs/dev/CODE.md docs/CANONICAL.md docs/FAULTS.md docs/RECIPES.md docs/SCHEMAS.md completions/p21.bash completions/_p21 \
     completions/p21.fish completions/p21-a.bash completions/_p21-a completions/p21-a.fish examples/one.step examples/refused/two.step \
     tools/shared.py tools/p21-a tools/p21-b; do
     echo "$part" > "$tree/$part"
@@ -88,6 +88,8 @@ files 'the files of each part' './bin/p21
 ./lib/p21/shared.py
 ./share/bash-completion/completions/p21
 ./share/bash-completion/completions/p21-a
+./share/doc/p21/CANONICAL.md
+./share/doc/p21/CHANGELOG.md
 ./share/doc/p21/FAULTS.md
 ./share/doc/p21/LICENSE
 ./share/doc/p21/README.md

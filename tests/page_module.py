@@ -124,6 +124,10 @@ def broken_files(tests):
     name = 2**64 - 3
     long_names = f"#{name}=POINT($,1.,2.);\n#{name + 1}=POINT($,1.,'a');\n#0{name}=ORIGIN($,*,1.);"
     yield [tools_where.DEMO, tests.make("long_names.step", file_of(long_names, [("PRODUCT_MODEL", "DEMO")]))]
+    references = ",".join(f"#{name}" for name in range(2, 142))
+    for number, other in enumerate(("", "\n".join(f"#{name}=MARKED($,.RED.);" for name in range(2, 142, 2)))):
+        rows = f"#1=CLOUD(({references}),(),(TALLY(1)));\n{other}"
+        yield [tools_where.DEMO, tests.make(f"references{number}.step", file_of(rows, [("PRODUCT_MODEL", "DEMO")]))]
     for number in range(20):
         count = chance.randint(2, 40)
         rows = []

@@ -234,11 +234,21 @@ def files(parts, release, again, folder):
         newest = max(tuple(map(int, version.split("."))) for version in versions)
         parts.judge(f"{name}: the C library", True, newest <= NEWEST)
         parts.judge(f"{name}: other libraries", ["libc.so.6"], re.findall(r"NEEDED +(\S+)", must("objdump", "-p", path)))
+    for package in ("tar.gz", "whl", "deb"):
+        if (folder / package).is_dir():
+            there = {path.name for path in (folder / package).rglob("share/doc/p21/*.md")}
+            parts.judge(f"{package}: the pages for users", set(), pages_for_users() - there)
     program = next(path for path in found.values() if path.name == "p21")
     added = {name for name, _ in functions(program) - functions(ROOT / BUILT[0])}
     gone = functions(ROOT / BUILT[0]) - functions(program)
     of_start = {"__libc_start_main", "call_constructors", "__x86_get_cpuid_feature_leaf", "ecx_of_leaf"}
     parts.judge("the functions of the program", (set(), set()), (added - of_start, gone))
+
+
+def pages_for_users():
+    """The pages that README names for users, and itself."""
+    listed = (ROOT / "README.md").read_text().partition("\nFor users:\n")[2].partition("\nFor auditors:\n")[0]
+    return {"README.md", *re.findall(r"^- `(?:docs/)?(\w+\.md)`", listed, re.M)}
 
 
 def is_elf(path):

@@ -14,6 +14,9 @@ SCHEMA = "examples/product.exp"
 # A tool that takes longer never ends.
 MOST_SECONDS = 300
 
+# What runs a command without the right of root to read whatever it is, so that root too may not read what is forbidden.
+AS_OTHERS = ["setpriv", "--bounding-set=-dac_override,-dac_read_search"] if os.geteuid() == 0 else []
+
 # The files that stand in the repository are named from its top.
 os.chdir(ROOT)
 os.environ.setdefault("P21", str(ROOT / "p21"))
@@ -54,12 +57,22 @@ class Tests:
         path.write_bytes(text.encode("utf-8") if isinstance(text, str) else text)
         return str(path)
 
-    def run(self, arguments, text=None, file=None):
-        """What the tool writes to each stream, and its status. It is given a text by a pipe, or an open file."""
-        command = [f"tools/{self.tool}", *(argument.format(here=self.here) for argument in arguments)]
+    def run(self, arguments, text=None, file=None, program=None, before=()):
+        """What the tool writes to each stream, and its status. It is given a text by a pipe, or an open file. It may run another
+        program, and be run by the words of another one before it."""
+        command = [*before, f"tools/{self.tool}", *(argument.format(here=self.here) for argument in arguments)]
         given = {"input": text} if file is None else {"stdin": file}
+        given["env"] = dict(os.environ, P21=program or self.program)
         done = subprocess.run(command, capture_output=True, check=False, timeout=MOST_SECONDS, **given)
         return done.stdout.decode(), done.stderr.decode(), done.returncode
+
+    def rigged(self, name, lines):
+        """A program that runs these lines of a shell in front of the real one, which `$real` names. The command is `$1`, and
+        `$*` all that it is given."""
+        path = self.here / name
+        path.write_text(f"#!/bin/sh\nreal='{os.path.abspath(self.program)}'\n{lines}\nexec \"$real\" \"$@\"\n")
+        path.chmod(0o755)
+        return str(path)
 
     def full_disk(self, arguments):
         """What the tool says where nothing can be written to its output, and its status."""
@@ -86,10 +99,10 @@ class Tests:
             self.failed += 1
             print(f"{self.tool}, {name}:\n  wanted {wanted}\n  found  {found}")
 
-    def expect(self, name, arguments, status, output, error=""):
+    def expect(self, name, arguments, status, output, error="", **how):
         """A run that writes just these lines to each stream and ends with this status."""
         lines = [text.format(here=self.here) + "\n" if text else "" for text in ("\n".join(output), error)]
-        self.judge(name, (*lines, status), self.run(arguments))
+        self.judge(name, (*lines, status), self.run(arguments, **how))
 
     def end(self, left_out=""):
         """Says how many rows passed, and what was left out for want of something, and ends with status 0, 1 or that of a test that

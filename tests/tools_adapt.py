@@ -4,6 +4,7 @@ it names and leaves. P21 names another program than ./p21.
 """
 
 import subprocess
+import time
 
 from tooling import Tests
 
@@ -128,6 +129,24 @@ def taken(tests):
     tests.judge("a listing that isn't given", (lines, 1), (error.splitlines(), status))
 
 
+# A chain of so many TYPEs that are names of a SELECT, each of the one before, takes at most so many seconds.
+CHAIN, MOST_OF_CHAIN = 6_000, 30
+
+
+def chain(tests):
+    """A chain of renamed SELECTs has the list in place of each name, a circle has none, and neither takes long."""
+    first = "ENTITY a; END_ENTITY; TYPE t0 = SELECT (a); END_TYPE;"
+    for name, front, body in (("a chain", first, "SELECT (a)"), ("a circle", f"ENTITY a; END_ENTITY; TYPE t0 = t{CHAIN - 1}; END_TYPE;", None)):
+        types = [f"TYPE t{number} = {{}}; END_TYPE;" for number in range(1, CHAIN)]
+        text = whole(" ".join([front, *(line.format(f"t{number}") for number, line in enumerate(types))]))
+        wanted = text if body is None else whole(" ".join([front, *(line.format(body) for line in types)]))
+        begun = time.monotonic()
+        output, _, status = tests.run([tests.make("chain.exp", text)])
+        took = time.monotonic() - begun
+        tests.judge(f"{name} of renamed SELECTs", (True, 0 if body else 1), (output == wanted, status))
+        tests.judge(f"{name} of renamed SELECTs: {took:.1f} s", True, took < MOST_OF_CHAIN)
+
+
 def marks(tests):
     """A byte order mark goes; and files that can't be read or written."""
     listing = tests.make("mark.exp", b"\xef\xbb\xbf" + whole("ENTITY a; END_ENTITY;").encode())
@@ -141,6 +160,7 @@ def main():
     tests = Tests("p21-adapt")
     edits(tests)
     taken(tests)
+    chain(tests)
     marks(tests)
     tests.end()
 

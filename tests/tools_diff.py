@@ -1,6 +1,7 @@
 #!/usr/bin/env python3
 """Runs tools/p21-diff over the examples and over pairs of files that are made. P21 names another program than ./p21."""
 
+import json
 import subprocess
 import time
 
@@ -189,6 +190,62 @@ FORMS = [
     ),
 ]
 
+# Files that are the same but for their header, for their numbering, or for both; and one that differs otherwise.
+STAMPED = [("FILE_NAME('',''", "FILE_NAME('','2024-03-15'")]
+PLACED = "{0}=CARTESIAN_POINT('',(0.,0.,0.));\n{1}=VERTEX_POINT('',{0});"
+BUT_FOR = [
+    ("the header", file_of(PLACED.format("#1", "#2"), STAMPED), [], "the same but for the header", ["header"]),
+    ("the header, up to names", file_of(PLACED.format("#1", "#2"), STAMPED), ["--names"], "the same but for the header", ["header"]),
+    ("the numbering", file_of(PLACED.format("#7", "#4")), [], "the same but for numbering", ["numbering"]),
+    ("the numbering and the header", file_of(PLACED.format("#2", "#1"), STAMPED), [], "the same but for numbering and the header", ["numbering", "header"]),
+    (
+        "the numbering and the header, up to names",
+        file_of(PLACED.format("#2", "#1"), STAMPED),
+        ["--names"],
+        "the same but for numbering and the header",
+        ["numbering", "header"],
+    ),
+    ("a value", file_of(PLACED.format("#7", "#4"), [("0.,0.,0.", "0.,0.,1.")]), [], "different", None),
+    ("a value and the header", file_of(PLACED.format("#1", "#2"), [*STAMPED, ("0.,0.,0.", "0.,0.,1.")]), ["--names"], "different", None),
+    ("nothing", file_of(PLACED.format("#1", "#2")), [], "same", None),
+    ("names, and those don't count", file_of(PLACED.format("#7", "#4")), ["--names"], "same up to names", None),
+]
+
+
+def but_for(tests):
+    """Files that are the same but for their numbering or their header: the headline of a page, the line of a text and the object say
+    so first."""
+    first = tests.make("a.step", file_of(PLACED.format("#1", "#2")))
+    for name, text, options, said, words in BUT_FOR:
+        given = [*options, SCHEMA, first, tests.make("b.step", text)]
+        lines = tests.run(["--stat", *given])[0].splitlines()
+        tests.judge(f"but for {name}, a line", said, lines[-1].partition(":")[0])
+        rows = [json.loads(line) for line in tests.run(["--format", "json", *given])[0].splitlines()]
+        tests.judge(f"but for {name}, an object", words, rows[-1].get("but_for"))
+        page, _, _ = tests.run(["--format", "html", *given])
+        heading = {"different": "What differs", "same": "The same", "same up to names": "The same"}.get(said) or said.capitalize()
+        tests.judge(f"but for {name}, a page", heading, page.partition("<h1>")[2].partition("</h1>")[0])
+
+
+# A schema whose listing is longer than is read of one: each of its entities has all attributes of the first.
+WIDE = 2_000
+
+
+def wide(tests):
+    """A schema whose listing is hundreds of times as long as it is: what differs is told by the schema itself, and little is taken."""
+    attributes = " ".join(f"a{number} : REAL;" for number in range(WIDE))
+    entities = " ".join(f"ENTITY b{number} SUBTYPE OF (a); END_ENTITY;" for number in range(WIDE))
+    schema = tests.make("wide.exp", f"SCHEMA wide; ENTITY a; {attributes} END_ENTITY; {entities} END_SCHEMA;")
+    texts = [file_of(f"#1=B7({'0.,' * (WIDE - 1)}{last});", [("PRODUCT_MODEL", "WIDE")]) for last in ("0.", "1.")]
+    paths = [tests.make(f"{number}.step", text) for number, text in enumerate(texts)]
+    for options in ([], ["--names"]):
+        line = f"changed #1 B7.A{WIDE - 1}: 0. -> 1."
+        output, error, status = tests.run([*options, schema, *paths])
+        tests.judge(f"a wide schema, {options}", (line, "", 1), (output.splitlines()[0], error, status))
+    taken = tests.peak([schema, *paths])
+    tests.judge(f"a wide schema, {taken:.0f} MB", True, taken < 120)
+
+
 # Each row: a real, another one, a tolerance, and whether they are within it.
 NEAR = [
     ("1.", "1.001", "0.001", True),
@@ -287,6 +344,8 @@ def main():
     for name, given, line in TROUBLE:
         tests.expect(name, given, 2, [], f"p21-diff: {line}")
     forms(tests)
+    but_for(tests)
+    wide(tests)
     strange(tests)
     memory(tests)
     tests.end()

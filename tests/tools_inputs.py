@@ -5,6 +5,7 @@ program than ./p21."""
 import os
 import pathlib
 import pwd
+import resource
 import subprocess
 
 from tooling import ROOT, SCHEMA, Tests
@@ -61,11 +62,47 @@ def reasons(tests):
                 tests.judge(name, (True, True), (is_said, status in (2, 3)))
 
 
+def links(tests):
+    """Links in a folder that lead nowhere are told, and so are circles of them."""
+    folder = tests.here / "links"
+    folder.mkdir()
+    gone, circle, other = folder / "gone.step", folder / "circle.step", folder / "other.txt"
+    gone.symlink_to("nowhere.step")
+    circle.symlink_to("circle.step")
+    other.symlink_to("nowhere.txt")
+    (folder / "one.step").symlink_to(ROOT / BLOCK)
+    tests.tool = "p21-where"
+    output, error, status = tests.run(["--format", "lines", SCHEMA, str(folder)])
+    lines = [f"{circle}: cannot open {circle}: Too many levels of symbolic links"]
+    lines += [f"{gone}: cannot open {gone}: it is a link to what isn't there"]
+    tests.judge("links that lead nowhere", (lines, "", 3), (output.splitlines(), error, status))
+    output, error, status = tests.run(["--all", SCHEMA, str(folder)])
+    wanted = [f"{path}: cannot open {path}: {line.rpartition(': ')[2]}" for path, line in zip((circle, gone), lines)]
+    tests.judge("links that lead nowhere, in text", (wanted, "", 3), (output.splitlines()[:2], error, status))
+
+
+def memory(tests):
+    """Want of memory is told as that, and not as a file that can't be opened."""
+    path = str(tests.here / "large.step")
+    with open(path, "wb") as file:
+        file.write(b"p")
+        file.truncate(2_000_000_000)
+    limit = lambda: resource.setrlimit(resource.RLIMIT_AS, (600_000_000, 600_000_000))
+    for tool, words in (("p21-where", [SCHEMA, path]), ("p21-where", ["--all", SCHEMA, path]), ("p21-where", [path]), ("p21-adapt", [path])):
+        done = subprocess.run([f"tools/{tool}", *words], capture_output=True, check=False, text=True, preexec_fn=limit)
+        tests.judge(f"{tool} without memory", (f"{tool}: out of memory\n", 3), (done.stderr, done.returncode))
+    os.unlink(path)
+
+
 def forbidden(tests):
-    """A file that may not be read, by a user who isn't root."""
+    """Files and folders that may not be read or written, by a user who isn't root."""
     path = tests.make("secret.step", "")
     os.chmod(path, 0)
     os.chmod(tests.here, 0o755)
+    closed = tests.here / "folder" / "closed"
+    closed.mkdir(parents=True)
+    (closed / "one.step").write_text("")
+    os.chmod(closed, 0)
     given = {}
     if os.geteuid() == 0:
         nobody = pwd.getpwnam("nobody")
@@ -75,6 +112,24 @@ def forbidden(tests):
     done = subprocess.run(["tools/p21-table", SCHEMA, path], capture_output=True, check=False, text=True, **given)
     found = done.stdout.split("  ")[:2], done.returncode
     tests.judge("a file that may not be read", ([path, f"cannot open {path}: it may not be read"], 3), found)
+    inside, folder, copy = str(closed / "one.step"), str(closed.parent), str(closed.parent / "copy")
+    for tool, words, line in [
+        ("p21-where", ["--format", "lines", SCHEMA, path], f"{path}: cannot open {path}: it may not be read"),
+        ("p21-where", ["--format", "lines", SCHEMA, inside], f"{inside}: cannot open {inside}: it may not be read"),
+        ("p21-where", ["--format", "lines", SCHEMA, folder], f"{closed}: cannot open {closed}: it may not be read"),
+        ("p21-where", ["--format", "lines", path], f"{path}: cannot open {path}: it may not be read"),
+        ("p21-diff", [SCHEMA, BLOCK, path], f"p21-diff: {path}: cannot open {path}: it may not be read"),
+        ("p21-diff", ["--names", SCHEMA, inside, BLOCK], f"p21-diff: {inside}: cannot open {inside}: it may not be read"),
+        ("p21-diff", ["--names", "--pairing", copy, SCHEMA, BLOCK, BLOCK], f"p21-diff: cannot open {copy}: it may not be written"),
+        ("p21-renumber", [SCHEMA, BLOCK, path], f"p21-renumber: cannot open {path}: it may not be read"),
+        ("p21-renumber", [SCHEMA, path, "/dev/null"], f"p21-renumber: {path}: cannot open {path}: it may not be read"),
+        ("p21-adapt", [path], f"p21-adapt: cannot open {path}: it may not be read"),
+        ("p21-adapt", ["-o", copy, SCHEMA], f"p21-adapt: cannot open {copy}: it may not be written"),
+        ("p21-adapt", ["-o", str(closed / "copy"), SCHEMA], f"p21-adapt: cannot open {closed}/copy: it may not be read"),
+    ]:
+        done = subprocess.run([f"tools/{tool}", *words], capture_output=True, check=False, text=True, **given)
+        said = (done.stdout if "lines" in words else done.stderr).splitlines()[-1:]
+        tests.judge(f"{tool} {' '.join(words)}", ([line], True), (said, done.returncode in (2, 3)))
 
 
 def main():
@@ -82,6 +137,8 @@ def main():
     os.environ.pop("P21_SCHEMAS", None)
     inputs(tests)
     reasons(tests)
+    links(tests)
+    memory(tests)
     forbidden(tests)
     tests.tool = "the tools' inputs"
     tests.end()

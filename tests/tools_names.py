@@ -5,9 +5,11 @@ made, through tools/p21-diff --names, tools/p21-renumber and tools/p21-table --n
     tests/tools_names.py [PAIRS]     so many pairs for the hash that doesn't depend on names; 10,000 without a number
 """
 
+import itertools
 import json
 import os
 import random
+import re
 import subprocess
 import sys
 
@@ -282,6 +284,132 @@ def gone(tests):
     tests.judge("what came and went", (wanted, 18), (objects, found["pairs"]))
 
 
+# --- What differs, and what is shown of it ---
+
+LEAVES = {name: f"LEAF('leaf {name}',1.)" for name in range(1, 12)}
+SACKS = {**LEAVES, 30: "SACK((#1,#2,#3))", 31: "SACK((#4,#5))"}
+LINKED = {**SACKS, 40: "LINK(#30,$)", 41: "LINK(#31,$)"}
+ROWED = {**LEAVES, 30: "ROW((#1,#2,#3))", 31: "ROW((#4,#5))", 32: "ROW((#30,#31))"}
+GROUPS = {**LEAVES, 30: "GROUP('g',(#1,#2),#3)", 31: "GROUP('g',(#4,#5),#3)"}
+NEW = {50: "LEAF('new',1.)"}
+# Each row: a name, the records of the first file, what the second has besides or otherwise, and how many changed, came and went.
+GROWN = [
+    ("a bag", SACKS, {30: "SACK((#1,#2,#3,#6))"}, (1, 0, 0)),
+    ("two bags", SACKS, {30: "SACK((#1,#2,#3,#6))", 31: "SACK((#4,#5,#7))"}, (2, 0, 0)),
+    ("a bag, by what is new", SACKS, {30: "SACK((#1,#2,#3,#50))", **NEW}, (1, 1, 0)),
+    ("a bag beside a new one", SACKS, {30: "SACK((#1,#2,#3,#6))", 32: "SACK((#8,#9))"}, (1, 1, 0)),
+    ("two bags that are referred to", LINKED, {30: "SACK((#1,#2,#3,#6))", 31: "SACK((#4,#5,#7))"}, (2, 0, 0)),
+    ("a list, in front", ROWED, {30: "ROW((#6,#1,#2,#3))"}, (1, 0, 0)),
+    ("two lists, in front", ROWED, {30: "ROW((#6,#1,#2,#3))", 31: "ROW((#7,#4,#5))"}, (2, 0, 0)),
+    ("two sets", GROUPS, {30: "GROUP('g',(#1,#2,#6),#3)", 31: "GROUP('g',(#4,#5,#7),#3)"}, (2, 0, 0)),
+    ("two sets, by one of the other each", GROUPS, {30: "GROUP('g',(#1,#2,#4),#3)", 31: "GROUP('g',(#1,#4,#5),#3)"}, (2, 0, 0)),
+    ("a set of lists", {**LEAVES, 30: "DEEP(((#1,#2),(#3,#4)))"}, {30: "DEEP(((#1,#2),(#3,#4),(#5,#6)))"}, (1, 0, 0)),
+]
+
+
+def grown(tests):
+    """A list, a bag or a set that has grown by an element is one change, whatever the names are."""
+    for name, records, others, wanted in GROWN:
+        for seed in (1, 2):
+            _, found, _ = verdict(tests, [], file_of(records), shuffled(file_of({**records, **others}), seed)[0])
+            tests.judge(f"grown: {name}, {seed}", wanted, (found["changed"], found["came"], found["went"]))
+
+
+# Each row: a name, the records of both files, and the lines that are printed.
+SHOWN = [
+    (
+        "two that have changed names",
+        {1: "LINK(#5,$)", 5: "LEAF('a',1.)", 7: "LEAF('b',1.)"},
+        {1: "LINK(#5,$)", 5: "LEAF('b',1.)", 7: "LEAF('a',1.)"},
+        ["changed #1 LINK.NEXT: #5/#7 -> #7/#5", "different: 1 changed, 0 came, 0 went"],
+    ),
+    (
+        "one of another entity in its place",
+        {1: "LINK(#5,$)", 2: "ROW((#5,#1))", 5: "LEAF('a',1.)"},
+        {1: "LINK(#5,$)", 2: "ROW((#5,#1))", 5: "ROW(())"},
+        ["only in A: #5=LEAF('a',1.);", "only in B: #5=ROW(());", "different: 0 changed, 1 came, 1 went"],
+    ),
+    (
+        "one of another entity at another name",
+        {1: "LINK(#5,#5)", 5: "LEAF('a',1.)"},
+        {1: "LINK(#6,#6)", 6: "ROW(())"},
+        ["changed #1 LINK.NEXT: A#5 -> B#6", "changed #1 LINK.OTHER: A#5 -> B#6", "only in A: #5=LEAF('a',1.);", "only in B: #6=ROW(());"]
+        + ["different: 1 changed, 1 came, 1 went"],
+    ),
+    (
+        "three alike of which one is gone",
+        {1: "LEAF('a',1.)", 2: "LEAF('a',1.)", 3: "LEAF('a',1.)", 4: "LINK(#2,#3)"},
+        {2: "LEAF('a',1.)", 3: "LEAF('a',1.)", 4: "LINK(#2,#3)"},
+        ["only in A: #1=LEAF('a',1.);", "different: 0 changed, 0 came, 1 went"],
+    ),
+    (
+        "names in strings are none",
+        {1: "GROUP('#5/#6',(#5),#5)", 5: "LEAF('#1',1.)"},
+        {1: "GROUP('#5',(#6),#6)", 6: "LEAF('#1',1.)"},
+        ["changed #1 GROUP.LABEL: '#5/#6' -> '#5'", "different: 1 changed, 0 came, 0 went"],
+    ),
+]
+
+
+def shown(tests):
+    """Names of both files are told apart, and what has one name and one text in both is no change."""
+    for name, first, second, lines in SHOWN:
+        paths = [tests.make("a.step", file_of(first)), tests.make("b.step", file_of(second))]
+        output, error, status = tests.run(["--names", SCHEMA, *paths])
+        found = [line.partition("; ")[0] if line.startswith("different") else line for line in output.splitlines()]
+        tests.judge(f"shown: {name}", (lines, "", 1), (found, error, status))
+
+
+def raw(text, at):
+    """A text that is shown with the names of one file, as they stand in it."""
+    return re.sub(r"#(\d+)/#(\d+)", rf"#\{at + 1}", text).replace("AB"[at] + "#", "#")
+
+
+def crossed(tests):
+    """Files that keep some names: no change has equal texts, and what is shown of each file stands in that file."""
+    kept = 0
+    for seed in range(12):
+        chance = random.Random(f"crossed {seed}")
+        records = by_chance(seed, 80, cyclic=seed % 2 == 0)
+        changed = {**records, **{name: Maker(chance, 80, True).record(name) for name in chance.sample(list(records), 7)}}
+        texts = [file_of(records), file_of(changed) if seed % 3 else shuffled(file_of(changed), seed)[0]]
+        rows, _, _ = verdict(tests, [], *texts)
+        rows = [row for row in rows if row["kind"] == "changed"]
+        tests.judge(f"equal texts, {seed}", [], [row for row in rows if row["before"] == row["after"]])
+        for row in rows:
+            for at, (key, side) in enumerate((("before", "a"), ("after", "b"))):
+                canonical_text = canonical(tests, texts[at]).decode()
+                line = next(line for line in canonical_text.splitlines() if line.startswith(f"#{row[side]}="))
+                kept += "/" in row[key]
+                tests.judge(f"what is shown of {row}", True, raw(row[key], at) in line)
+    tests.judge("some names are told apart", True, kept > 20)
+
+
+GREATEST = 2**64 - 1
+
+
+def renumbering(tests):
+    """A pairing with names that no instance has is refused, and so is one that leaves none; the greatest name is one."""
+    path = tests.make("a.step", file_of({1: "LEAF('a',1.)", 2: "LINK(#1,$)", 3: "LEAF('b',1.)"}))
+    pairs = tests.make("pairs", "")
+    rows = [
+        (f"#1\t#{GREATEST + 1}\n", f"{pairs}: line 1 has a name above #{GREATEST}, which is the greatest"),
+        (f"#1\t#4\n#{10**20 - 1}\t#5\n", f"{pairs}: line 2 has a name above #{GREATEST}, which is the greatest"),
+        (f"#1\t#{GREATEST}\n", f"no name is left for #2: the pairing has #{GREATEST}, which is the greatest"),
+        (f"#1\t#{GREATEST - 1}\n", f"no name is left for #3: the pairing has #{GREATEST}, which is the greatest"),
+        (f"#1\t#{GREATEST - 2}\n", ""),
+        (f"#1\t#{GREATEST}\n#2\t#0\n#3\t#1\n", ""),
+    ]
+    tests.tool = "p21-renumber"
+    for text, line in rows:
+        tests.make("pairs", text)
+        output, error, status = tests.run([SCHEMA, path, pairs])
+        tests.judge(f"a pairing {text!r}", (f"p21-renumber: {line}\n" if line else "", 2 if line else 0), (error, status))
+        is_taken = subprocess.run([tests.program, "check", SCHEMA, tests.make("c.step", output)], capture_output=True, check=False).returncode == 0
+        tests.judge(f"a pairing {text!r}: what is written", (not line, bool(line)), (is_taken, output == ""))
+    tests.tool = "p21-diff"
+
+
 # --- The hash ---
 
 
@@ -332,8 +460,50 @@ def decided(tests):
         tests.judge(f"decided, {name}", wanted, found.is_decided)
     two, others = hashed(sets, file_of(USED_BY_TWO)), hashed(sets, file_of(USED_BY_OTHERS))
     tests.judge("hashes of what is used by two and by others", True, two.sha256 != others.sha256)
+    itself, other = ({1: "LINK(#1,$)", 2: "LINK(#2,$)"}, {1: "LINK(#2,$)", 2: "LINK(#1,$)"})
+    tests.judge("two that refer to themselves, and to one another", True, hashed(sets, file_of(itself)).sha256 != hashed(sets, file_of(other)).sha256)
     same = hashed(sets, file_of(rings(6))).sha256 == hashed(sets, file_of(rings(3, 3))).sha256
     tests.judge("circles that digests can't tell apart have equal hashes", True, same)
+
+
+def link_text(targets):
+    """A link to two instances by their names, of which 0 is none."""
+    return f"LINK({','.join(f'#{target}' if target else '$' for target in targets)})"
+
+
+def class_of(graph):
+    """What two graphs of links have in common exactly if one is the other but for names: the least of all namings."""
+    found = []
+    for order in itertools.permutations(range(1, len(graph) + 1)):
+        names = (0, *order)
+        found.append(tuple(sorted((names[at], *(names[target] for target in targets)) for at, targets in enumerate(graph, 1))))
+    return min(found)
+
+
+def small_graphs(count):
+    """All graphs of one or two links, and so many of three to five by chance."""
+    for size in (1, 2):
+        yield from itertools.product(itertools.product(range(size + 1), repeat=2), repeat=size)
+    chance = random.Random("graphs")
+    for _ in range(count):
+        size = chance.choice((3, 3, 3, 4, 5))
+        empty = chance.choice((0, 0.1, 0.3))
+        yield tuple(tuple(0 if chance.random() < empty else chance.randint(1, size) for _ in range(2)) for _ in range(size))
+
+
+def graphs(tests, count=5000):
+    """Of small graphs, each pair: files that are the same but for names have one answer, and files with equal hashes that are decided
+    are the same but for names."""
+    with open(SCHEMA, "rb") as file:
+        sets = p21_sets.Sets(p21_schemas.Outline(file.read()))
+    answers, same, decided_ones = {}, {}, 0
+    for graph in small_graphs(count):
+        found, like = hashed(sets, file_of({name: link_text(targets) for name, targets in enumerate(graph, 1)})), class_of(graph)
+        tests.judge(f"the answer on {graph}", answers.setdefault(like, found), found)
+        if found.is_decided:
+            decided_ones += 1
+            tests.judge(f"the hash of {graph}", same.setdefault(found.sha256, like), like)
+    tests.judge("most graphs are decided", True, decided_ones > count * 0.9)
 
 
 def table(tests):
@@ -356,7 +526,12 @@ def main():
     pairings(tests)
     changes(tests)
     gone(tests)
+    grown(tests)
+    shown(tests)
+    crossed(tests)
+    renumbering(tests)
     decided(tests)
+    graphs(tests)
     table(tests)
     hashes(tests, count)
     tests.end()

@@ -102,6 +102,33 @@ def looked_at(tests):
     tests.judge("a picture", True, os.path.getsize(picture) > 20_000)
 
 
+# Points of a plane and of space, and one that another entity of the schema is too. Each is changed.
+POINTS_EXP = """SCHEMA s; ENTITY cartesian_point; name : STRING; coordinates : LIST [1:3] OF REAL; END_ENTITY;
+ENTITY marked_point SUBTYPE OF (cartesian_point); mark : STRING; END_ENTITY;
+ENTITY direction; name : STRING; coordinates_of : LIST OF REAL; END_ENTITY; END_SCHEMA;"""
+POINTS = """#1=CARTESIAN_POINT('',(1.,2.));
+#2=CARTESIAN_POINT('',(1.,2.,{0}.));
+#3=CARTESIAN_POINT('',({0}.));
+#4=MARKED_POINT('',(5.,6.,{0}.),'m');
+#5=DIRECTION('',(1.,2.,{0}.));
+#6=(CARTESIAN_POINT('',(7.,8.,{0}.))MARKED_POINT('n'));
+#7=CARTESIAN_POINT('',({0}.,2.));
+#8=CARTESIAN_POINT('{0}',(9.,9.,9.));"""
+
+
+def points(tests):
+    """The picture has points of three coordinates, of whatever entity that has them, and none of two."""
+    schema = tests.make("points.exp", POINTS_EXP)
+    paths = [tests.make(f"{number}.step", file_of(POINTS.format(number), [("PRODUCT_MODEL", "S")])) for number in (3, 4)]
+    for options in ([], ["--names"]):
+        page, error, status = tests.run([*options, "--format", "html", schema, *paths])
+        tests.judge(f"points, {options}", ("", 1), (error, status))
+        view = page.partition("<svg")[2].partition("</svg>")[0]
+        tests.judge(f"points that are drawn, {options}", ["#2", "#4", "#6", "#8"], sorted(re.findall("<title>(#[0-9]+)</title>", view)))
+    flat = [tests.make(f"{number}.step", file_of(f"#1=CARTESIAN_POINT('',({number}.,2.));", [("PRODUCT_MODEL", "S")])) for number in (3, 4)]
+    tests.judge("points of planes alone", False, "<svg" in tests.run(["--format", "html", schema, *flat])[0])
+
+
 def narrow(tests):
     """On a narrow screen nothing runs out of the page."""
     page, _, _ = tests.run(["--names", "--format", "html", SCHEMA, "examples/product.step", str(tests.here / "long.step")])
@@ -128,6 +155,7 @@ def main():
     if CHROMIUM is not None:
         narrow(tests)
     many(tests)
+    points(tests)
     tests.end("" if CHROMIUM else "the page in a browser (no Chromium)")
 
 

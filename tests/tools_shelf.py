@@ -7,7 +7,7 @@ import json
 import os
 import shutil
 
-from tooling import ROOT, SCHEMA, Tests, file_of
+from tooling import AS_OTHERS, ROOT, SCHEMA, Tests, file_of
 
 BLOCK = "5d11fa2abae65fa2bff1265d357ae88c5adf85242cd77e53a1c8b9877eff411c"
 HEAD = "file\tanswer\tinstances\tsha256\tschema\tschema_sha256\tform"
@@ -42,8 +42,9 @@ def tables(tests, folder):
         ["examples/product.step", "accepted", "128", BLOCK, *product, "1"],
         [demo, "accepted", "1", None, *first, "1"],
         [alias, "accepted", "1", None, *product, "1"],
-        [other, "no schema OTHER on the shelf", "", "", "", "", ""],
+        [other, "no schema", "", "", "", "", ""],
         [none, "refused 30 HeaderShape at statement 3", "", "", *product, ""],
+        ["examples/product-other.step", "accepted", "128", BLOCK, *product, "1"],
     ]
     output, error, status = tests.run(["--format", "tsv", "--schemas", folder, *(row[0] for row in rows)])
     found = [line.split("\t") for line in output.splitlines()]
@@ -52,10 +53,13 @@ def tables(tests, folder):
     tests.judge("the head", HEAD.split("\t"), found[0])
     for row, line in zip(rows, found[1:]):
         tests.judge(f"row of {row[0]}", row, line)
-    tests.judge("the status", 2, status)
+    tests.judge("the status", 1, status)
+    counts = "6 files, 4 accepted, 2 not\n     1 no schema\n     1 refused 30 HeaderShape\n"
+    tests.judge("the counts", counts, error[: error.find("the same: ")])
     change = f"{folder}/product.exp:1: SCHEMA product_model -> SCHEMA AUTOMOTIVE_DESIGN\n"
-    by = [f"by {first[0]}, SHA-256 {first[1]}: 1 file\n", f"by {product[0]}, SHA-256 {product[1]}: 3 files\n"]
-    tests.judge("what is said of the shelf", "".join(by) + change, error[error.find("by ") :])
+    by = [f"by {first[0]}, SHA-256 {first[1]}: 1 file\n", f"by {product[0]}, SHA-256 {product[1]}: 4 files\n"]
+    lacking = f"no schema OTHER on the shelf {folder}\n"
+    tests.judge("what is said of the shelf", "".join(by) + lacking + change, error[error.find("by ") :])
     output, _, status = tests.run(["--format", "json", "--schemas", folder, "examples/product.step"])
     tests.judge("JSON", ([*product, 1], 0), ([json.loads(output)[name] for name in HEAD.split("\t")[4:]], status))
 
@@ -147,8 +151,76 @@ def refused(tests):
     unfit = tests.make("unfit/unfit.EXP", "SCHEMA product_model;\nENTITY a; x : LIST [1:n] OF REAL; END_ENTITY;\nEND_SCHEMA;\n")
     output, error, status = tests.run(["--schemas", folder, "examples/product.step"])
     line = f"{unfit} is refused: p21-where shows where, and p21-adapt may make it fit"
-    tests.judge("a listing that is refused", (True, line, 2), ("schema refused S6 LeftOut" in output, error.splitlines()[-1], status))
+    tests.judge("a listing that is refused", (True, line, 1), ("schema refused S6 LeftOut" in output, error.splitlines()[-1], status))
     tests.expect("no schema at all", [], 2, [], "p21-table: no schema is named")
+
+
+def closed(tests):
+    """What of a shelf may not be read, or is no plain file, is said so, and isn't waited for."""
+    folder = shelf(tests, "closed")
+    given = ["--schemas", folder, "examples/product.step"]
+    for name in ("aliases", "demo.exp"):
+        tests.make(f"closed/{name}", "SCHEMA demo;\n")
+        os.chmod(f"{folder}/{name}", 0)
+        line = f"p21-table: cannot open {folder}/{name}: it may not be read"
+        tests.expect(f"{name} that may not be read", given, 2, [], line, before=AS_OTHERS)
+        os.remove(f"{folder}/{name}")
+        os.symlink("nowhere", f"{folder}/{name}")
+        line = f"p21-table: cannot open {folder}/{name}: it is a link to what isn't there"
+        tests.expect(f"{name} that is a link to nothing", given, 2, [], line)
+        os.remove(f"{folder}/{name}")
+        os.mkfifo(f"{folder}/{name}")
+        tests.expect(f"{name} that is a pipe", given, 2, [], f"p21-table: cannot open {folder}/{name}: it is no plain file")
+        os.remove(f"{folder}/{name}")
+    os.chmod(folder, 0)
+    tests.expect("a shelf that may not be read", given, 2, [], f"p21-table: cannot open {folder}: it may not be read", before=AS_OTHERS)
+    os.chmod(tests.here, 0o600)
+    line = f"p21-table: {folder} is no folder of schemas: it may not be read"
+    tests.expect("a shelf in a folder that may not be entered", given, 2, [], line, before=AS_OTHERS)
+    os.chmod(tests.here, 0o700)
+
+
+# Texts of FILE_SCHEMA that the program reads as one name, and whether they begin with PRODUCT_MODEL.
+SPELLINGS = [
+    ("product_Model { 1 0 10303 }", True),
+    ("PRODUCT\\PA\\_MODEL", True),
+    ("\\X\\50RODUCT_MODEL", True),
+    ("\\X2\\00500052004F\\X0\\DUCT_MODEL", True),
+    ("\\X4\\000000500000005200\\X0\\", None),
+    ("PRODUCT_MODE\\X4\\0000004C\\X0\\", True),
+    ("PRO\tDUCT_MODEL\x7f", True),
+    ("PRODUCT_MODEL''S", True),
+    ("PRODUCT_MODEL\\\\S", True),
+    ("PRODUCT_MODEL\\S\\D", True),
+    ("PRODUCT_MODEL\u00e4", True),
+    ("PRODUCT_MODEL\\X2\\0041\\X0\\", False),
+    ("PRODUCT_MODELS", False),
+    ("''PRODUCT_MODEL", None),
+]
+
+
+def spellings(tests, folder):
+    """A name is found however its string is spelled: as the program reads it, which says whether it is PRODUCT_MODEL."""
+    for text, is_product in SPELLINGS:
+        file = tests.make("spelled.step", file_of("", [("PRODUCT_MODEL", text)]))
+        alone = tests.run(["--format", "json", SCHEMA, file])
+        by_program = json.loads(alone[0])["answer"]
+        found = json.loads(tests.run(["--format", "json", "--schemas", folder, file])[0])
+        if is_product is not None:
+            tests.judge(f"{text}: the program", is_product, by_program == "accepted")
+            wanted = ("accepted", f"{folder}/product.exp") if is_product else ("no schema", None)
+            tests.judge(text, wanted, (found["answer"], found["schema"]))
+        else:
+            tests.judge(f"{text}: refused", True, by_program.startswith("refused ") and found["answer"].startswith("refused "))
+
+
+def headers(tests, folder):
+    """The name is found behind a header record of any length, and wherever the first piece that is read of it ends."""
+    for length in (0, 1 << 17, (1 << 18) - 130, (1 << 18) - 120, (1 << 18) - 110, 1 << 18, 1 << 21):
+        text = file_of("#1=POINT($,1.,2.);", [("PRODUCT_MODEL", "DEMO"), ("FILE_NAME(''", f"FILE_NAME('{'x' * length}'")])
+        output, _, status = tests.run(["--format", "json", "--schemas", folder, tests.make("long.step", text)])
+        found = json.loads(output)
+        tests.judge(f"a header of {length} bytes more", ("accepted", f"{folder}/demo.exp", 0), (found["answer"], found["schema"], status))
 
 
 def main():
@@ -159,7 +231,10 @@ def main():
     variable(tests, folder)
     places(tests, folder)
     differences(tests, folder)
+    headers(tests, folder)
+    spellings(tests, folder)
     refused(tests)
+    closed(tests)
     tests.end()
 
 

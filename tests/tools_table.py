@@ -5,10 +5,11 @@ import hashlib
 import json
 import os
 import runpy
+import shutil
 import subprocess
 import sys
 
-from tooling import ROOT, SCHEMA, Tests, file_of
+from tooling import AS_OTHERS, ROOT, SCHEMA, Tests, file_of
 
 sys.path.insert(0, str(ROOT / "tools"))
 
@@ -126,7 +127,7 @@ def names(tests):
     wanted += [("many/c.ifc", "accepted"), ("many/deep/d.step", "accepted"), ("many/notes.txt", "accepted")]
     wanted = [(f"{tests.here}/{name}", answer) for name, answer in wanted]
     wanted.append((f"{tests.here}/none.step", f"cannot open {tests.here}/none.step: there is no such file"))
-    counts = ["7 files, 6 accepted, 1 not", "     1 cannot open"]
+    counts = ["7 files, 6 accepted, 0 not, 1 without an answer", "     1 cannot open"]
     counts.append("passed over: 3 files with other endings: 1 without one, 1 .gz, 1 .txt")
     tests.judge("folders and lists", (wanted, counts, 3), (found, error.splitlines()[:3], status))
     tool, schema = ROOT / "tools" / "p21-table", ROOT / SCHEMA
@@ -218,6 +219,139 @@ def refusals(tests):
     tests.judge("a name with a line feed", 2, len(output.splitlines()))
 
 
+# What a program does in place of an answer about b.step, and what is said of it.
+NO_ANSWERS = [
+    ("a signal", "kill -9 $$", "ended by signal 9"),
+    ("a signal that a shell tells", "echo Killed >&2; exit 137", "Killed ended with status 137"),
+    ("want of memory", "echo 'out of memory' >&2; exit 3", "out of memory"),
+    ("no word", "exit 1", "ended with status 1"),
+    ("words that are no refusal", "echo 'refused 45 Count in #3, or so' >&2; exit 1", "no answer: refused 45 Count in #3, or so"),
+    ("a refusal, and a signal", "echo 'refused 45 Count in #3' >&2; kill -9 $$", "no answer: refused 45 Count in #3 ended by signal 9"),
+    ("a refusal, and done", "echo 'refused 45 Count in #3' >&2; exit 0", "the canonical file isn't whole"),
+    ("words in front", "echo 'Loading p21'; \"$real\" \"$@\"; exit 0", "the canonical file isn't whole"),
+    ("a command line that it doesn't know", "echo usage >&2; exit 2", "usage"),
+    ("nothing, and done", "exit 0", "the canonical file isn't whole"),
+    ("a part, and done", '"$real" "$@" | head -c 4871; exit 0', "the canonical file isn't whole"),
+    ("a part, and a refusal of the writing", '"$real" "$@" | head -c 4871; echo "write fault" >&2; exit 3', "write fault"),
+]
+
+
+def unanswered(tests):
+    """A program that doesn't answer about one of three files: its row says so, and the others have theirs."""
+    folder = tests.here / "unanswered"
+    folder.mkdir()
+    for name in "abc":
+        shutil.copy(ROOT / "examples" / "product.step", folder / f"{name}.step")
+    digests = dict.fromkeys(("with names", "--names"), BLOCK)
+    digests["--names"] = tests.run(["--names", SCHEMA, "examples/product.step"])[0].split()[-1]
+    for name, lines, answer in NO_ANSWERS:
+        program = tests.rigged("rigged", f'case "$1 $*" in canon*/b.step*) {lines} ;; esac')
+        for how, digest in digests.items():
+            given = [*([how] if how == "--names" else []), "--format", "json", SCHEMA, str(folder)]
+            output, error, status = tests.run(given, program=program)
+            fields = ("file", "answer", "instances", "sha256", "form", "number")
+            found = [tuple(map(json.loads(line).get, fields)) for line in output.splitlines()]
+            form = 1 if how == "with names" else None
+            rows = [(f"{folder}/{name}.step", "accepted", 128, digest, form, None) for name in "abc"]
+            rows[1] = (rows[1][0], answer, None, None, None, None)
+            counts = "3 files, 2 accepted, 0 not, 1 without an answer"
+            tests.judge(f"{name}, {how}", (rows, counts, 3), (found, error.split("\n")[0], status))
+    program = tests.rigged("rigged", 'case "$1" in canon) head -c 1000000 /dev/zero | tr "\\0" x >&2; sleep 0.2 ;; esac')
+    _, error, status = tests.run([SCHEMA, str(folder)], program=program)
+    tests.judge("a slow one that says much beside", ("3 files, 3 accepted, 0 not", 0), (error.split("\n")[0], status))
+    program = tests.rigged("rigged", 'case "$*" in *" /dev/null") kill -9 $$ ;; esac')
+    tests.expect("of the schema", [SCHEMA, str(folder)], 2, [], f"p21-table: {SCHEMA}: ended by signal 9", program=program)
+    line = "p21-table: cannot run /nowhere/p21: No such file or directory"
+    tests.expect("no program", [SCHEMA, str(folder)], 2, [], line, program="/nowhere/p21")
+    line = "p21-table: /bin/true doesn't say which canonical form it writes: it says nothing"
+    tests.expect("another program", [SCHEMA, str(folder)], 2, [], line, program="/bin/true")
+
+
+def changing(tests):
+    """A listing that changes while files are checked by it: what it says then is said by no hash of it."""
+    shutil.copy(ROOT / SCHEMA, tests.here / "changing.exp")
+    program = tests.rigged("rigged", f"case $1 in canon) echo '-- later' >> {tests.here}/changing.exp ;; esac")
+    output, _, status = tests.run(["--format", "json", "{here}/changing.exp", "examples/product.step"], program=program)
+    line = f"{tests.here}/changing.exp changed while it was in use: begin again"
+    tests.judge("a listing that changes", (line, None, 3), (*map(json.loads(output).get, ("answer", "sha256")), status))
+
+
+def folders(tests):
+    """What can't be read in a folder has its row, and isn't waited for. Links to other folders are named."""
+    file = file_of("")
+    folder = tests.here / "folder"
+    (folder / "closed").mkdir(parents=True)
+    tests.make("folder/a.step", file)
+    tests.make("folder/closed/hidden.step", file)
+    tests.make("folder/secret.step", file)
+    (folder / "dangling.step").symlink_to("nowhere.step")
+    (folder / "dangling.txt").symlink_to("nowhere.txt")
+    (folder / "linked.step").symlink_to("a.step")
+    (folder / "further").symlink_to("..")
+    os.mkfifo(folder / "pipe.step")
+    (folder / "secret.step").chmod(0)
+    (folder / "closed").chmod(0)
+    rows = [
+        ("a.step", "accepted"),
+        ("closed", "cannot open {}: it may not be read"),
+        ("dangling.step", "cannot open {}: it is a link to what isn't there"),
+        ("linked.step", "accepted"),
+        ("pipe.step", "cannot open {}: it is no plain file"),
+        ("secret.step", "cannot open {}: it may not be read"),
+    ]
+    wanted = [(f"{folder}/{name}", answer.format(f"{folder}/{name}")) for name, answer in rows]
+    output, error, status = tests.run(["--format", "tsv", SCHEMA, str(folder)], before=AS_OTHERS)
+    found = [tuple(line.split("\t")[:2]) for line in output.splitlines()[1:]]
+    tests.judge("what can't be read", (wanted, 3), (found, status))
+    counts = ["6 files, 2 accepted, 0 not, 4 without an answer", "     4 cannot open"]
+    counts.append(f"passed over: 1 link to a folder: {folder}/further")
+    tests.judge("what can't be read, counted", counts, error.splitlines()[:3])
+    (folder / "closed").chmod(0o755)
+    secret, none = f"{folder}/secret.step", f"{folder}/none"
+    for name, given, line in [
+        ("a schema that may not be read", [secret, "examples"], f"cannot open {secret}: it may not be read"),
+        ("a list that may not be read", ["--files-from", secret, SCHEMA], f"cannot open {secret}: it may not be read"),
+        ("a list that isn't there", ["--files-from", none, SCHEMA], f"cannot open {none}: there is no such file"),
+    ]:
+        tests.expect(name, given, 2, [], f"p21-table: {line}", before=AS_OTHERS)
+    names = [b"\xff.step", b"with\rreturn.step", b"windows.step"]
+    for name in names:
+        (folder / os.fsdecode(name)).write_text(file)
+    listed = b"\n".join(os.fsencode(folder) + b"/" + name for name in names) + b"\r\n"
+    _, error, status = tests.run(["--files-from", "-", SCHEMA], listed)
+    tests.judge("names that aren't UTF-8, or have a return", ("3 files, 3 accepted, 0 not", 0), (error.split("\n")[0], status))
+    line = "p21-table: - has a NUL: a list has a name in each line"
+    tests.judge("a list with a NUL", ("", f"{line}\n", 2), tests.run(["--files-from", "-", SCHEMA], b"a.step\0b.step\0"))
+
+
+# What befalls a tool, the line that it says, and whether the place in its sources is shown.
+BEFALLS = [
+    ("raise MemoryError", "p21-table: out of memory"),
+    ("raise OSError(errno.ENOMEM, 'Cannot allocate memory', 'a.step')", "p21-table: out of memory"),
+    ("raise OSError(errno.EIO, 'Input/output error', '/proc/self/status')", "p21-table: cannot open /proc/self/status: Input/output error"),
+    ("raise reading.Trouble('a\\nb')", "p21-table: a\\nb"),
+    ("raise RuntimeError('can\\'t start new thread')", "RuntimeError: can't start new thread"),
+    ("return 0 // 0", "ZeroDivisionError: integer division or modulo by zero"),
+]
+
+
+def closed_streams(tests):
+    """Streams that are closed: nothing of one comes on the other, and no status is that of an answer."""
+    for closed, wanted in [(">&-", ("", "p21-table: standard output is closed\n", 2)), ("2>&-", (f"{BLOCK}\n", "", 0))]:
+        command = f"tools/p21-table {SCHEMA} examples/product.step {closed}"
+        done = subprocess.run(["sh", "-c", command], capture_output=True, check=False, text=True)
+        tests.judge(f"a stream that is closed: {closed}", wanted, (done.stdout[-65:], done.stderr, done.returncode))
+
+
+def befallen(tests):
+    """Whatever befalls a tool, its status is that of trouble, and not the one that says that something is refused."""
+    for what, line in BEFALLS:
+        code = f"import errno, sys\nimport p21_reading as reading\ndef work():\n    {what}\nsys.exit(reading.ended('p21-table', 2, work))"
+        with_tools = dict(os.environ, PYTHONPATH="tools")
+        done = subprocess.run([sys.executable, "-c", code], capture_output=True, check=False, text=True, env=with_tools)
+        tests.judge(what, ("", line, 2), (done.stdout, (done.stderr.splitlines() or [""])[-1], done.returncode))
+
+
 def main():
     tests = Tests("p21-table")
     examples(tests)
@@ -228,6 +362,11 @@ def main():
     pipes(tests)
     refusals(tests)
     controls(tests)
+    unanswered(tests)
+    changing(tests)
+    folders(tests)
+    befallen(tests)
+    closed_streams(tests)
     full_disk(tests)
     headers(tests)
     refused = "examples/product.step: schema refused S2 Syntax"

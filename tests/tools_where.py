@@ -22,7 +22,7 @@ sys.path.insert(0, str(ROOT / "tools"))
 import p21_files as files  # noqa: E402
 import p21_reading as reading  # noqa: E402
 import p21_seeking as sought  # noqa: E402
-from p21_schemas import Outline  # noqa: E402
+from p21_schemas import Outline, name_of  # noqa: E402
 
 DEMO = "examples/demo.exp"
 
@@ -119,6 +119,9 @@ VALUES = [
     ("an instance behind a remark", "/* #1=POINT();; ' */ #1 /**/ = POINT($,1.,«''»);"),
     ("signs in strings", "#1=POINT(';#1=(''\\S\\'',1.,«2»);"),
     ("a name with zeros", "#0001=POINT($,1.,«.T.»);"),
+    ("a sign of a page behind its alphabet", "#1=POINT('\\PA\\\\S\\' 4; (',1.,«2»);"),
+    ("a sign of a page behind numbers", "#1=POINT('\\X2\\00C4\\X0\\\\S\\' (;3',1.,«2»);"),
+    ("a sign of a page behind a number", "#1=POINT('\\X\\41\\S\\'(;',1.,«2»);\n#2=POINT('\\\\','S;',3);"),
 ]
 
 # Schema texts that are refused, with the place between « and ».
@@ -243,14 +246,35 @@ def schemas(tests):
         tests.judge(name, (line.rstrip("\n"), place, marked, "", 1), (*parts(output)[:3], error, status))
 
 
+# A schema in which attributes are derived through two supertypes and by a supertype of them.
+DERIVING = """SCHEMA deriving;
+ENTITY a ABSTRACT SUPERTYPE; x, y : REAL; END_ENTITY;
+ENTITY b SUBTYPE OF (a); x2 : REAL; DERIVE SELF\\a.y : REAL := 1.0; z : REAL := 2.0; END_ENTITY;
+ENTITY c SUBTYPE OF (a); END_ENTITY;
+ENTITY d ABSTRACT SUPERTYPE OF (ONEOF (e, f)) SUBTYPE OF (b, c); w : REAL; END_ENTITY;
+ENTITY e SUBTYPE OF (d); DERIVE SELF\\c.x : REAL := 3.0; SELF\\d.w : REAL := 4.0; END_ENTITY;
+ENTITY f SUBTYPE OF (d); SELF\\a.x : REAL; END_ENTITY;
+END_SCHEMA;
+"""
+
+
 def attributes(tests):
-    """The attributes of each entity are those that the program lists, which has `*` for one that is derived."""
-    for path in (SCHEMA, DEMO):
-        outline = Outline(pathlib.Path(path).read_bytes())
-        for entity, names in reading.listing(tests.program, path, path).attributes.items():
-            found = [name for _, name in outline.places(entity)]
-            wanted = [name if listed == "*" else listed for listed, name in zip(names, found)]
-            tests.judge(f"the attributes of {entity}", (len(names), wanted), (len(found), found))
+    """The attributes of each entity are those that the program lists, which has `*` for one that is derived, and ABSTRACT in front
+    of an entity that wants a subtype; and so is the name of the schema."""
+    derived = 0
+    for path in (SCHEMA, DEMO, "tests/naming.exp", "tests/guided/schema.exp", tests.make("deriving.exp", DERIVING)):
+        listed = subprocess.run([tests.program, "schema", path], capture_output=True, check=True, text=True).stdout.splitlines()
+        text = pathlib.Path(path).read_bytes()
+        outline = Outline(text)
+        found = [f"SCHEMA {name_of(text)}"]
+        for entity in outline.entities:
+            above = outline.derived(entity)
+            derived += len(above)
+            names = ("*" if place in above else place[1] for place in outline.places(entity))
+            found.append(f"{'ABSTRACT ' if outline.is_abstract(entity) else ''}{entity}({','.join(names)})")
+        tests.judge(f"the listing of {path}", sorted(listed[1:]), sorted(found[1:]))
+        tests.judge(f"the name of {path}", listed[0], found[0])
+    tests.judge("some attributes are derived", True, derived > 5)
 
 
 def explained(tests):
@@ -767,6 +791,139 @@ def equals(tests):
         tests.judge(name, ("refused 52 NotDistinct in #1", place, marked), parts(found)[:3])
 
 
+# What a string is put together of by chance: signs, and directives or what looks like them.
+STRINGS = ["a", ";", "(", ")", ",", "''", "S", "X0", "PA", "/*", "\\\\", "\\S\\'", "\\S\\\\", "\\S\\ ", "\\PA\\", "\\X\\41", "\\X2\\00C4\\X0\\"]
+STRINGS += ["\\X2\\00C400C5\\X0\\", "\\X4\\0001F600\\X0\\", "\\", "\\X0\\", "\\S", "\u00fc"]
+
+
+def strings(tests):
+    """A string that the program takes ends where the program sees its end: each sign behind the string is a byte of another one."""
+    chance, taken = random.Random("strings"), 0
+    for number in range(600):
+        text = f"'{''.join(chance.choice(STRINGS) for _ in range(chance.randrange(1, 7)))}'"
+        path = tests.make("string.step", file_of(f"#1=POINT({text},1.,2.);", [("PRODUCT_MODEL", "DEMO")]))
+        if program_line(tests, DEMO, path)[1] == 0:
+            taken += 1
+            data = f"{text},1".encode()
+            tests.judge(f"the end of {text}", len(data) - 2, reading.end_of_string(data, 0))
+            tests.judge(f"the words of {text}", [text.encode(), b",", b"1"], [data[slice(*at)] for at in reading.lexemes(data, 0, len(data))])
+    tests.judge("many strings are taken", True, taken > 150)
+
+
+def unfinished(tests):
+    """A statement without an end is none that goes on for ever, whatever is asked of it."""
+    for text in (b"#1=A(1,2", b"#1=A(", b"#1=(A(1)B(", b"#1=A((1,2),(3", b"#1=A('1", b"#1=A(1,(2),", b"#1", b"#1=(", b"A"):
+        for asked in (lambda text: [list(part.values) for part in reading.read_parts(text)], lambda text: list(reading.values_of_all(text, reading.read_parts(text)))):
+            try:
+                found = asked(text)
+            except reading.Unfinished as trouble:
+                found = str(trouble)
+            tests.judge(f"{text} has no end", "the text ends inside a statement", found)
+
+
+# Programs that don't answer: in front of all, behind a line, or where something is asked about a place; and what is said.
+SILENT = [
+    ("ends by a signal", "kill -9 $$", "ended by signal 9"),
+    ("ends by a signal behind a line", "echo 'refused 45 Count in #3' >&2; kill -9 $$", "refused 45 Count in #3 ended by signal 9"),
+    ("has no memory", "echo 'out of memory' >&2; exit 3", "out of memory"),
+]
+ASKED = 'case "$*" in */dev/stdin*) {} ;; esac'
+
+
+def silent(tests):
+    """What the program didn't answer is no answer: the status is 3, and its sentence is said in each form."""
+    count, product = "examples/refused/Count.step", "examples/product.step"
+    for name, lines, sentence in SILENT:
+        program = tests.rigged("silent", f'[ "$1" = check ] && {{ {lines}; }}')
+        for options in ([], ["--all"], ["--most", "1"]):
+            output, error, status = tests.run([*options, SCHEMA, product, count], program=program)
+            wanted = [f"{path}: {sentence}" for path in (product, count)]
+            tests.judge(f"a program that {name}, {options}", (wanted, "", 3), (output.splitlines(), error, status))
+            output, error, status = tests.run([*options, "--format", "lines", SCHEMA, count], program=program)
+            tests.judge(f"a program that {name}, lines, {options}", (f"{count}: {sentence}\n", "", 3), (output, error, status))
+            output, error, status = tests.run([*options, "--format", "json", SCHEMA, count], program=program)
+            row = json.loads(output)
+            tests.judge(f"a program that {name}, JSON, {options}", (sentence, None, "", 3), (row["answer"], row["number"], error, status))
+            output, error, status = tests.run([*options, "--format", "sarif", SCHEMA, count], program=program)
+            run = json.loads(output)["runs"][0]
+            said = run["invocations"][0]
+            found = run["results"], said["executionSuccessful"], said["exitCode"], said["toolExecutionNotifications"][0]["message"]["text"]
+            tests.judge(f"a program that {name}, SARIF, {options}", ([], False, 3, sentence, "", 3), (*found, error, status))
+        found = tests.run(["--format", "sarif", SCHEMA, count], program=tests.rigged("silent", lines))
+        tests.judge(f"a program that {name} and doesn't say its version", ("", f"p21-where: {sentence}\n", 3), found)
+        output, error, status = tests.run([SCHEMA], program=program)
+        tests.judge(f"a program that {name}, a schema", (f"{sentence}\n", "", 3), (output, error, status))
+        program = tests.rigged("silent", ASKED.format(lines))
+        for path in ("WrongKind", "BadByte", "Missing", "NotUtf8"):
+            for options in ([], ["--all"], ["--format", "json"], ["--format", "sarif"], ["--format", "lines", "--all"]):
+                found = tests.run([*options, SCHEMA, f"examples/refused/{path}.step"], program=program)
+                tests.judge(f"a program that {name} when asked about {path}, {options}", ("", f"p21-where: {sentence}\n", 3), found)
+        schema = tests.make("twice.exp", "SCHEMA s; ENTITY a; x : REAL; x : REAL; END_ENTITY; END_SCHEMA;")
+        found = tests.run([schema], program=program)
+        tests.judge(f"a program that {name} when asked about a schema", ("", f"p21-where: {sentence}\n", 3), found)
+
+
+def cut_short(tests):
+    """A file that is cut short: behind the first answer it has been read, and in front of that it is said."""
+    text = file_of("\n".join(f"#{number}=POINT($,1.,{'2.' if number < 9000 else '2'});" for number in range(1, 9001)), [("PRODUCT_MODEL", "DEMO")])
+    path = tests.make("cut.step", text)
+    for options in ([], ["--all"]):
+        tests.make("cut.step", text)
+        program = tests.rigged("cutting", ASKED.format(f": > {path}"))
+        output, error, status = tests.run([*options, "--format", "lines", DEMO, path], program=program)
+        found = output.partition(": ")[0], error, status
+        tests.judge(f"a file cut short behind the answer, {options}", (f"{path}:9007:18", "", 1), found)
+    tests.make("cut.step", text)
+    cutting = f'"$real" "$@"; status=$?; : > {path}; exit $status'
+    found = tests.run([DEMO, path], program=tests.rigged("cutting", cutting))
+    tests.judge("a file cut short with the answer", ("", f"p21-where: {path} was changed while it was read\n", 3), found)
+
+
+# Of the references of one instance that are refused the first 100 are placed; each row takes at most so many seconds.
+REFERRING = "SCHEMA s; ENTITY a; x : LIST OF a; END_ENTITY; ENTITY b; END_ENTITY; END_SCHEMA;"
+REFERENCES = [
+    ("to another entity", 800, "#2", 57, 60),
+    ("to nothing", 8_000, "#3", 56, 60),
+]
+
+
+def references(tests):
+    """An instance with very many references that are refused: the first ones are placed, and of the others it is said."""
+    schema = tests.make("referring.exp", REFERRING)
+    note = "not placed: of the refused references of one instance the first 100 are"
+    for name, count, reference, number, seconds in REFERENCES:
+        instances = f"#1=A(({','.join([reference] * count)}));\n#2=B();"
+        path = tests.make("references.step", file_of(instances, [("PRODUCT_MODEL", "S")]))
+        begun = time.monotonic()
+        output, error, status = tests.run(["--all", "--format", "json", schema, path])
+        took = time.monotonic() - begun
+        rows = [json.loads(line) for line in output.splitlines()]
+        places = [(number, 8, 7 + 3 * at) if at < 100 else (number, None, None) for at in range(count)]
+        found = [(row["number"], row["line"], row["column"]) for row in rows]
+        wrong = [pair for pair in zip(places, found) if pair[0] != pair[1]]
+        tests.judge(f"{count} references {name}", (count, [], "", 1), (len(rows), wrong[:3], error, status))
+        tests.judge(f"{count} references {name}, notes", {(note,)}, {tuple(row["notes"]) for row in rows[100:]})
+        tests.judge(f"{count} references {name}: {took:.1f} s", True, took < seconds)
+    lines = tests.run(["--all", "--format", "lines", schema, path])[0].splitlines()
+    tests.judge("a line without a place", f"{path}: 56 Dangling in #1: {note}", lines[-1])
+    text = tests.run(["--all", schema, path])[0].splitlines()
+    tests.judge("a text without a place", ["refused 56 Dangling in #1", f"  {note}", "refusals 8000"], text[-3:])
+    path = tests.make("references.step", file_of(f"#1=A(({','.join(['#3'] * 400_000)}));", [("PRODUCT_MODEL", "S")]))
+    rows = [json.loads(line) for line in tests.run(["--most", "3", "--format", "json", schema, path])[0].splitlines()]
+    note = "not placed: of the refused references of one instance of more than 1048576 bytes the first is"
+    found = [(row["line"], note in row["notes"]) for row in rows]
+    tests.judge("a long instance", [(8, False), (None, True), (None, True)], found)
+
+
+def lists(tests):
+    """The listing of a schema isn't asked for, which may be many times as long as the schema."""
+    program = tests.rigged("listing", '[ "$1" = schema ] && { echo "the listing is asked for" >&2; exit 3; }')
+    for given in (["examples/refused"], ["--all", "examples/refused"], ["examples/product.step"], []):
+        tests.judge(f"{given} without a listing", tests.run([SCHEMA, *given]), tests.run([SCHEMA, *given], program=program))
+    schema = tests.make("unknown.exp", "SCHEMA s; ENTITY a; x : length; END_ENTITY; END_SCHEMA;")
+    tests.judge("a schema without a listing", tests.run([schema]), tests.run([schema], program=program))
+
+
 # Texts that a pattern could take very many ways through, that have very many digits, or that are deep.
 STRANGE = [
     ("60 dashes", b"-" * 60),
@@ -874,7 +1031,7 @@ def limits(tests):
 def main():
     tests = Tests("p21-where")
     groups = [faults, refused, values, schemas, attributes, explained, hints, kinds, others, renaming, changed]
-    for group in [*groups, expected, documented, missing, forms, several, first_of_all, many, seeking, columns, equals, strange, controls, limits, memory, speed]:
+    for group in [*groups, expected, documented, missing, forms, several, first_of_all, many, seeking, columns, equals, strings, unfinished, silent, cut_short, references, lists, strange, controls, limits, memory, speed]:
         group(tests)
     tests.end()
 

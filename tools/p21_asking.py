@@ -130,7 +130,7 @@ class Together:
         for name, question in names.items():
             pieces += [b"#%d" % name, *question.record, b"\n"]
             question.numbers = []
-        answer = self.check(*pieces, *targets.values())
+        answer = reading.answered(self.check(*pieces, *targets.values()))
         lines = refusals(answer) if answer.status else []
         if lines is None:
             raise reading.Trouble(answer.error)

@@ -93,6 +93,11 @@ def without_real(word: "re.Match[bytes]") -> bytes:
     return b"~" if is_real(word) else word[0]
 
 
+def named(text: bytes, names: Mapping[bytes, bytes]) -> bytes:
+    """A text with other names of instances."""
+    return models.STRING_OR_REFERENCE.sub(lambda found: names[found[1]] if found[1] else found[0], text)
+
+
 def sorted_text(sets: p21_sets.Sets, elements: List[models.Element], nesting: Optional[p21_sets.Nesting]) -> bytes:
     """The text of elements, of which those of each set stand in order."""
     texts: List[bytes] = []
@@ -122,9 +127,13 @@ class Rules(NamedTuple):
     is_full: bool
 
 
+# How the names of instances are shown in a text of the first and of the second file.
+Told = Tuple[Mapping[bytes, bytes], Mapping[bytes, bytes]]
+
+
 class Pair(NamedTuple):
     """Two records with what they are and their names; `mapped` is the first one with the names of the second file, where
-    it has others."""
+    it has others, and `told` says how names are shown then."""
 
     what: str
     name: Optional[int]
@@ -132,6 +141,7 @@ class Pair(NamedTuple):
     first: Stretch
     second: Stretch
     mapped: Optional[Stretch]
+    told: Optional[Told] = None
 
 
 class Comparison:
@@ -152,6 +162,8 @@ class Comparison:
 
     def change(self, pair: Pair, entity: Optional[str], attribute: Optional[str], *stretches: Stretch) -> Difference:
         """What changed in a pair."""
+        if pair.told:
+            stretches = tuple(stretch_of(named(each.text(), names)) for each, names in zip(stretches, pair.told))
         return Difference(CHANGED, pair.what, pair.name, pair.other_name, entity, attribute, *self.texts(*stretches))
 
     def either(self, what: str, names: Tuple[Optional[int], Optional[int]], lines: Tuple[Any, Any]) -> Difference:
@@ -228,6 +240,8 @@ class UpToNames:
         self.graph.add(second)
         self.graph.close()
         self.pairing = p21_pairing.pairing(self.graph)
+        alone = (node for node in self.graph.of_side(1) if self.pairing.partner[node] == p21_pairing.NONE)
+        self.left_over = {self.graph.names[node] for node in alone}
         self.headings = [dict(models.sections_of(data)) for data in (first, second)]
 
     def pairs(self) -> Iterator[Tuple[int, int]]:
@@ -239,8 +253,7 @@ class UpToNames:
 
     def nodes(self, at: int) -> Iterable[int]:
         """The instances of a file by rising names."""
-        side = self.graph.sides[at]
-        order = range(side.first, side.end)
+        order = self.graph.of_side(at)
         return sorted(order, key=self.graph.names.__getitem__) if len(self.headings[at]) > 1 else order
 
     def differences(self) -> Iterator[Difference]:
@@ -273,21 +286,41 @@ class UpToNames:
         lines = self.line(node), self.line(other)
         sections = stretch_of(self.section(node)), stretch_of(self.section(other))
         first, second = map(record_of, lines)
-        pair = Pair("instance", *names, first, second, self.renamed(node, first.text()))
+        told = self.told(node), self.told(other)
+        pair = Pair("instance", *names, first, second, self.renamed(node, first.text()), told)
         if not sections[0].is_text(sections[1]):
             yield self.comparison.change(pair._replace(what="section of"), None, None, *sections)
         yield from self.comparison.records(pair, self.comparison.rules.attributes, lines)
 
     def renamed(self, node: int, text: bytes) -> Stretch:
         """The text of an instance of the first file, with the names of the second where there is a partner. One without a
-        partner gets a name that is too great for any file."""
+        partner keeps its name where the second file has one of that name without a partner: what differs is listed with these two.
+        Another one gets a name that is too great for any file."""
         graph, partner = self.graph, self.pairing.partner
-        named = {}
+        names = {}
         for ref in self.instances_below(node):
-            other = partner[ref]
-            name = graph.names[other] if other != p21_pairing.NONE else NO_NAME + graph.names[ref]
-            named[b"%d" % graph.names[ref]] = b"#%d" % name
-        return stretch_of(models.STRING_OR_REFERENCE.sub(lambda found: named[found[1]] if found[1] else found[0], text))
+            other, name = partner[ref], graph.names[ref]
+            if other != p21_pairing.NONE:
+                name = graph.names[other]
+            elif name not in self.left_over:
+                name += NO_NAME
+            names[b"%d" % graph.names[ref]] = b"#%d" % name
+        return stretch_of(named(text, names))
+
+    def told(self, node: int) -> Dict[bytes, bytes]:
+        """How the names are shown in the text of an instance that is paired with another one: both where they differ in the two
+        files, and that of an instance without a partner behind the letter of its file."""
+        graph, partner = self.graph, self.pairing.partner
+        found = {}
+        for ref in (node, *self.instances_below(node)):
+            name, side = graph.names[ref], 0 if graph.is_first(ref) else 1
+            if partner[ref] == p21_pairing.NONE:
+                text = b"%c#%d" % (b"AB"[side], name)
+            else:
+                names = sorted((ref, partner[ref]))
+                text = b"/".join(dict.fromkeys(b"#%d" % graph.names[each] for each in names))
+            found[b"%d" % name] = text
+        return found
 
     def instances_below(self, node: int) -> Iterator[int]:
         """The instances that a node refers to, in elements of its sets too."""
@@ -352,17 +385,25 @@ def differences_by_names(comparison: Comparison, first: models.Text, second: mod
             yield from comparison.records(pair, comparison.rules.attributes, (one.line, other.line))
 
 
+NUMBERING, HEADER = "numbering", "the header"
+# Two canonical files of so many bytes together, which are told apart by names, are compared up to names besides: what is the same
+# but for its numbering is said to be.
+SMALL_ENOUGH = 1 << 21
+
+
 class Verdict(NamedTuple):
-    """What two files are, with how many instances are paired and how many of the pairs were chosen where others could be."""
+    """What two files are, with how many instances are paired and how many of the pairs were chosen where others could be; and for
+    files that differ in their numbering or their header alone in which of these."""
 
     word: str
     pairs: int
     ambiguous: int
+    but_for: Tuple[str, ...] = ()
 
 
 class Files:
     """Two canonical files that are compared. `is_same` says of the first one with the names and the front of the second,
-    which comes in pieces, whether it means the same as the second."""
+    which comes in pieces, whether it means the same as the second, and `sets` gives the sets of the schema."""
 
     def __init__(
         self,
@@ -370,11 +411,13 @@ class Files:
         data: Tuple[models.Text, models.Text],
         is_data_alone: bool,
         is_same: Callable[[Iterator[bytes]], bool],
+        sets: Callable[[], p21_sets.Sets],
     ) -> None:
         self.comparison = Comparison(rules)
         self.data = data
         self.is_data_alone = is_data_alone
         self.is_same = is_same
+        self.sets = sets
         self.counts = Counts()
         self.up_to_names = UpToNames(self.comparison, *data) if rules.sets else None
 
@@ -382,7 +425,7 @@ class Files:
         """What differs."""
         if not self.is_data_alone:
             yield from self.comparison.headers(*map(models.header, self.data))
-        yield from self.comparison.sections(*([heading for heading, _ in models.sections_of(data)] for data in self.data))
+        yield from self.comparison.sections(*self.headings())
         if self.up_to_names:
             yield from self.up_to_names.differences()
         else:
@@ -401,29 +444,52 @@ class Files:
     def verdict(self) -> Verdict:
         """What is known, behind the last difference."""
         is_equal = self.counts.listed == 0 and self.comparison.near == 0
+        has_equal_data = self.counts.listed == self.counts.in_header and self.comparison.near == 0
+        header = (HEADER,) if self.counts.in_header else ()
         if self.up_to_names is None:
-            return Verdict(p21_pairing.SAME if is_equal else p21_pairing.DIFFERENT, 0, 0)
+            but_for = header if has_equal_data else self.but_for_numbering(header)
+            return Verdict(p21_pairing.SAME if is_equal else p21_pairing.DIFFERENT, 0, 0, but_for)
         found = self.up_to_names.pairing
-        word = found.verdict
-        if word == p21_pairing.SAME and not is_equal:
+        word, but_for = found.verdict, ()
+        if word == p21_pairing.SAME and not has_equal_data:
             word = p21_pairing.DIFFERENT
-        if word == p21_pairing.SAME and not self.is_same(self.renamed()):
+        if word == p21_pairing.SAME and not self.is_same(self.renamed(self.up_to_names)):
             word = p21_pairing.UNDECIDED
-        return Verdict(word, sum(1 for _ in self.pairs()), found.ambiguous)
+        if word == p21_pairing.SAME and header:
+            is_renumbered = any(first != second for first, second in self.pairs())
+            word, but_for = p21_pairing.DIFFERENT, (NUMBERING, *header) if is_renumbered else header
+        return Verdict(word, sum(1 for _ in self.pairs()), found.ambiguous, but_for)
+
+    def but_for_numbering(self, header: Tuple[str, ...]) -> Tuple[str, ...]:
+        """In what alone two small files differ, whose instances of one name differ: in their numbering and maybe the header, or
+        nothing where it is more."""
+        if sum(map(len, self.data)) > SMALL_ENOUGH:
+            return ()
+        comparison = Comparison(self.comparison.rules._replace(sets=self.sets(), tolerance=None))
+        up_to_names = UpToNames(comparison, *self.data)
+        is_same = up_to_names.pairing.verdict == p21_pairing.SAME and not any(comparison.sections(*self.headings()))
+        is_same = is_same and not any(up_to_names.differences()) and self.is_same(self.renamed(up_to_names))
+        return (NUMBERING, *header) if is_same else ()
+
+    def headings(self) -> Iterator[List[bytes]]:
+        """The lines that begin the sections of each file."""
+        return ([heading for heading, _ in models.sections_of(data)] for data in self.data)
 
     def object(self, verdict: Verdict) -> Dict[str, Any]:
         """What is known, as it is written as JSON."""
         found: Dict[str, Any] = {"kind": "verdict", "verdict": verdict.word}
         found.update((kind, self.counts.total(kind)) for kind in (CHANGED, CAME, WENT))
+        if verdict.but_for:
+            found.update(but_for=[word.split()[-1] for word in verdict.but_for])
         if self.up_to_names is not None:
             found.update(pairs=verdict.pairs, ambiguous=verdict.ambiguous)
         if self.comparison.rules.tolerance is not None:
             found.update(tolerance=str(self.comparison.rules.tolerance), near=self.comparison.near)
         return found
 
-    def renamed(self) -> Iterator[bytes]:
+    def renamed(self, up_to_names: UpToNames) -> Iterator[bytes]:
         """The first file with the names and the front of the second."""
-        names = {b"%d" % first: b"%d" % second for first, second in self.pairs()}
+        names = {b"%d" % first: b"%d" % second for first, second in up_to_names.pairs()}
         return models.renamed(self.data[0], names, models.front_of(self.data[1]))
 
 
@@ -433,11 +499,13 @@ class Counts:
     def __init__(self) -> None:
         self.rows: Dict[str, Dict[str, int]] = {}
         self.listed = 0
+        self.in_header = 0
         self.last: Any = None
 
     def add(self, found: Difference) -> None:
         """The next difference. Those of one instance stand one behind the other, and count once."""
         self.listed += 1
+        self.in_header += found.what == "header"
         this = (found.kind, found.first, found.second)
         if this == self.last and found.what in ("instance", "section of"):
             return

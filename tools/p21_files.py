@@ -15,13 +15,13 @@ import math
 import os
 import re
 import tempfile
-from typing import Callable, Collection, Dict, Iterable, Iterator, List, Mapping, NamedTuple, Optional, Sequence, Set, Tuple
+from typing import Callable, Collection, Counter, Dict, Iterable, Iterator, List, Mapping, NamedTuple, Optional, Sequence, Set, Tuple
 
 import p21_asking
 import p21_reading as reading
 import p21_seeking as seeking
 from p21_reading import Part, Piece, Text, Value
-from p21_schemas import Attribute, Outline, Place, brief, first_count, items_in
+from p21_schemas import Attribute, Outline, Place, brief, first_count, items_in, name_of
 
 # What ends a statement, and what hides an end.
 STATEMENT_MARK = re.compile(rb"[;']|/\*")
@@ -34,8 +34,9 @@ OF_END = (2, 3, 24)
 OF_WHOLE = (22, 23, 25, 27, 32)
 # These look at what an instance refers to.
 OF_REFERENCES = (45, 56, 57)
-# Of these one instance, or one name, may have several.
+# Of these one instance, or one name, may have several; and these are of references.
 OF_SEVERAL = (40, 56, 57)
+OF_TARGETS = (56, 57)
 WANTED = {
     25: "nothing but blanks and remarks behind END-ISO-10303-21;",
     32: "DATA; or DATA('name',('SCHEMA'));",
@@ -77,6 +78,9 @@ LONGEST, MOST = 60, 8
 MOST_NAMES = 1 << 18
 # So many ways in which values may stand for attributes are tried.
 MOST_WAYS = 100
+# Of the references of one instance that are refused so many are placed, since each is looked for among all; of one with more bytes than
+# these the first alone.
+MOST_PLACED, LONGEST_PLACED = 100, 1 << 20
 NOTHING: Mapping[int, bytes] = {}
 
 
@@ -122,7 +126,7 @@ class Checked:
         self.schema = schema
         self.named = named
         self.data = data
-        self.listing = reading.listing(program, schema, named)
+        self.name = name_of(reading.text_of(schema))
         self.lines = reading.Lines(data)
         # Where instances stand, of those that were looked for together.
         self.known: Dict[int, List[int]] = {}
@@ -138,8 +142,8 @@ class Checked:
     # What the program says
 
     def answer(self, *pieces: Piece, schema: Optional[str] = None) -> Optional[int]:
-        """The number by which a text is refused, 0 where it is accepted and None where nothing is said of it."""
-        answer = reading.run(self.program, "check", schema or self.schema, "/dev/stdin", text=pieces)
+        """The number by which a text is refused, 0 where it is accepted and None where the schema is refused."""
+        answer = reading.answered(reading.run(self.program, "check", schema or self.schema, "/dev/stdin", text=pieces))
         found = re.match(r"refused (\d+)", answer.error)
         return int(found[1]) if found else None if answer.status else 0
 
@@ -150,7 +154,7 @@ class Checked:
 
     def with_instances(self, *pieces: Piece) -> List[Piece]:
         """A file of instances, whose text is these pieces."""
-        name = self.listing.name.encode("ascii")
+        name = self.name.encode("ascii")
         header = b"FILE_DESCRIPTION($,$);FILE_NAME($,$,$,$,$,$,$);FILE_SCHEMA(('" + name + b"'));"
         return [b"ISO-10303-21;HEADER;" + header + b"ENDSEC;DATA;\n", *pieces, b"\nENDSEC;END-ISO-10303-21;"]
 
@@ -181,6 +185,12 @@ class Checked:
 
     # Many refusals
 
+    @functools.lru_cache(maxsize=1)
+    def most_placed(self, instance: int) -> int:
+        """How many refused references of an instance are placed."""
+        found = self.definition(instance, 0)
+        return 1 if found and found.end - found.start > LONGEST_PLACED else MOST_PLACED
+
     def places(self, refusals: Sequence["Refused"]) -> Iterator[Tuple[Optional[Statement], Optional[Place]]]:
         """The place of each refusal, with its statement. The file is passed over twice for all of them."""
         self.together = self.together or p21_asking.Together(self.check_all)
@@ -191,7 +201,7 @@ class Checked:
         texts = (self.text_of_first(instance) for instance in dict.fromkeys(refused.instance for refused in of_references))
         names = (name for text in texts if 0 < len(text) <= reading.PIECE for name in referred_in(text))
         self.look_for(set(itertools.islice(names, MOST_NAMES)))
-        yield from self.together.map(lambda refused: refused.place(), refusals)
+        yield from self.together.map(lambda refused: refused.place() if refused.is_placed else (None, None), refusals)
 
     def text_of_first(self, instance: Optional[int]) -> bytes:
         """The text of the first instance of a name; nothing where there is none."""
@@ -220,13 +230,10 @@ class Refused:
         self.statement = parts["statement"]
         self.instance = parts["instance"] and int(parts["instance"][1:])
         self.before = before
+        # Is the place looked for?
+        self.is_placed = True
         # Which attributes of the part with too few values have none.
         self.missing: Sequence[int] = ()
-
-    @property
-    def listing(self) -> reading.Listing:
-        """What the program lists of the schema."""
-        return self.checked.listing
 
     @property
     def outline(self) -> Outline:
@@ -236,7 +243,7 @@ class Refused:
     # What the program says
 
     def answer(self, *pieces: Piece) -> Optional[int]:
-        """The number by which a text is refused, 0 where it is accepted and None where nothing is said of it."""
+        """The number by which a text is refused, 0 where it is accepted and None where the schema is refused."""
         return self.checked.answer(*pieces)
 
     def numbers_of(self, *record: Piece, others: Mapping[int, bytes] = NOTHING) -> List[Optional[int]]:
@@ -382,11 +389,11 @@ class Refused:
         text = self.text(statement)
         value = reading.read_parts(text)[0].values[-1].inner[0]
         named = reading.matched(NAMES_WORD, text, value.start + 1)[0].decode("ascii")
-        notes = [f"the file is of {brief(named) or '(no name)'}, the schema text of {self.listing.name}"]
+        notes = [f"the file is of {brief(named) or '(no name)'}, the schema text of {self.checked.name}"]
         if re.fullmatch(r"[A-Za-z]\w*", named):
             notes += ["where both are one schema by two names, this makes a schema text of the file's name:"]
             notes += [f"  {self.renaming(named)}"]
-        return moved(Place(value.start, value.end, notes, self.listing.name), statement.start)
+        return moved(Place(value.start, value.end, notes, self.checked.name), statement.start)
 
     def renaming(self, named: str) -> str:
         """The command that makes a schema text of another name."""
@@ -440,18 +447,18 @@ class Refused:
 
     def unknown_entity(self, _: bytes, parts: Sequence[Part]) -> Place:
         """The first keyword that the schema doesn't have."""
-        part = next(part for part in parts if part.key not in self.listing.attributes)
-        near = difflib.get_close_matches(brief(part.key), self.listing.attributes, 3)
-        notes = [f"the schema {self.listing.name} has no entity {brief(part.key)}"]
+        part = next(part for part in parts if part.key not in self.outline.entities)
+        near = difflib.get_close_matches(brief(part.key), self.outline.entities, 3)
+        notes = [f"the schema {self.checked.name} has no entity {brief(part.key)}"]
         notes += [f"entities with a like name: {', '.join(near)}"] if near else []
-        return of_key(part, notes)._replace(expected=f"an entity of {self.listing.name}")
+        return of_key(part, notes)._replace(expected=f"an entity of {self.checked.name}")
 
     def abstract(self, _: bytes, parts: Sequence[Part]) -> Optional[Place]:
         """The keyword of an abstract entity of which no subtype is there."""
         names = {part.key for part in parts}
         for part in parts:
             below = [name for name in names - {part.key} if part.key in self.outline.closure([name])]
-            if part.key in self.listing.abstract and not below:
+            if self.outline.is_abstract(part.key) and not below:
                 subtypes = [name for name in self.outline.entities if part.key in self.outline.supertypes(name)]
                 return of_key(part, [f"{brief(part.key)} is abstract; its subtypes: {listed(subtypes)}"])
         return None
@@ -499,7 +506,8 @@ class Refused:
         count = len(part.values)
         if not alone or math.comb(len(places), count) > MOST_WAYS or part.end - part.start > reading.PIECE:
             return None
-        derived = [name == "*" for name in self.listing.attributes[part.key]]
+        above = self.outline.derived(part.key)
+        derived = [place in above for place in places]
         types = [self.outline.type_of([part.key], place) for place in places]
         attributes = "".join(f"a{number} : OPTIONAL {text};" for number, text in enumerate(types))
         entity = f" ENTITY p21_where; {attributes} END_ENTITY; ".encode("latin-1")
@@ -525,6 +533,8 @@ class Refused:
         with tempfile.NamedTemporaryFile(suffix=".exp") as schema:
             schema.writelines(self.with_entity(memoryview(self.outline.text), entity, word.end))
             schema.flush()
+            if reading.answered(reading.answer_of_schema(self.checked.program, schema.name)).status != 0:
+                return
             if self.checked.together:
                 together = p21_asking.Together(functools.partial(self.checked.check_all, schema=schema.name))
                 yield from together.first_numbers([b"=P21_WHERE(%s);" % values for _, values in ways], others)
@@ -673,6 +683,23 @@ class Refused:
                     return Place(second.start, second.end, [f"the same as {brief(like)}"])
             inside = last
         return None
+
+
+def refusals_of(checked: Checked, lines: Iterable[str]) -> Iterator[Refused]:
+    """The refusals of a file by the lines of the program, each of which knows how many that are alike stand in front of it, and
+    whether it is placed."""
+    before: Counter[Tuple[int, int]] = collections.Counter()
+    of_references: Counter[int] = collections.Counter()
+    for line in lines:
+        refused = Refused(checked, line)
+        instance, number = refused.instance, refused.number
+        if instance is not None and number in OF_SEVERAL:
+            refused.before = before[instance, number]
+            before[instance, number] += 1
+        if instance is not None and number in OF_TARGETS:
+            of_references[instance] += 1
+            refused.is_placed = of_references[instance] <= checked.most_placed(instance)
+        yield refused
 
 
 def counted(number: int, word: str) -> str:

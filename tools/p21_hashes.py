@@ -43,16 +43,23 @@ class Digests:
         self.cyclic = [node for node in range(len(graph)) if not is_acyclic[node]]
         shapes = [digest(text) for text in graph.texts]
         self.of = [shapes[shape] for shape in graph.shapes]
+        for node in self.cyclic:
+            to_itself = [place for place, ref in zip(graph.places_of(node), graph.refs(node)) if ref == node]
+            if to_itself:
+                self.of[node] = digest(self.of[node], *(place.to_bytes(8, "big") for place in sorted(to_itself)))
         self.is_stable = False
 
     def run(self) -> None:
-        """Goes on until nothing changes, or for so many rounds."""
+        """Goes on until nothing changes, or for so many rounds.
+
+        Digests that all differ say how the nodes hang together only if they differed in front of the last round too, or if there
+        is no cycle: then what refers to a node counts by its last digest."""
         count = 0
         for _ in range(MOST_ROUNDS):
             self.from_below()
             self.from_above()
             found = len(set(self.of))
-            if found == count or found == len(self.of):
+            if found == count or (found == len(self.of) and not self.cyclic):
                 self.is_stable = True
                 return
             count = found
@@ -85,7 +92,8 @@ class Digests:
 
 
 class Alike:
-    """The nodes that their digests don't tell apart, with those of them that stand around each."""
+    """The nodes that their digests don't tell apart, with those of them that stand around each. Whether one refers to itself its
+    digest tells."""
 
     def __init__(self, graph: models.Graph, digests: List[bytes]) -> None:
         classes: Dict[bytes, List[int]] = {}
@@ -99,8 +107,6 @@ class Alike:
                 if ref in self.of and ref != node:
                     self.around[node].add(ref)
                     self.around[ref].add(node)
-                elif ref == node:
-                    self.around[node].add(node)
 
     def strip(self) -> None:
         """Takes classes away whose members each hang on one node at most: what is left tells how they hang on it."""

@@ -15,6 +15,8 @@ REFERENCE = re.compile(rb"#(\d+)")
 STRING_OR_REFERENCE = re.compile(rb"'[^']*'|#(\d+)")
 TOKEN = re.compile(rb"'[^']*'|#(?:\d|,#)*|[(),]|[^'#(),]+")
 SIGN = re.compile(rb"'[^']*'|[(),]")
+# What a text without names says beside its keyword: a string that isn't empty, or a number.
+SAYING = re.compile(rb"'[^']|[(,]-?\d")
 HEADER_END = b"\nENDSEC;\n"
 PIECE = 1 << 20
 APART = 1 << 32
@@ -360,6 +362,8 @@ class Graph:
         self.numbers: Dict[bytes, int] = {}
         self.kinds: Dict[bytes, int] = {}
         self.kind_of_shape = array.array("l")
+        # Does a text say something beside names? One of an element has numbers of its own, and doesn't count.
+        self.is_saying = bytearray()
         self.labels: Dict[int, Tuple[int, ...]] = {}
         self.layouts: Dict[bytes, Layout] = {}
         self.apart: List[Tuple[int, Layout, List[int], int]] = []
@@ -373,7 +377,9 @@ class Graph:
         """The number of a text without names."""
         number = self.numbers.setdefault(text, len(self.numbers))
         if number == len(self.kind_of_shape):
-            kind = b"," if text[:1] == b"," else keys_of(text[text.find(b"\n") + 1 :])
+            record = text[text.find(b"\n") + 1 :]
+            kind = b"," if text[:1] == b"," else keys_of(record)
+            self.is_saying.append(text[:1] != b"," and SAYING.search(record) is not None)
             self.kind_of_shape.append(self.kinds.setdefault(kind, len(self.kinds)))
             if layout is not None and layout.labels != tuple(range(len(layout.labels))):
                 self.labels[number] = layout.labels
@@ -487,6 +493,10 @@ class Graph:
 
     def __len__(self) -> int:
         return len(self.shapes)
+
+    def of_side(self, at: int) -> range:
+        """The instances of a file."""
+        return range(self.sides[at].first, self.sides[at].end)
 
     def is_first(self, node: int) -> bool:
         """Is a node of the first file?"""

@@ -14,8 +14,10 @@ MOST_AROUND = 4_000
 MOST_BYTES = 4_000
 MOST_POINTS = 4_000
 MOST_BEHIND = 3_000
-POINTS = ("CARTESIAN_POINT", "IFCCARTESIANPOINT")
-COORDINATES = re.compile(rb"\((-?\d[^()',]*(?:,-?\d[^()',]*){1,2})\)")
+# The attribute of a point, in AP203, AP214, AP242 and IFC alike. A point of so many coordinates has that many dimensions: those of
+# the parameters of a surface have two, and stand in no space.
+COORDINATES = "COORDINATES"
+IN_SPACE = re.compile(rb"\((-?\d[^()',]*),(-?\d[^()',]*),(-?\d[^()',]*)\)")
 VIEWS = (("from above", 0, 1), ("from the front", 0, 2), ("from the right", 1, 2))
 AXES = "xyz"
 
@@ -35,7 +37,8 @@ a { color: var(--link); } mark { background: var(--mark); color: inherit; border
 .verdict { border-left: 4px solid var(--soft); padding: .4rem .8rem; background: var(--card); margin: .8rem 0; }
 .soft { color: var(--soft); } .changed { color: var(--changed); } .came { color: var(--came); } .went { color: var(--went); }
 table { border-collapse: collapse; } th, td { padding: .15rem .6rem; text-align: right; vertical-align: middle; }
-th:first-child, td:first-child { text-align: left; } td.bars { width: 20rem; text-align: left; }
+th:first-child, td:first-child { text-align: left; overflow-wrap: anywhere; min-width: 8rem; }
+td.bars { width: 20rem; min-width: 6rem; text-align: left; white-space: nowrap; }
 .bar { display: inline-block; height: .8rem; min-width: 2px; vertical-align: middle; }
 .bar.changed { background: var(--changed); } .bar.came { background: var(--came); } .bar.went { background: var(--went); }
 button.entity { all: unset; cursor: pointer; color: var(--link); text-decoration: underline; }
@@ -110,16 +113,13 @@ def entity_of(line: bytes) -> str:
     return "+".join(map(key_of, parts_of(record_of(stretch_of(line)))))
 
 
-def coordinates(line: Optional[bytes]) -> Optional[Tuple[float, ...]]:
-    """The coordinates of a point's line."""
-    found = COORDINATES.search(line) if line is not None else None
+def place_of(coordinates: bytes) -> Optional[Tuple[float, ...]]:
+    """The place in space that coordinates say, or None where they say none."""
+    found = IN_SPACE.fullmatch(coordinates)
     if found is None:
         return None
-    try:
-        numbers = [float(number) for number in found[1].split(b",")]
-    except ValueError:
-        return None
-    return tuple(numbers + [0.0] * (3 - len(numbers))) if all(abs(number) < 1e100 for number in numbers) else None
+    numbers = tuple(float(number) for number in found.groups())
+    return numbers if all(abs(number) < 1e100 for number in numbers) else None
 
 
 class Page:
@@ -135,13 +135,35 @@ class Page:
         self.lines_by_name: Tuple[Dict[int, bytes], Dict[int, bytes]] = ({}, {})
         self.anchors: Set[Anchor] = set()
         self.behind: List[Tuple[float, ...]] = []
+        self.points_known: Dict[str, bool] = {}
+
+    def is_point(self, key: str) -> bool:
+        """Is a keyword that of an entity of points?"""
+        if key not in self.points_known:
+            self.points_known[key] = COORDINATES in self.attributes.get(key, ())
+        return self.points_known[key]
+
+    def point(self, line: Optional[bytes]) -> Optional[Tuple[float, ...]]:
+        """Where an instance is in space, by its line, or None where it's no point in space."""
+        if line is None:
+            return None
+        keys = map(key_of, parts_of(record_of(stretch_of(line))))
+        spans = self.spans(line, {(key, COORDINATES) for key in keys if self.is_point(key)})
+        return next(filter(None, (place_of(line[start:end]) for start, end in spans)), None)
+
+    def may_be_point(self, found: Difference) -> bool:
+        """Is it a difference of a point, of which nothing says that it has other than three coordinates?"""
+        if found.what != "instance" or not any(map(self.is_point, (found.entity or "").split("+"))):
+            return False
+        texts = [text for text in (found.before, found.after) if text is not None]
+        return found.attribute != COORDINATES or any(place_of(text.encode("ascii", "replace")) for text in texts)
 
     def add(self, found: Difference) -> None:
         """The next difference. Those of one instance stand one behind the other."""
         if self.items and found.what in ("instance", "section of") and self.is_same_instance(found):
             self.items[-1].all.append(found)
             return
-        if found.entity in POINTS and found.what == "instance" and len(self.points) < MOST_POINTS:
+        if len(self.points) < MOST_POINTS and self.may_be_point(found):
             self.points.append(found)
         if len(self.items) < MOST_INSTANCES:
             self.items.append(Item(found, [found]))
@@ -191,9 +213,10 @@ class Page:
         for _, place in models.sections_of(data):
             for start, end in models.lines_of(data, place):
                 at = data.find(b"=", start) + 1
-                if data[at : at + 40].startswith((b"CARTESIAN_POINT(", b"IFCCARTESIANPOINT(")):
+                key = data[at : data.find(b"(", at)].decode("latin-1")
+                if self.is_point(key):
                     count += 1
-                    point = coordinates(data[at:end]) if count % step == 0 else None
+                    point = self.point(data[start:end]) if count % step == 0 else None
                     if point:
                         found.append(point)
                     if len(found) > MOST_BEHIND:
@@ -241,7 +264,7 @@ class Page:
 
     # --- The parts of the page ---
 
-    def lines(self, verdict: str, counts: Counts) -> Iterator[str]:
+    def lines(self, headline: str, verdict: str, counts: Counts) -> Iterator[str]:
         """The page."""
         self.fetch()
         if self.points:
@@ -251,7 +274,7 @@ class Page:
         yield "<meta http-equiv=\"Content-Security-Policy\" content=\"default-src 'none'; style-src 'unsafe-inline'; script-src 'unsafe-inline'\">"
         yield '<meta name="viewport" content="width=device-width, initial-scale=1">'
         yield f"<title>{names[0]} and {names[1]}</title>\n<style>{STYLE}</style>\n</head>\n<body>"
-        yield "<h1>What differs</h1>"
+        yield f"<h1>{quoted(headline)}</h1>"
         yield f'<p><span class="side">A</span><code>{names[0]}</code><br><span class="side">B</span><code>{names[1]}</code></p>'
         yield f'<p class="verdict" id="verdict">{quoted(verdict)}</p>'
         yield from self.summary(counts)
@@ -342,15 +365,16 @@ class Page:
         """Three views of the points that differ, before some of all points of the second file."""
         found = []
         for each in self.points:
-            before = coordinates(self.lines_by_name[0].get(each.first)) if each.first is not None else None
-            after = coordinates(self.lines_by_name[1].get(each.second)) if each.second is not None else None
+            before = self.point(self.lines_by_name[0].get(each.first)) if each.first is not None else None
+            after = self.point(self.lines_by_name[1].get(each.second)) if each.second is not None else None
             if before or after:
                 found.append((each, before, after))
         if not found:
             return
         points = [point for _, before, after in found for point in (before, after) if point] + self.behind
         yield f'<h2>Where {len(found)} points are</h2>\n<p class="soft">A ring is where a point was, a dot where it is now; '
-        yield 'small dots are other points of B. Coordinates are those of the points, without placements.</p>\n<div class="views">'
+        yield "small dots are other points of B. Coordinates are those of the points, without placements; points of two coordinates "
+        yield 'are left out.</p>\n<div class="views">'
         for title, across, up in VIEWS:
             yield from view(title, across, up, found, points, self.behind)
         yield "</div>"

@@ -14,6 +14,8 @@ from p21_models import APART, Graph
 
 NONE = -1
 MOST_ROUNDS = 40
+# What so many refer to tells little of each of them.
+MOST_REFERRERS = 64
 # What is compared of nodes without a partner: whether they say the same, and the pairs above and below them.
 CONTEXTS = (
     (True, True, True),
@@ -407,9 +409,12 @@ class Matching:
 
     def run(self) -> None:
         """Pairs what can be paired."""
-        for numbers in (self.colours, self.below, self.graph.shapes):
-            for node, other in alone(self.graph, numbers, self.unpaired()):
-                self.pair(node, other)
+        for numbers in (self.colours, self.below):
+            self.by_numbers(numbers, self.unpaired())
+        self.by_numbers(self.graph.shapes, [node for node in self.unpaired() if self.graph.is_saying[self.graph.shapes[node]]])
+        self.spread()
+        self.by_shares()
+        self.by_numbers(self.graph.shapes, self.unpaired())
         self.spread()
         self.by_contexts()
         # Parts that nothing else refers to, and that are the same as a whole, must not be mixed with others.
@@ -418,6 +423,12 @@ class Matching:
             self.choose(*self.last.popleft())
         self.by_contexts()
         self.by_rank()
+        self.by_names()
+
+    def by_numbers(self, numbers: "array.array[int]", nodes: List[int]) -> None:
+        """Pairs nodes of both files that are the only ones with their number."""
+        for node, other in alone(self.graph, numbers, nodes):
+            self.pair(node, other)
 
     def spread(self) -> None:
         """From each new pair to those around it; pairs with less in common come later."""
@@ -501,6 +512,45 @@ class Matching:
             elif len(mine) == len(theirs) > 1:
                 self.members(list(dict.fromkeys(mine)), list(dict.fromkeys(theirs)))
 
+    # What refers to much the same
+
+    def by_shares(self) -> None:
+        """Pairs nodes that refer to much the same, for so many rounds: a list that has become longer is still that list."""
+        for _ in range(MOST_ROUNDS):
+            pairs = self.most_shared()
+            if not pairs:
+                return
+            for node, other in pairs:
+                self.pair(node, other)
+            self.spread()
+
+    def most_shared(self) -> List[Tuple[int, int]]:
+        """Nodes without a partner of which each refers to more pairs with the other than with any third one, and to at least half of
+        what one of the two refers to."""
+        shares = {node: self.shares(node) for node in self.unpaired() if self.graph.is_first(node)}
+        turned: Dict[int, Dict[int, int]] = {}
+        for node, found in shares.items():
+            for other, count in found.items():
+                turned.setdefault(other, {})[node] = count
+        pairs = ((node, most_of(found)) for node, found in shares.items())
+        return [(node, other) for node, other in pairs if most_of(turned.get(other, {})) == node and self.is_half(node, other, shares)]
+
+    def shares(self, node: int) -> Dict[int, int]:
+        """To how many pairs a node refers with each one of its entity that has no partner."""
+        graph, partner = self.graph, self.partner
+        found: Dict[int, int] = {}
+        for ref in dict.fromkeys(graph.refs(node)):
+            edges = graph.referrers(partner[ref]) if partner[ref] != NONE else ()
+            if len(edges) <= MOST_REFERRERS:
+                for other in dict.fromkeys(graph.sources[edge] for edge in edges):
+                    if partner[other] == NONE and graph.kind(other) == graph.kind(node):
+                        found[other] = found.get(other, 0) + 1
+        return found
+
+    def is_half(self, node: int, other: int, shares: Dict[int, Dict[int, int]]) -> bool:
+        """Do two nodes share at least half of what one of them refers to?"""
+        return 2 * shares[node][other] >= min(len(set(self.graph.refs(each))) for each in (node, other))
+
     # What is left over
 
     def context(self, node: int, is_above: bool, is_below: bool) -> Any:
@@ -579,6 +629,65 @@ class Matching:
         if self.pair(node, other):
             self.ambiguous += node < self.graph.count
             self.spread()
+
+
+    # What has one name
+
+    def by_names(self) -> None:
+        """Pairs what has one name in both files, where no fewer nodes fit their partners then: files often keep some names."""
+        graph = self.graph
+        named = {graph.names[node]: node for node in graph.of_side(1)}
+        left = 20 * len(graph.targets) + 100_000
+        for _ in range(MOST_ROUNDS):
+            count = 0
+            for node in graph.of_side(0):
+                other = named.get(graph.names[node], NONE)
+                if other == NONE or self.partner[node] == other or graph.kind(node) != graph.kind(other):
+                    continue
+                if self.partner[node] != NONE or self.partner[other] != NONE:
+                    left -= self.visits(node) + self.visits(self.partner[other])
+                    if left < 0:
+                        return
+                    count += self.exchange(node, other)
+            if count == 0:
+                return
+
+    def visits(self, node: int) -> int:
+        """How much is looked at to see whether a node and those that refer to it fit their partners."""
+        if node == NONE:
+            return 0
+        graph = self.graph
+        around = [node, *(graph.sources[edge] for edge in graph.referrers(node))]
+        return sum(1 + graph.starts[each + 1] - graph.starts[each] for each in around)
+
+    def exchange(self, node: int, other: int) -> bool:
+        """Pairs two nodes, and what they were paired with, unless fewer nodes fit their partners then."""
+        graph, partner = self.graph, self.partner
+        was, is_left = partner[node], partner[other]
+        changed = [each for each in (node, is_left) if each != NONE]
+        around = set(changed).union(graph.sources[edge] for each in changed for edge in graph.referrers(each))
+        before = sum(fits(graph, partner, each) for each in around)
+        self.put(node, other)
+        self.put(is_left, was)
+        if sum(fits(graph, partner, each) for each in around) >= before:
+            return True
+        self.put(node, was)
+        self.put(is_left, other)
+        return False
+
+    def put(self, node: int, other: int) -> None:
+        """A pair, or a node without a partner where the other is none."""
+        if node != NONE:
+            self.partner[node] = other
+        if other != NONE:
+            self.partner[other] = node
+
+
+def most_of(counts: Dict[int, int]) -> int:
+    """The one that has more than any other, or none."""
+    most = max(counts.values(), default=0)
+    found = [each for each, count in counts.items() if count == most]
+    return found[0] if len(found) == 1 else NONE
 
 
 # --- Both ---

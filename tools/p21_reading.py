@@ -9,6 +9,8 @@ import argparse
 import array
 import codecs
 import contextlib
+import enum
+import errno
 import itertools
 import mmap
 import os
@@ -17,12 +19,15 @@ import re
 import shlex
 import shutil
 import signal
+import stat
 import subprocess
 import sys
 import tempfile
+import traceback
 from typing import (
     IO,
     Any,
+    BinaryIO,
     Callable,
     Dict,
     Generator,
@@ -37,7 +42,6 @@ from typing import (
     Optional,
     Pattern,
     Sequence,
-    Set,
     Tuple,
     TypeVar,
     Union,
@@ -59,6 +63,31 @@ Found = TypeVar("Found")
 
 class Trouble(Exception):
     """What keeps a tool from its answer, as a line."""
+
+
+class Unfinished(Trouble, ValueError):
+    """A statement is taken apart that has no end."""
+
+    def __init__(self) -> None:
+        super().__init__("the text ends inside a statement")
+
+
+class NotPlain(Trouble):
+    """A path that leads to something else than a plain file, where nothing else is read, with the reason."""
+
+    def __init__(self, path: str, reason: str) -> None:
+        super().__init__(f"cannot open {path}: {reason}")
+        self.reason = reason
+
+
+class Status(enum.IntEnum):
+    """What a check comes to, and the exit statuses of the program and the tools: it is done; something is refused, different or
+    not found; nothing is done, as by a wrong command line; or there is no answer, as where memory or a file fails."""
+
+    DONE = 0
+    REFUSED = 1
+    MISUSED = 2
+    FAILED = 3
 
 
 class Answer(NamedTuple):
@@ -117,6 +146,11 @@ def ended(tool: str, status: int, work: Callable[[], int]) -> int:
     status."""
     signal.signal(signal.SIGPIPE, signal.SIG_DFL)
     signal.signal(signal.SIGINT, signal.SIG_DFL)
+    # A stream that is closed is None, and what is printed to it would go elsewhere.
+    sys.stderr = sys.stderr or open(os.devnull, "w", encoding="utf-8")
+    if not sys.stdout:
+        print(f"{tool}: standard output is closed", file=sys.stderr)
+        return status
     for stream in (sys.stdout, sys.stderr):
         stream.reconfigure(errors="backslashreplace")  # type: ignore[attr-defined]
     try:
@@ -124,20 +158,33 @@ def ended(tool: str, status: int, work: Callable[[], int]) -> int:
             return work()
         finally:
             sys.stdout.flush()
-    except (Trouble, OSError) as trouble:
+    except Exception as trouble:
         with contextlib.suppress(OSError):
-            print(f"{tool}: {shown(told(trouble))}", file=sys.stderr, flush=True)
+            if isinstance(trouble, TROUBLES):
+                print(f"{tool}: {shown(told(trouble))}", file=sys.stderr, flush=True)
+            else:
+                # A fault of the tool itself is no answer either.
+                traceback.print_exc()
         # What waits to be written would fail again at the end.
         for stream in (sys.stdout, sys.stderr):
             os.dup2(os.open(os.devnull, os.O_WRONLY), stream.fileno())
         return status
 
 
+# What keeps a tool from an answer without being a fault of its own.
+TROUBLES = (Trouble, OSError, MemoryError)
+OUT_OF_MEMORY = "out of memory"
+
+
 def told(trouble: BaseException) -> str:
     """What keeps a tool from its answer, as a line."""
+    if isinstance(trouble, MemoryError) or (isinstance(trouble, OSError) and trouble.errno == errno.ENOMEM):
+        return OUT_OF_MEMORY
     if isinstance(trouble, OSError) and isinstance(trouble.filename, str):
-        return f"cannot open {trouble.filename}: {why_not(trouble.filename) or trouble.strerror}"
-    return str(trouble)
+        # What may not be written may be read, or isn't there.
+        is_written = isinstance(trouble, PermissionError) and why_not(trouble.filename) != FORBIDDEN
+        return f"cannot open {trouble.filename}: {NOT_WRITTEN if is_written else why_not(trouble.filename) or reason_of(trouble)}"
+    return str(trouble) or type(trouble).__name__
 
 
 # --- The program ---
@@ -153,35 +200,115 @@ def find_program() -> str:
         return os.environ["P21"]
     repository = HERE.parent
     if (repository / "crates.txt").exists():
-        subprocess.run([repository / "p21", "--version"], stdout=subprocess.DEVNULL, check=True)
+        built = subprocess.run([repository / "p21", "--version"], stdout=subprocess.DEVNULL, check=False)
+        if built.returncode != Status.DONE:
+            raise Trouble(f"the program of {repository} could not be built")
         return str(repository / "crates" / "p21" / "out" / "p21")
     installed = (HERE.parent.parent / "bin" / "p21", pathlib.Path(sys.argv[0]).parent / "p21")
     return next((str(path) for path in installed if path.is_file()), shutil.which("p21") or "p21")
 
 
 def line_of(error: bytes, status: int) -> str:
-    """What the program wrote to its second stream, without the last line end, and the signal that ended it."""
+    """What the program wrote to its second stream, without the last line end, and the signal that ended it, or the status where
+    it isn't one of its own, or where nothing else is said."""
     line = error.decode("utf-8", "surrogateescape")
     line = line[:-1] if line.endswith("\n") else line
-    return line if status >= 0 else f"{line} ended by signal {-status}".lstrip()
+    if status < 0:
+        return f"{line} ended by signal {-status}".lstrip()
+    return f"{line} ended with status {status}".lstrip() if status > Status.FAILED or (status and not line) else line
+
+
+def judged(line: str, status: int) -> Tuple[str, Status]:
+    """What a check of the program came to, by what it wrote to its second stream and its status: it is done, or something is
+    refused, or else there is no answer, as where a signal ended it. The line that says so never looks like an answer."""
+    if status == Status.DONE:
+        return line, Status.DONE
+    if status == Status.REFUSED and REFUSAL.fullmatch(line):
+        return line, Status.REFUSED
+    return f"no answer: {line}" if REFUSAL.match(line) else line, Status.FAILED
+
+
+def status_of(status: int) -> Status:
+    """The status of a run of the program. One that a signal ended, or that isn't one of its own, is no answer."""
+    return Status(status) if 0 <= status <= Status.FAILED else Status.FAILED
 
 
 FOLDER = "it is a folder"
+FORBIDDEN = "it may not be read"
+NOT_WRITTEN = "it may not be written"
+NOT_PLAIN = "it is no plain file"
 # How the names of STEP files end.
 ENDINGS = (".step", ".stp", ".p21", ".ifc", ".spf")
 
 
-def below(path: str) -> Tuple[List[str], List[str]]:
-    """The path itself, which may be `-` for standard input, or for a folder the STEP files below it in the order of their
-    names; and the endings of all others."""
+class Below(NamedTuple):
+    """What a path of the command line stands for: its STEP files in the order of their names, the endings of the others, what
+    can't be read of it with the reason, and the links to other folders, which aren't followed."""
+
+    files: List[str]
+    others: List[str]
+    unread: Dict[str, str]
+    links: List[str]
+
+
+def below(path: str) -> Below:
+    """The path itself, which may be `-` for standard input, or all that stands below a folder."""
     if not os.path.isdir(path):
-        return [path], []
-    found = [file for file in pathlib.Path(path).rglob("*") if file.is_file()]
-    steps = sorted(str(file) for file in found if file.suffix.lower() in ENDINGS)
-    return steps, [file.suffix.lower() for file in found if file.suffix.lower() not in ENDINGS]
+        return Below([path], [], {}, [])
+    found = Below([], [], {}, [])
+
+    def unread(error: OSError) -> None:
+        found.unread[os.fsdecode(error.filename)] = reason_of(error)
+
+    for folder, folders, names in os.walk(path, onerror=unread):
+        at = pathlib.Path(folder)
+        found.links.extend(str(at / name) for name in folders if (at / name).is_symlink())
+        for name in names:
+            sort_in(found, at / name)
+    found.files.sort()
+    return found
+
+
+def sort_in(found: Below, path: pathlib.Path) -> None:
+    """Puts what stands in a folder where it belongs. A dangling link, or a pipe with the name of a STEP file, isn't read."""
+    ending = path.suffix.lower()
+    reason = why_not_plain(str(path))
+    if ending not in ENDINGS:
+        found.others.extend([] if reason else [ending])
+    elif reason:
+        found.unread[str(path)] = reason
+    else:
+        found.files.append(str(path))
 
 
 nothing = contextlib.nullcontext
+
+
+def why_not_plain(path: str) -> Optional[str]:
+    """Why a path leads to no plain file, or None where it does."""
+    try:
+        mode = os.stat(path).st_mode
+    except OSError as error:
+        return reason_of(error)
+    return FOLDER if stat.S_ISDIR(mode) else None if stat.S_ISREG(mode) else NOT_PLAIN
+
+
+def plain(path: str) -> BinaryIO:
+    """A plain file, open for reading. Whatever else a path leads to isn't opened, and isn't waited for."""
+    descriptor = -1
+    reason = why_not_plain(path)
+    if reason not in (FOLDER, NOT_PLAIN):
+        descriptor = os.open(path, os.O_RDONLY | os.O_NONBLOCK)
+        if stat.S_ISREG(os.fstat(descriptor).st_mode):
+            return open(descriptor, "rb", buffering=0)
+        os.close(descriptor)
+    raise NotPlain(path, reason or NOT_PLAIN)
+
+
+def state_of(path: str) -> Tuple[int, ...]:
+    """What becomes another one where a file is written, or where another file takes its place."""
+    found = os.stat(path)
+    return found.st_dev, found.st_ino, found.st_size, found.st_mtime_ns, found.st_ctime_ns
 
 
 def why_not(path: str) -> Optional[str]:
@@ -189,16 +316,20 @@ def why_not(path: str) -> Optional[str]:
     if path == "-":
         return None
     if os.path.isdir(path):
-        return FOLDER
+        return FOLDER if os.access(path, os.R_OK | os.X_OK) else FORBIDDEN
     try:
-        with open(path, "rb"):
-            return None
-    except FileNotFoundError:
-        return "there is no such file"
-    except PermissionError:
-        return "it may not be read"
+        # A pipe isn't waited for.
+        os.close(os.open(path, os.O_RDONLY | os.O_NONBLOCK))
     except OSError as error:
-        return error.strerror
+        return reason_of(error)
+    return None
+
+
+def reason_of(error: OSError) -> str:
+    """Why a file can't be read, by what the system says."""
+    if isinstance(error, FileNotFoundError):
+        return "it is a link to what isn't there" if os.path.islink(error.filename) else "there is no such file"
+    return FORBIDDEN if isinstance(error, PermissionError) else error.strerror or "it can't be read"
 
 
 def with_reason(line: str, *paths: str) -> str:
@@ -263,11 +394,10 @@ def opened(path: str) -> Iterator[str]:
             os.close(int(found.rpartition("/")[2]))
 
 
-def text_of(path: str) -> Text:
-    """The bytes of a file. Those of a plain one aren't read before they are looked at."""
+def text_of(path: str) -> bytes:
+    """The bytes of a file. They are kept, since a file that is looked at where it lies may be cut short meanwhile."""
     with open(path, "rb") as file:
-        size = os.fstat(file.fileno()).st_size
-        return mmap.mmap(file.fileno(), 0, access=mmap.ACCESS_READ) if size else b""
+        return file.read()
 
 
 def words_of(program: str, command: str, *paths: str, options: Sequence[str] = ()) -> List[str]:
@@ -300,8 +430,35 @@ def run(
                 close_fds=False,
             )
         except OSError as error:
-            raise Trouble(f"cannot run {program}: {error.strerror}") from None
-    return Answer(done.stdout or b"", line_of(done.stderr, done.returncode), done.returncode)
+            raise cannot_run(program, error) from None
+    return Answer(done.stdout or b"", line_of(done.stderr, done.returncode), status_of(done.returncode))
+
+
+def answered(answer: Answer) -> Answer:
+    """An answer of the program where it has one. Where it has none its sentence says what keeps the tool from its own."""
+    if answer.status == Status.FAILED:
+        raise Trouble(answer.error)
+    return answer
+
+
+def started(program: str, command: str, *paths: str, errors: IO[bytes]) -> "subprocess.Popen[bytes]":
+    """A command of the program over these paths, whose output is read as it comes."""
+    try:
+        return subprocess.Popen(
+            words_of(program, command, *paths),
+            stdin=subprocess.DEVNULL,
+            stdout=subprocess.PIPE,
+            stderr=errors,
+            bufsize=0,
+            close_fds=False,
+        )
+    except OSError as error:
+        raise cannot_run(program, error) from None
+
+
+def cannot_run(program: str, error: OSError) -> Trouble:
+    """Why the program isn't run."""
+    return Trouble(OUT_OF_MEMORY if error.errno == errno.ENOMEM else f"cannot run {program}: {error.strerror}")
 
 
 REFUSAL = re.compile(r"(?:schema )?refused (S?\d+) (\w+(?:\(\w+\))?)(?: at statement (\d+)| in (#\d+))?")
@@ -331,16 +488,9 @@ def first_that_names(answers: Iterable[Found], line_of_answer: Callable[[Found],
     return first
 
 
-class Listing(NamedTuple):
-    """What `p21 schema` prints: the schema's name, each entity's attributes in order, and which entities are abstract."""
-
-    name: str
-    attributes: Mapping[str, List[str]]
-    abstract: Set[str]
-
-
 class Attributes(Mapping[str, List[str]]):
-    """The attributes of each entity, which are read from the listing where they are asked for."""
+    """The attributes of each entity in their order, which are read from the listing where they are asked for: what `p21 schema`
+    prints."""
 
     def __init__(self, text: Text) -> None:
         self.text = text
@@ -361,24 +511,43 @@ class Attributes(Mapping[str, List[str]]):
         return len(self.places)
 
 
-LISTED = re.compile(rb"\n(ABSTRACT )?(\w+)\(")
+def answer_of_schema(program: str, schema: str, text: Optional[Iterable[Piece]] = None) -> Answer:
+    """What the program says of a schema: its refusal, or nothing. It is asked to check a file without a byte, since `p21 schema`
+    would print the attributes of each supertype once for each subtype."""
+    answer = run(program, "check", schema, os.devnull, text=text)
+    is_read = answer.status == Status.REFUSED and answer.error.startswith("refused")
+    return Answer(b"", "", Status.DONE) if is_read else answer
 
 
-def listing(program: str, schema: str, named: str) -> Listing:
-    """The listing of a schema, which the command line names so. It may be longer than the schema by far."""
-    with tempfile.TemporaryFile() as output:
-        answer = run(program, "schema", schema, output=output)
-        if answer.status != 0:
-            raise Trouble(f"{named}: {with_reason(answer.error, named)}")
-        text = mmap.mmap(output.fileno(), 0, access=mmap.ACCESS_READ)
+def read_schema(program: str, schema: str, named: str) -> None:
+    """Nothing where the program reads a schema, which the command line names so."""
+    answer = answer_of_schema(program, schema)
+    if answer.status != Status.DONE:
+        raise Trouble(f"{named}: {with_reason(answer.error, named)}")
+
+
+LISTED = re.compile(rb"\n(?:ABSTRACT )?(\w+)\(")
+
+
+def listing(program: str, schema: str, most: int) -> Optional[Mapping[str, List[str]]]:
+    """The attributes of each entity of a schema that is read, or None where the listing has more bytes than these."""
+    text = bytearray()
+    with tempfile.TemporaryFile() as errors:
+        with started(program, "schema", schema, errors=errors) as listed:
+            assert listed.stdout
+            while len(text) <= most and (piece := listed.stdout.read(PIECE)):
+                text += piece
+            if len(text) > most:
+                listed.kill()
+                return None
+        errors.seek(0)
+        error = line_of(errors.read(), listed.returncode)
+    if listed.returncode != Status.DONE:
+        raise Trouble(error)
     attributes = Attributes(text)
-    found = Listing(text[: text.find(b"\n")].split()[1].decode("ascii"), attributes, set())
     for entity in LISTED.finditer(text):
-        name = entity[2].decode("ascii")
-        attributes.places[name] = entity.end()
-        if entity[1]:
-            found.abstract.add(name)
-    return found
+        attributes.places[entity[1].decode("ascii")] = entity.end()
+    return attributes
 
 
 # --- Rows of things in a text ---
@@ -466,8 +635,13 @@ def matched(pattern: Pattern[bytes], text: Union[Text, Piece], at: int, end: int
 # --- Statements ---
 
 BLANKS = re.compile(rb"[\0- \x7f]*")
-# What ends a string, and what in it looks like its end: two apostrophes, two backslashes, and \S\ with any character.
-IN_STRING = re.compile(rb"''|\\S\\[ -~]|\\\\|'")
+# What ends a string, and what in it may hold a sign that looks like its end: two apostrophes, and what begins with a backslash as
+# the reader takes it: two of them, `\S\` with any character, and `\PA\`, `\X\`, `\X2\`, `\X4\` and `\X0\`, whose last sign begins
+# nothing.
+IN_STRING = re.compile(rb"''|\\(?:\\|S\\[ -~]|PA\\|X[024]?\\)|'")
+# An apostrophe behind `\S\` is a character. No other `\S\'` stands in a string that is read: a backslash in front of it would leave
+# `\'`, which is refused.
+PAGED = b"\\S\\'"
 LEXEME = re.compile(rb"[\0- \x7f]+|'|/\*|([^\0- \x7f(),;='\"/]+|\"[^\"]*\"|.)", re.S)
 # What stands around the values of a list, and what hides it.
 SIGN = re.compile(rb"[(),]")
@@ -558,7 +732,7 @@ class Value(NamedTuple):
         """The elements of a list, or the one value of a typed parameter; none of any other."""
         if self.text[self.end - 1 : self.end] != b")":
             return ()
-        return values_of(self.text, next(outside(SIGN, self.text, self.start)).start())
+        return values_of(self.text, sign_behind(self.text, self.start).start())
 
 
 class Part(NamedTuple):
@@ -577,12 +751,21 @@ def closing(text: Text, opening: int) -> int:
         depth += 1 if found[0] == b"(" else -1
         if depth == 0:
             return found.start()
-    raise ValueError("the text ends inside a statement")
+    raise Unfinished()
+
+
+def sign_behind(text: Text, at: int) -> Match[bytes]:
+    """The first sign of a list from a place on."""
+    found = next(outside(SIGN, text, at), None)
+    if found is None:
+        raise Unfinished()
+    return found
 
 
 def signs_in_list(text: Text, sign: int) -> Generator[int, None, int]:
     """The place of the sign before each value of a list, from a `(` or a `,` on. It answers that of the `)` behind the list."""
-    if text[sign] == ord("(") and text[behind_blanks(text, sign + 1)] == ord(")"):
+    behind = behind_blanks(text, sign + 1)
+    if text[sign : sign + 1] == b"(" and text[behind : behind + 1] == b")":
         return closing(text, sign)
     yield sign
     at = sign + 1
@@ -594,12 +777,14 @@ def signs_in_list(text: Text, sign: int) -> Generator[int, None, int]:
                 at = closing(text, found.start()) + 1
                 break
             yield found.start()
+        else:
+            raise Unfinished()
 
 
 def signs_in_parts(text: Text, at: int) -> Iterator[int]:
     """The same of all parts, from the keyword of one on, or from a sign."""
-    if text[at] not in b"(,":
-        at = next(outside(SIGN, text, at)).start()
+    if text[at : at + 1] not in (b"(", b","):
+        at = sign_behind(text, at).start()
     while True:
         end = yield from signs_in_list(text, at)
         found = next(outside(SIGN, text, end + 1), None)
@@ -611,7 +796,7 @@ def signs_in_parts(text: Text, at: int) -> Iterator[int]:
 def value_behind(text: Text, sign: int) -> Value:
     """The value behind a `(` or a `,`."""
     start = end = behind_blanks(text, sign + 1)
-    found = next(outside(SIGN, text, start))
+    found = sign_behind(text, start)
     if found[0] == b"(":
         return Value(text, start, closing(text, found.start()) + 1)
     for _, end in lexemes(text, start, found.start()):
@@ -648,16 +833,18 @@ def read_parts(text: Text, start: int = 0) -> Sequence[Part]:
         return [part_at(text, start)]
 
     def places(place: int) -> Iterator[int]:
-        while text[place : place + 1] not in (b")", b""):
+        while text[place : place + 1] != b")":
+            if place == len(text):
+                raise Unfinished()
             yield place
-            place = behind_blanks(text, closing(text, next(outside(SIGN, text, place)).start()) + 1)
+            place = behind_blanks(text, closing(text, sign_behind(text, place).start()) + 1)
 
     return Row(places, lambda place: part_at(text, place), behind_blanks(text, start + 1))
 
 
 def part_at(text: Text, start: int) -> Part:
     """A keyword and the values in parentheses behind it."""
-    _, end = next(lexemes(text, start, len(text)))
+    _, end = next(lexemes(text, start, len(text)), (start, start))
     opening = behind_blanks(text, end)
     return Part(text[start:end].decode("latin-1"), start, values_of(text, opening), closing(text, opening))
 

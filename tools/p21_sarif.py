@@ -19,7 +19,7 @@ def uri_of(file: str) -> str:
 
 def refusals(program: str) -> Dict[str, Tuple[str, str]]:
     """The name and the sentence of each refusal by its number, as `p21 faults` lists them."""
-    listed = reading.run(program, "faults").output.decode("utf-8")
+    listed = reading.answered(reading.run(program, "faults")).output.decode("utf-8")
     return {number: (name, about) for number, name, about in re.findall(r"^ +(S?\d+) (\w+) +(.*)$", listed, re.M)}
 
 
@@ -68,7 +68,7 @@ def log_of(program: str, rows: Sequence[Json], message_of: Callable[[Json], str]
     known = refusals(program)
     refused = [row for row in rows if row["number"] is not None]
     numbers = list(dict.fromkeys(str(row["number"]) for row in refused))
-    version = reading.run(program, "--version").output.decode("ascii").split()[1]
+    version = reading.answered(reading.run(program, "--version")).output.decode("ascii").split()[1]
     invocation: Json = {"executionSuccessful": len(refused) == len(rows), "exitCode": status}
     if len(refused) < len(rows):
         invocation["toolExecutionNotifications"] = [notification_of(row) for row in rows if row["number"] is None]

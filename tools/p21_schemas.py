@@ -10,8 +10,7 @@ import dataclasses
 import functools
 import itertools
 import re
-import subprocess
-from typing import Callable, Deque, Iterable, Iterator, List, NamedTuple, Optional, Sequence, Set, Tuple
+from typing import Callable, Deque, Iterable, Iterator, List, Mapping, NamedTuple, Optional, Sequence, Set, Tuple
 
 import p21_reading as reading
 from p21_reading import Piece, Text
@@ -171,6 +170,10 @@ class Outline:
         """All words of the text, one after the other."""
         return words_of(self.text)
 
+    def is_abstract(self, name: str) -> bool:
+        """Does an entity want a subtype?"""
+        return any(word.text == "ABSTRACT" for word in itertools.islice(heading_of(self.entities[name]), 2, 3))
+
     def declared(self) -> Iterator[Declaration]:
         """Each declaration. It ends one word behind its `END_`.., and one of a function or procedure may hold others."""
         words = self.words
@@ -313,6 +316,29 @@ class Outline:
         """The attributes for which an instance of an entity has values, each with the entity that declares it."""
         return ((entity, attribute) for entity in self.order(name) for attribute in self.own_attributes(entity))
 
+    def derived(self, name: str) -> Set[Attribute]:
+        """The attributes of an entity that it or a supertype derives, each with the entity that declares it."""
+        found: Set[Attribute] = set()
+        for entity in self.order(name):
+            for group, statement in self.statements(self.entities[entity]):
+                for item in items_in(statement) if group == "DERIVE" else ():
+                    if len(item) == 5 and item[0].text == "SELF":
+                        found.update(self.meant(item[2].text, item[4].text))
+        return found
+
+    def meant(self, name: str, attribute: str) -> Iterator[Attribute]:
+        """The attribute of this name that an entity declares, or else those that its supertypes do."""
+        waiting = [name] if name in self.entities else []
+        seen = set(waiting)
+        while waiting:
+            entity = waiting.pop()
+            if attribute in self.own_attributes(entity):
+                yield entity, attribute
+                continue
+            above = [each for each in self.supertypes(entity) if each not in seen]
+            seen.update(above)
+            waiting += above
+
     def explained(self, entities: Iterable[str], place: Attribute) -> List[str]:
         """The texts that say what stands at a place in an instance of these entities: where it is declared, where it is
         declared anew or derived, and the types that are named there, one behind the other."""
@@ -439,8 +465,8 @@ class Refused:
 
     def answers(self, *pieces: Piece) -> bool:
         """Is a text, which is these pieces, refused by the same number?"""
-        found = reading.run(self.program, "schema", "/dev/stdin", text=pieces, output=subprocess.DEVNULL)
-        return number_of(found.error) == self.number
+        found = reading.answer_of_schema(self.program, "/dev/stdin", pieces)
+        return number_of(reading.answered(found).error) == self.number
 
     def place(self) -> Optional[Place]:
         """The place where the text is refused, or None where it can't be told."""
@@ -554,6 +580,37 @@ class Refused:
             return None
         start, end = places[2 * first_count(len(places) // 2, is_refused) - 2 :][:2]
         return Place(start, end, self.notes_on(next(words_of(self.text, start))))
+
+
+class AttributeNames(Mapping[str, List[str]]):
+    """The attributes of each entity of a schema text in their order, which are looked for where they are asked for."""
+
+    def __init__(self, outline: Outline) -> None:
+        self.outline = outline
+        self.of = functools.lru_cache(maxsize=64)(self.names_of)
+
+    def names_of(self, name: str) -> List[str]:
+        """The names of an entity's attributes."""
+        return [attribute for _, attribute in self.outline.places(name)]
+
+    def __getitem__(self, name: str) -> List[str]:
+        if name not in self.outline.entities:
+            raise KeyError(name)
+        return self.of(name)
+
+    def __contains__(self, name: object) -> bool:
+        return name in self.outline.entities
+
+    def __iter__(self) -> Iterator[str]:
+        return iter(self.outline.entities)
+
+    def __len__(self) -> int:
+        return len(self.outline.entities)
+
+
+def name_of(text: Text) -> str:
+    """The name of a schema, which is the second word of its text."""
+    return "".join(word.text for word in itertools.islice(words_of(text), 1, 2))
 
 
 def number_of(line: str) -> int:

@@ -15,8 +15,6 @@ PIECE = 1 << 18
 LONGEST = 1 << 24
 # So many names are sought by a pattern of their own.
 FEW = 8
-# An apostrophe that is a character of a string and no end of it.
-PAGED = b"\\S\\'"
 NO_MARK = bytes(set(range(256)) - set(b";'"))
 MARK = re.compile(rb"[;']")
 DEFINED = re.compile(rb"#0*(\d+)[\0- \x7f]*(?:=|\Z)")
@@ -42,7 +40,7 @@ class Ahead:
 def pieces(data: Text, start: int = 0) -> Iterator[Tuple[int, bytes, bool]]:
     """The pieces of a text without its remarks: where each begins, its bytes, and whether it begins in a string. In a piece
     each apostrophe begins or ends a string. Mostly a piece ends behind a `;`, so that no word goes on in the next one."""
-    remark, paged = Ahead(data, b"/*"), Ahead(data, PAGED)
+    remark, paged = Ahead(data, b"/*"), Ahead(data, reading.PAGED)
     at, inside = start, False
     while at < len(data):
         end = min(end_of_piece(data, at), remark.behind(at), paged.behind(at))
@@ -53,7 +51,7 @@ def pieces(data: Text, start: int = 0) -> Iterator[Tuple[int, bytes, bool]]:
             at = end
         elif inside or at == paged.place:
             # Signs in a string, of which none is an end.
-            at += len(PAGED) if at == paged.place and inside else 1
+            at += len(reading.PAGED) if at == paged.place and inside else 1
         else:
             at = reading.end_of_remark(data, at) or len(data)
 

@@ -92,6 +92,11 @@ function* pairs(first, second) {
 
 // --- What differs ---
 
+/** A text with other names of instances, where there are any. */
+function named(text, names) {
+  return names ? renamedText(text, (name) => names.get(name)) : text;
+}
+
 /** How many characters two texts have in common in front. */
 function commonFront(first, second) {
   let count = 0;
@@ -118,7 +123,8 @@ class Comparison {
   }
 
   /** What changed in a pair. */
-  change({ what, names }, entity, attribute, ...texts) {
+  change({ what, names, told }, entity, attribute, ...given) {
+    const texts = given.map((text, side) => named(text, told?.[side]));
     const at = commonFront(...texts);
     return { kind: CHANGED, what, names, entity, attribute, texts: texts.map((text) => shortened(text, at)) };
   }
@@ -212,6 +218,8 @@ class UpToNames {
     for (const bytes of [first, second]) this.graph.add(bytes, heard);
     this.graph.close();
     this.pairing = pairing(this.graph);
+    const alone = this.graph.ofSide(1).filter((node) => this.pairing.partner[node] === NONE);
+    this.leftOver = new Set(alone.map((node) => this.graph.names[node]));
     this.headings = [first, second].map(sectionsOf);
   }
 
@@ -224,8 +232,7 @@ class UpToNames {
 
   /** The instances of a file by rising names. */
   nodes(side) {
-    const { first, end } = this.graph.sides[side];
-    const order = Array.from({ length: end - first }, (_, at) => first + at);
+    const order = this.graph.ofSide(side);
     const name = (node) => this.graph.names[node];
     const isLess = (one, other) => name(one).length - name(other).length || (name(one) < name(other) ? -1 : 1);
     return this.headings[side].length > 1 ? order.sort(isLess) : order;
@@ -253,25 +260,45 @@ class UpToNames {
   /** What differs in a pair. */
   *changed(node, other) {
     const { graph, comparison } = this;
-    const pair = { what: "instance", names: [graph.names[node], graph.names[other]] };
+    const pair = { what: "instance", names: [graph.names[node], graph.names[other]], told: [node, other].map((each) => this.told(each)) };
     const texts = [graph.line(node), graph.line(other)];
     yield* comparison.section(pair, this.section(node), this.section(other));
     yield* comparison.records(pair, comparison.attributes, texts, this.renamed(node, texts[0]));
   }
 
   /**
-   * The text of an instance of the first file, with the names of the second where there is a partner. One without a partner gets
-   * a name that is too great for any file.
+   * The text of an instance of the first file, with the names of the second where there is a partner. One without a partner keeps its
+   * name where the second file has one of that name without a partner: what differs is listed with these two. Another one gets a name
+   * that is too great for any file.
    */
   renamed(node, text) {
     const { graph } = this;
     const { partner } = this.pairing;
-    const named = new Map([[graph.names[node], graph.names[node]]]);
+    const names = new Map([[graph.names[node], `#${graph.names[node]}`]]);
     for (const ref of this.instancesBelow(node)) {
-      const name = graph.names[ref];
-      named.set(name, partner[ref] === NONE ? String(NO_NAME + BigInt(name)) : graph.names[partner[ref]]);
+      let name = graph.names[ref];
+      if (partner[ref] !== NONE) name = graph.names[partner[ref]];
+      else if (!this.leftOver.has(name)) name = NO_NAME + BigInt(name);
+      names.set(graph.names[ref], `#${name}`);
     }
-    return renamedText(text, (name) => named.get(name));
+    return named(text, names);
+  }
+
+  /**
+   * How the names are shown in the text of an instance that is paired with another one: both where they differ in the two files, and
+   * that of an instance without a partner behind the letter of its file.
+   */
+  told(node) {
+    const { graph } = this;
+    const { partner } = this.pairing;
+    const found = new Map();
+    for (const ref of [node, ...this.instancesBelow(node)]) {
+      const name = graph.names[ref];
+      const nodes = graph.isFirst(ref) ? [ref, partner[ref]] : [partner[ref], ref];
+      const both = [...new Set(nodes.map((each) => `#${graph.names[each]}`))].join("/");
+      found.set(name, partner[ref] === NONE ? `${graph.isFirst(ref) ? "A" : "B"}#${name}` : both);
+    }
+    return found;
   }
 
   /** The instances that a node refers to, in elements of its sets too. */
@@ -347,12 +374,17 @@ export function differencesUpToNames(attributes, sets, first, second, most, isSa
   for (const difference of upToNames.differences()) found.add(difference);
   const { verdict, ambiguous } = upToNames.pairing;
   const names = upToNames.pairs();
-  let word = verdict === SAME && found.count > 0 ? DIFFERENT : verdict;
+  let word = verdict === SAME && found.count > found.inHeader ? DIFFERENT : verdict;
   if (word === SAME) {
     const renamed = joined(renamedFile(first, (name) => names.get(name), frontOf(second)));
     if (!isSame(renamed, second)) word = UNDECIDED;
   }
-  return { ...found, word, verdict: verdictLine(word, found.counts, names.size, ambiguous) };
+  let butFor = [];
+  if (word === SAME && found.inHeader > 0) {
+    word = DIFFERENT;
+    butFor = [...([...names].some(([one, other]) => one !== other) ? ["numbering"] : []), "the header"];
+  }
+  return { ...found, word, verdict: verdictLine(word, found.counts, names.size, ambiguous, butFor) };
 }
 
 /** So many of something, in words. */
@@ -361,11 +393,11 @@ function many(count, word) {
 }
 
 /** What is known of two files up to names, as the last line of p21-diff. */
-function verdictLine(word, { changed, came, went }, pairs, ambiguous) {
+function verdictLine(word, { changed, came, went }, pairs, ambiguous, butFor) {
   const counts = `${changed} changed, ${came} came, ${went} went`;
   const said = {
     [SAME]: `same up to names: ${many(pairs, "pair")}, checked one by one`,
-    [DIFFERENT]: `different: ${counts}`,
+    [DIFFERENT]: `${butFor.length > 0 ? `the same but for ${butFor.join(" and ")}` : "different"}: ${counts}`,
     [UNDECIDED]: `not decided: ${counts}; no pairing without a difference was found, and none is ruled out`,
   }[word];
   return ambiguous > 0 ? `${said}; ${many(ambiguous, "pair")} chosen where others could be` : said;

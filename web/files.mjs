@@ -6,24 +6,23 @@
 
 import { oneByOne, together } from "./asking.mjs";
 import { alike } from "./likeness.mjs";
-import { Text } from "./program.mjs";
-import { Lines, brief, bytesOf, lexemes, lineNumber, listed, listing, readParts, textOf } from "./reading.mjs";
+import { Text, Trouble } from "./program.mjs";
+import { Lines, behindString, brief, bytesOf, lexemes, lineNumber, listed, readParts, textOf } from "./reading.mjs";
 import { Outline, firstCount } from "./schemas.mjs";
 
 const QUOTE = 0x27;
 const STAR = 0x2a;
 const SLASH = 0x2f;
 const SEMICOLON = 0x3b;
-const LETTER_S = 0x53;
-const BACKSLASH = 0x5c;
 const HASH = 0x23;
 const OF_BYTES = [1, 4, 5, 6, 7, 9, 10, 11];
 const OF_END = [2, 3, 24];
 const OF_WHOLE = [22, 23, 25, 27, 32];
 // These look at what an instance refers to.
 const OF_REFERENCES = [45, 56, 57];
-// Of these one instance, or one name, may have several.
+// Of these one instance, or one name, may have several; and these are of references.
 const OF_SEVERAL = [40, 56, 57];
+const OF_TARGETS = [56, 57];
 const REFUSED = /^refused (\d+) \S.*? (?:at statement (\d+)|in #(\d+))/;
 const WANTED = {
   25: "nothing but blanks and remarks behind END-ISO-10303-21;",
@@ -64,43 +63,33 @@ const DANGLING = `#${2n ** 64n - 1n}`;
 // So many ways in which values may stand for attributes are tried, and texts of so many bytes.
 const MOST_WAYS = 100;
 const LONGEST = 1 << 20;
+// Of the references of one instance that are refused so many are placed, since each is looked for among all; of one with more bytes
+// than these the first alone.
+export const MOST_PLACED = 100;
+export const LONGEST_PLACED = 1 << 20;
 
-/** The refusals of a file by the lines of the program, each of which knows how many that are alike stand in front of it. */
+/**
+ * The refusals of a file by the lines of the program, each of which knows how many that are alike stand in front of it, and how many
+ * references of its instance are refused up to it.
+ */
 export function refusalsOf(given, lines) {
   const before = new Map();
+  const ofReferences = new Map();
   return lines.map((line) => {
     const refused = new RefusedFile(given, line);
     if (refused.instance === null || !OF_SEVERAL.includes(refused.number)) return refused;
     const key = `${refused.number} ${refused.instance}`;
     refused.before = before.get(key) ?? 0;
     before.set(key, refused.before + 1);
+    if (OF_TARGETS.includes(refused.number)) {
+      refused.ofReferences = (ofReferences.get(refused.instance) ?? 0) + 1;
+      ofReferences.set(refused.instance, refused.ofReferences);
+    }
     return refused;
   });
 }
 
 // --- Statements ---
-
-/** The place behind the string that begins at a place, or null where it doesn't end. */
-function behindString(bytes, start) {
-  for (let at = start + 1; at < bytes.length; ) {
-    if (bytes[at] === QUOTE) {
-      if (bytes[at + 1] !== QUOTE) return at + 1;
-      at += 2;
-    } else if (bytes[at] === BACKSLASH) {
-      at += sizeOfDirective(bytes, at);
-    } else {
-      at++;
-    }
-  }
-  return null;
-}
-
-/** How many bytes go together behind a backslash in a string, with it: `\\`, or `\S\` with any character. */
-function sizeOfDirective(bytes, at) {
-  const isPage = bytes[at + 1] === LETTER_S && bytes[at + 2] === BACKSLASH;
-  if (isPage && bytes[at + 3] >= 0x20 && bytes[at + 3] < 0x7f) return 4;
-  return bytes[at + 1] === BACKSLASH ? 2 : 1;
-}
 
 /** The place behind the remark that begins at a place, or null where it doesn't end. */
 function behindRemark(bytes, start) {
@@ -132,6 +121,7 @@ function behindBlanks(bytes, start) {
 
 /** The statements of a file: each from its first word up to its `;`, or up to the end, and where a string or remark is open. */
 export function* statements(bytes) {
+  const byteAt = (at) => bytes[at];
   let start = 0;
   for (let at = 0; at < bytes.length; ) {
     if (bytes[at] === SEMICOLON) {
@@ -139,7 +129,7 @@ export function* statements(bytes) {
       yield { start: behindBlanks(bytes, start), end: at, open: null };
       start = at;
     } else if (bytes[at] === QUOTE || isRemark(bytes, at)) {
-      const end = bytes[at] === QUOTE ? behindString(bytes, at) : behindRemark(bytes, at);
+      const end = bytes[at] === QUOTE ? behindString(byteAt, at) : behindRemark(bytes, at);
       if (end === null) {
         yield { start: behindBlanks(bytes, start), end: bytes.length, open: at };
         return;
@@ -185,8 +175,8 @@ export class GivenFile {
     this.named = named;
     this.bytes = bytes;
     this.looksForAll = looksForAll;
-    this.listing = listing(program, schema);
     this.outline = new Outline(schema.bytes);
+    this.name = this.outline.words[1]?.text ?? "";
     this.known = new Map();
     this.numbered = new Map();
     this.lines = new Lines(bytes);
@@ -205,7 +195,7 @@ export class GivenFile {
 
   /** A file of these instances. */
   withInstances(instances) {
-    const header = `FILE_DESCRIPTION($,$);FILE_NAME($,$,$,$,$,$,$);FILE_SCHEMA(('${this.listing.name}'));`;
+    const header = `FILE_DESCRIPTION($,$);FILE_NAME($,$,$,$,$,$,$);FILE_SCHEMA(('${this.name}'));`;
     return `ISO-10303-21;HEADER;${header}ENDSEC;DATA;\n${instances.join("\n")}\nENDSEC;END-ISO-10303-21;`;
   }
 
@@ -258,8 +248,14 @@ export class GivenFile {
     this.wantAll(refusals);
     return together(
       this,
-      refusals.map((refused) => refused.place()),
+      refusals.map((refused) => (refused.isPlaced ? refused.place() : [].values())),
     );
+  }
+
+  /** How many refused references of an instance are placed. */
+  mostPlaced(instance) {
+    const statement = this.statementsOf([instance])[0]?.statement;
+    return statement && statement.end - statement.start > LONGEST_PLACED ? 1 : MOST_PLACED;
   }
 
   /** Looks for all statements and instances that these refusals are about, and for those that they refer to. */
@@ -302,8 +298,8 @@ export class RefusedFile {
     this.given = given;
     this.before = before;
     this.bytes = given.bytes;
-    this.listing = given.listing;
     this.outline = given.outline;
+    this.ofReferences = 0;
     this.number = Number(number);
     this.statement = statement ? Number(statement) : null;
     this.instance = instance ?? null;
@@ -311,11 +307,17 @@ export class RefusedFile {
     this.missing = [];
   }
 
+  /** Is the place looked for? */
+  get isPlaced() {
+    return this.ofReferences <= 1 || this.ofReferences <= this.given.mostPlaced(this.instance);
+  }
+
   // What the program says
 
-  /** The number by which a text is refused, 0 where it is accepted and null where nothing is said of it. */
+  /** The number by which a text is refused, 0 where it is accepted and null where the schema is refused. */
   answer(text, schema = this.given.schema) {
     const { error, status } = this.given.program.run(["check", "--", "schema", "file"], { schema, file: new Text(bytesOf(text)) });
+    if (status > 1) throw new Trouble(error);
     const found = /^refused (\d+)/.exec(error);
     return found ? Number(found[1]) : status === 0 ? 0 : null;
   }
@@ -441,7 +443,7 @@ export class RefusedFile {
   placeOfSchema(text) {
     const value = readParts(text)[0].values.at(-1).inner[0];
     const named = /^[A-Za-z0-9_]*/.exec(text.slice(value.start + 1))[0];
-    const notes = [`the file is of ${brief(named) || "(no name)"}, the schema text of ${this.listing.name}`];
+    const notes = [`the file is of ${brief(named) || "(no name)"}, the schema text of ${this.given.name}`];
     if (/^[A-Za-z]\w*$/.test(named)) {
       notes.push("where both are one schema by two names, this makes a schema text of the file's name:");
       notes.push(`  ${this.renaming(named)}`);
@@ -497,9 +499,9 @@ export class RefusedFile {
 
   /** The first keyword that the schema doesn't have. */
   unknownEntity(_, parts) {
-    const part = parts.find(({ key }) => !this.listing.attributes.has(key));
-    const near = alike(brief(part.key), this.listing.attributes.keys());
-    const notes = [`the schema ${this.listing.name} has no entity ${brief(part.key)}`];
+    const part = parts.find(({ key }) => !this.outline.entities.has(key));
+    const near = alike(brief(part.key), this.outline.entities.keys());
+    const notes = [`the schema ${this.given.name} has no entity ${brief(part.key)}`];
     return ofKey(part, near.length > 0 ? [...notes, `entities with a like name: ${near.join(", ")}`] : notes);
   }
 
@@ -508,7 +510,7 @@ export class RefusedFile {
     const names = parts.map(({ key }) => key);
     for (const part of parts) {
       const hasBelow = names.some((name) => name !== part.key && this.outline.closure([name]).has(part.key));
-      if (!this.listing.abstract.has(part.key) || hasBelow) continue;
+      if (!this.outline.isAbstract(part.key) || hasBelow) continue;
       const subtypes = [...this.outline.entities.keys()].filter((name) => this.outline.supertypes(name).includes(part.key));
       return ofKey(part, [`${brief(part.key)} is abstract; its subtypes: ${listed(subtypes)}`]);
     }
@@ -564,7 +566,8 @@ export class RefusedFile {
   *missingIn(text, part, places, isAlone) {
     const count = part.values.length;
     if (!isAlone || waysOf(places.length, count) > MOST_WAYS || part.end - part.start > LONGEST) return null;
-    const derived = this.listing.attributes.get(part.key).map((name) => name === "*");
+    const above = this.outline.derived(part.key);
+    const derived = places.map(({ entity, attribute }) => above.has(`${entity}.${attribute}`));
     const types = places.map((place) => this.outline.typeOf([part.key], place));
     const attributes = types.map((type, number) => `a${number} : OPTIONAL ${type};`).join("");
     const values = part.values.map((value) => text.slice(value.start, value.end));

@@ -12,6 +12,8 @@ const SHARP = 0x23;
 const DIGIT_OR_SHARP = /#(\d+)/;
 const STRING_OR_REFERENCE = /'[^']*'|#(\d+)/g;
 const CANONICAL_TOKEN = /'[^']*'|#\d*|[(),]|[^'#(),]+/y;
+// What a text without names says beside its keyword: a string that isn't empty, or a number.
+const SAYING = /'[^']|[(,]-?\d/;
 export const APART = 2 ** 32;
 
 /** Numbers in a row that grows. */
@@ -115,9 +117,9 @@ function withoutNames(text) {
   return { text: pieces.filter((_, at) => at % 2 === 0).join("#"), digits: pieces.filter((_, at) => at % 2 === 1) };
 }
 
-/** A text with other names of instances. */
+/** A text with others for the names of instances, with their `#`. */
 export function renamedText(text, nameOf) {
-  return text.replace(STRING_OR_REFERENCE, (found, name) => (name === undefined ? found : `#${nameOf(name)}`));
+  return text.replace(STRING_OR_REFERENCE, (found, name) => (name === undefined ? found : nameOf(name)));
 }
 
 /**
@@ -240,10 +242,11 @@ export function sectionsOf(bytes) {
 export function renamedFile(bytes, nameOf, front) {
   const pieces = [front];
   const bytesOf = (text) => new TextEncoder().encode(text);
+  const sharp = (name) => `#${nameOf(name)}`;
   for (const { heading, start } of sectionsOf(bytes)) {
     pieces.push(bytesOf(`${heading}\n`));
     for (const line of linesFrom(bytes, start)) {
-      pieces.push(bytesOf(renamedText(textOf(bytes.subarray(line.start, line.end + 1)), nameOf)));
+      pieces.push(bytesOf(renamedText(textOf(bytes.subarray(line.start, line.end + 1)), sharp)));
     }
     pieces.push(bytesOf("ENDSEC;\n"));
   }
@@ -264,6 +267,8 @@ export class Graph {
     this.numbers = new Map();
     this.kinds = new Map();
     this.kindOfShape = [];
+    // Does a text say something beside names? One of an element has numbers of its own, and doesn't count.
+    this.isSaying = [];
     this.labels = new Map();
     this.layouts = new Map();
     this.apart = [];
@@ -277,7 +282,9 @@ export class Graph {
     if (known !== undefined) return known;
     const number = this.numbers.size;
     this.numbers.set(text, number);
-    const kind = text[0] === "," ? "," : keysOf(text.slice(text.indexOf("\n") + 1));
+    const record = text.slice(text.indexOf("\n") + 1);
+    const kind = text[0] === "," ? "," : keysOf(record);
+    this.isSaying.push(text[0] !== "," && SAYING.test(record));
     if (!this.kinds.has(kind)) this.kinds.set(kind, this.kinds.size);
     this.kindOfShape.push(this.kinds.get(kind));
     if (layout?.labels.some((label, at) => label !== at)) this.labels.set(number, layout.labels);
@@ -383,6 +390,12 @@ export class Graph {
   }
 
   // What stands in it
+
+  /** The instances of a file. */
+  ofSide(side) {
+    const { first, end } = this.sides[side];
+    return Array.from({ length: end - first }, (_, at) => first + at);
+  }
 
   /** How many nodes there are. */
   get length() {

@@ -9,6 +9,8 @@ import { APART } from "./models.mjs";
 
 export const NONE = -1;
 const MOST_ROUNDS = 40;
+// What so many refer to tells little of each of them.
+const MOST_REFERRERS = 64;
 // What is compared of nodes without a partner: whether they say the same, and the pairs above and below them.
 const CONTEXTS = [
   [true, true, true],
@@ -500,9 +502,15 @@ class Matching {
 
   /** Pairs what can be paired. */
   run() {
-    for (const numbers of [this.colours, this.below, this.graph.shapes]) {
-      for (const [node, other] of alone(this.graph, numbers, this.unpaired())) this.pair(node, other);
-    }
+    const { isSaying, shapes } = this.graph;
+    for (const numbers of [this.colours, this.below]) this.byNumbers(numbers, this.unpaired());
+    this.byNumbers(
+      shapes,
+      this.unpaired().filter((node) => isSaying[shapes[node]]),
+    );
+    this.spread();
+    this.byShares();
+    this.byNumbers(shapes, this.unpaired());
     this.spread();
     this.byContexts();
     // Parts that nothing else refers to, and that are the same as a whole, must not be mixed with others.
@@ -510,6 +518,12 @@ class Matching {
     while (!this.last.isEmpty) this.choose(...this.last.take());
     this.byContexts();
     this.byRank();
+    this.byNames();
+  }
+
+  /** Pairs nodes of both files that are the only ones with their number. */
+  byNumbers(numbers, nodes) {
+    for (const [node, other] of alone(this.graph, numbers, nodes)) this.pair(node, other);
   }
 
   /** From each new pair to those around it; pairs with less in common come later. */
@@ -596,6 +610,54 @@ class Matching {
     }
   }
 
+  // What refers to much the same
+
+  /** Pairs nodes that refer to much the same, for so many rounds: a list that has become longer is still that list. */
+  byShares() {
+    for (let round = 0; round < MOST_ROUNDS; round++) {
+      const pairs = this.mostShared();
+      if (pairs.length === 0) return;
+      for (const [node, other] of pairs) this.pair(node, other);
+      this.spread();
+    }
+  }
+
+  /**
+   * Nodes without a partner of which each refers to more pairs with the other than with any third one, and to at least half of what
+   * one of the two refers to.
+   */
+  mostShared() {
+    const firsts = this.unpaired().filter((node) => this.graph.isFirst(node));
+    const shares = new Map(firsts.map((node) => [node, this.shares(node)]));
+    const turned = new Map();
+    for (const [node, found] of shares) {
+      for (const [other, count] of found) {
+        if (!turned.has(other)) turned.set(other, new Map());
+        turned.get(other).set(node, count);
+      }
+    }
+    const pairs = [...shares].map(([node, found]) => [node, mostOf(found)]).filter(([, other]) => other !== NONE);
+    const isHalf = (node, other) => {
+      const sizes = [node, other].map((each) => new Set(this.graph.refs(each)).size);
+      return 2 * shares.get(node).get(other) >= Math.min(...sizes);
+    };
+    return pairs.filter(([node, other]) => mostOf(turned.get(other)) === node && isHalf(node, other));
+  }
+
+  /** To how many pairs a node refers with each one of its entity that has no partner. */
+  shares(node) {
+    const { graph, partner } = this;
+    const found = new Map();
+    for (const ref of new Set(graph.refs(node))) {
+      const edges = partner[ref] === NONE ? [] : graph.referrers(partner[ref]);
+      if (edges.length > MOST_REFERRERS) continue;
+      for (const other of new Set(Array.from(edges, (edge) => graph.sources[edge]))) {
+        if (partner[other] === NONE && graph.kind(other) === graph.kind(node)) found.set(other, (found.get(other) ?? 0) + 1);
+      }
+    }
+    return found;
+  }
+
   // What is left over
 
   /** The pairs around a node, by their nodes of the first file; null where there is none. */
@@ -672,6 +734,65 @@ class Matching {
     this.ambiguous += Number(node < this.graph.count);
     this.spread();
   }
+
+  // What has one name
+
+  /** Pairs what has one name in both files, where no fewer nodes fit their partners then: files often keep some names. */
+  byNames() {
+    const { graph, partner } = this;
+    const named = new Map(graph.ofSide(1).map((node) => [graph.names[node], node]));
+    let left = 20 * graph.targets.length + 100_000;
+    for (let round = 0; round < MOST_ROUNDS; round++) {
+      let count = 0;
+      for (const node of graph.ofSide(0)) {
+        const other = named.get(graph.names[node]) ?? NONE;
+        if (other === NONE || partner[node] === other || graph.kind(node) !== graph.kind(other)) continue;
+        if (partner[node] === NONE && partner[other] === NONE) continue;
+        left -= this.visits(node) + this.visits(partner[other]);
+        if (left < 0) return;
+        count += Number(this.exchange(node, other));
+      }
+      if (count === 0) return;
+    }
+  }
+
+  /** How much is looked at to see whether a node and those that refer to it fit their partners. */
+  visits(node) {
+    if (node === NONE) return 0;
+    const { graph } = this;
+    const around = [node, ...Array.from(graph.referrers(node), (edge) => graph.sources[edge])];
+    return around.reduce((sum, each) => sum + 1 + graph.starts[each + 1] - graph.starts[each], 0);
+  }
+
+  /** Pairs two nodes, and what they were paired with, unless fewer nodes fit their partners then. */
+  exchange(node, other) {
+    const { graph, partner } = this;
+    const [was, isLeft] = [partner[node], partner[other]];
+    const changed = [node, isLeft].filter((each) => each !== NONE);
+    const referring = (each) => Array.from(graph.referrers(each), (edge) => graph.sources[edge]);
+    const around = [...new Set([...changed, ...changed.flatMap(referring)])];
+    const fitting = () => around.filter((each) => fits(graph, partner, each)).length;
+    const before = fitting();
+    this.put(node, other);
+    this.put(isLeft, was);
+    if (fitting() >= before) return true;
+    this.put(node, was);
+    this.put(isLeft, other);
+    return false;
+  }
+
+  /** A pair, or a node without a partner where the other is none. */
+  put(node, other) {
+    if (node !== NONE) this.partner[node] = other;
+    if (other !== NONE) this.partner[other] = node;
+  }
+}
+
+/** The one that has more than any other, or none. */
+function mostOf(counts) {
+  const most = Math.max(0, ...counts.values());
+  const found = [...counts].filter(([, count]) => count === most);
+  return found.length === 1 ? found[0][0] : NONE;
 }
 
 // --- Both ---

@@ -95,16 +95,45 @@ export function namesOfValues(attributes, part, alone) {
 
 // --- Statements ---
 
-// A string up to its end. In it `''`, `\\` and `\S\` with any character go together, and no text matches in two ways.
-const STRING = /'[^'\\]*(?:(?:''|\\S\\[ -~]|\\\\|\\(?!\\|S\\[ -~]))[^'\\]*)*'(?!')/.source;
+const QUOTE = 0x27;
+const BACKSLASH = 0x5c;
+// What begins with a backslash in a string as the reader takes it, of which the last sign begins nothing else, by the sign behind it.
+const DIRECTIVES = [/^\\\\/, /^\\S\\[ -~]/, /^\\PA\\/, /^\\X[024]?\\/];
 const REMARK = /\/\*.*?\*\//.source;
-const LEXEME = new RegExp(`[\\0- \\x7f]+|${REMARK}|(${STRING}|"[^"]*"|[^\\0- \\x7f(),;='"/]+|.)`, "gs");
+const LEXEME = new RegExp(`[\\0- \\x7f]+|${REMARK}|("[^"]*"|[^\\0- \\x7f(),;='"/]+|.)`, "sy");
+
+/** The place behind the string that begins at a place, or null where it doesn't end. `byteAt` says what stands at each place. */
+export function behindString(byteAt, start) {
+  for (let at = start + 1; ; ) {
+    const byte = byteAt(at);
+    if (byte === QUOTE) {
+      if (byteAt(at + 1) !== QUOTE) return at + 1;
+      at += 2;
+    } else if (byte === BACKSLASH) {
+      at += sizeOfDirective(byteAt, at);
+    } else if (byte >= 0) {
+      at++;
+    } else {
+      return null;
+    }
+  }
+}
+
+/** How many bytes go together in a string from a backslash on; one where the reader takes nothing that begins so. */
+function sizeOfDirective(byteAt, at) {
+  const front = String.fromCharCode(...[0, 1, 2, 3].map((number) => byteAt(at + number) || 0));
+  return DIRECTIVES.map((directive) => directive.exec(front)?.[0].length).find((size) => size) ?? 1;
+}
 
 /** The words and signs of a text with their places. */
 export function lexemes(text) {
   const found = [];
-  for (const match of text.matchAll(LEXEME)) {
-    if (match[1] !== undefined) found.push({ text: match[1], start: match.index, end: match.index + match[1].length });
+  for (let start = 0; start < text.length; ) {
+    LEXEME.lastIndex = start;
+    const [, word] = LEXEME.exec(text);
+    const end = word === "'" ? (behindString((at) => text.charCodeAt(at), start) ?? text.length) : LEXEME.lastIndex;
+    if (word !== undefined) found.push({ text: text.slice(start, end), start, end });
+    start = end;
   }
   return found;
 }

@@ -3,7 +3,7 @@
 // The program says whether a text is refused and by which number. The place is found by asking it about texts that are cut
 // or changed: cut behind a word, with some declarations replaced by empty ones of the same name, or without redeclarations.
 
-import { Text } from "./program.mjs";
+import { Text, Trouble } from "./program.mjs";
 import { brief, bytesOf, lineNumber, textOf } from "./reading.mjs";
 
 const SCHEMA_LEXEME = new RegExp(
@@ -143,6 +143,43 @@ export class Outline {
       this.above.set(name, found ? found[1].split(" , ").filter((word) => this.entities.has(word)) : []);
     }
     return this.above.get(name);
+  }
+
+  /** Does an entity want a subtype? */
+  isAbstract(name) {
+    return this.entities.get(name).words[2].text === "ABSTRACT";
+  }
+
+  /** The attributes of an entity that it or a supertype derives, each behind the entity that declares it and a point. */
+  derived(name) {
+    const found = new Set();
+    for (const entity of this.order(name)) {
+      for (const { group, words } of this.statements(this.entities.get(entity))) {
+        for (const item of group === "DERIVE" ? itemsIn(words) : []) {
+          if (item.length < 5 || item[0] !== "SELF") continue;
+          for (const owner of this.meant(item[2], item[4])) found.add(`${owner}.${item[4]}`);
+        }
+      }
+    }
+    return found;
+  }
+
+  /** The entity if it declares an attribute of this name, or else those of its supertypes that do. */
+  meant(name, attribute) {
+    const waiting = this.entities.has(name) ? [name] : [];
+    const seen = new Set(waiting);
+    const found = [];
+    while (waiting.length > 0) {
+      const entity = waiting.pop();
+      if (this.ownAttributes(entity).includes(attribute)) {
+        found.push(entity);
+        continue;
+      }
+      const above = this.supertypes(entity).filter((each) => !seen.has(each));
+      for (const each of above) seen.add(each);
+      waiting.push(...above);
+    }
+    return found;
   }
 
   /** These entities with all of their supertypes. */
@@ -363,7 +400,9 @@ export class RefusedSchema {
 
   /** Is this text refused by the same number? */
   answers(text) {
-    const { error } = this.program.run(["schema", "--", "schema"], { schema: new Text(bytesOf(text)) });
+    const files = { schema: new Text(bytesOf(text)), file: new Text(new Uint8Array(0)) };
+    const { error, status } = this.program.run(["check", "--", "schema", "file"], files);
+    if (status > 1) throw new Trouble(error);
     return numberOf(error) === this.number;
   }
 

@@ -1,6 +1,6 @@
 // Where a file or a schema text is refused, as tools/p21-where shows it: as a report for the page, and as its lines.
 
-import { GivenFile, RefusedFile, refusalsOf } from "./files.mjs";
+import { GivenFile, LONGEST_PLACED, MOST_PLACED, RefusedFile, refusalsOf } from "./files.mjs";
 import { SCHEMA_TEXT, STEP_FILE } from "./kinds.mjs";
 import { Lines, clean, readParts, shortened, shown, textOf } from "./reading.mjs";
 import { RefusedSchema, numberOf } from "./schemas.mjs";
@@ -22,6 +22,8 @@ const MOST_SURPLUS = 8;
 const MOST_EXPLAINED = 8;
 // Of a declaration so many signs: a SELECT of many entities has its place.
 const MOST_OF_DECLARATION = 400;
+const UNPLACED = `not placed: of the refused references of one instance the first ${MOST_PLACED} are`;
+const UNPLACED_LONG = `not placed: of the refused references of one instance of more than ${LONGEST_PLACED} bytes the first is`;
 const FILE_LOOKS = [[SCHEMA_TEXT, "this is a schema text: are schema and file exchanged?"], ...LOOKS];
 
 /** What the text looks like where it is none of the expected kind. */
@@ -60,7 +62,7 @@ function shownAttributes(refused, statement, place) {
   const text = refused.text(statement);
   const at = place.start - statement.start;
   const parts = readParts(text);
-  const first = parts.slice(0, MOST_PARTS).filter(({ key }) => refused.listing.attributes.has(key));
+  const first = parts.slice(0, MOST_PARTS).filter(({ key }) => refused.outline.entities.has(key));
   const keys = first.map(({ key }) => key);
   let left = MOST_EXPLAINED;
   const found = first.map((part) => {
@@ -137,7 +139,8 @@ function whereIfTold(line, refused, found) {
 /** What there is to say of one refusal of a file, of which this is the line, and which stands at a place. */
 function whereRefused(line, refused, found) {
   const { bytes } = refused.given;
-  const looks = refused.statement === 1 ? looksOf(bytes, FILE_LOOKS) : null;
+  let looks = refused.statement === 1 ? looksOf(bytes, FILE_LOOKS) : null;
+  if (!refused.isPlaced) looks = refused.given.mostPlaced(refused.instance) > 1 ? UNPLACED : UNPLACED_LONG;
   if (!found?.place) return { line, place: null, attributes: [], looks };
   const { statement, place } = found;
   const lastLine = bytes.length > 1 ? bytes.lastIndexOf(10, bytes.length - 2) + 1 : 0;

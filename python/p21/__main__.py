@@ -7,16 +7,21 @@ from typing import NoReturn
 from p21 import _tools
 
 
+# The statuses of a shell for a program that isn't there, and one that can't be run: none of them is an answer.
+NOT_THERE, NOT_RUN = 127, 126
+
+
 def main() -> NoReturn:
     """Runs the program in place of this process, or the tool of which the first word is the name."""
     words = sys.argv[1:]
     try:
         known = _tools.program()
         command = [*_tools.tool(words[0]), *words[1:]] if words and words[0] in _tools.TOOLS else [known, *words]
-    except FileNotFoundError as error:
-        sys.exit(str(error))
-    os.environ["P21"] = known
-    os.execv(command[0], command)
+        os.environ["P21"] = known
+        os.execv(command[0], command)
+    except OSError as error:
+        print(error, file=sys.stderr)
+        sys.exit(NOT_THERE if isinstance(error, FileNotFoundError) else NOT_RUN)
 
 
 if __name__ == "__main__":

@@ -5,7 +5,7 @@ from typing import Any, Dict, Iterator, List, Optional, Union
 
 from p21._files import same, texts
 from p21._html import table
-from p21._schema import Schema
+from p21._schema import SchemaOrPath, schema_of
 from p21._source import Source
 from p21._tools import modules
 
@@ -28,7 +28,7 @@ class Differences(List[Dict[str, Any]]):
 
 
 def diff(
-    schema: Schema,
+    schema: SchemaOrPath,
     first: Source,
     second: Source,
     *,
@@ -56,15 +56,16 @@ def diff(
     if near is not None and (not near.is_finite() or near < 0):
         raise ValueError("p21: a tolerance is a number of 0 or more")
     differences, schemas, sets_module = modules()
-    outline = schemas.Outline(schema.text)
+    read = schema_of(schema)
+    outline = schemas.Outline(read.text)
     sets = sets_module.Sets(outline)
-    both = texts(schema, first, second)
+    both = texts(read, first, second)
 
     def is_second(pieces: Iterator[bytes]) -> bool:
-        return same(schema, b"".join(pieces), both[1])
+        return same(read, b"".join(pieces), both[1])
 
-    rules = differences.Rules(sets.attributes(), sets if names else None, near, True)
-    files = differences.Files(rules, both, data, is_second)
+    rules = differences.Rules(schemas.AttributeNames(outline), sets if names else None, near, True)
+    files = differences.Files(rules, both, data, is_second, lambda: sets)
     found = Differences(difference.object() for difference in files.counted())
     found.append(files.object(files.verdict()))
     return found

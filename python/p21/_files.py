@@ -8,7 +8,7 @@ from p21._buffers import Passed
 from p21._faults import Refused
 from p21._html import table
 from p21._library import LIBRARY, Handle, ReportStruct, judge, taken
-from p21._schema import Schema
+from p21._schema import SchemaOrPath, schema_of
 from p21._session import Report, accept, refused_as
 from p21._source import Buffer, Source, is_buffer, is_path
 
@@ -17,15 +17,17 @@ def _is_in_memory(source: Source) -> bool:
     return not is_path(source) and is_buffer(source)
 
 
-def check(schema: Schema, source: Source) -> Report:
+def check(schema: SchemaOrPath, source: Source) -> Report:
     """Whether a file is accepted under a schema, with its counts.
 
-    A path and an open file are read piece by piece; an object with a buffer is read where it lies.
+    A path and an open file are read piece by piece; an object with a buffer is read where it lies. In place of a schema, here and
+    in every other call, the path of its text may be given, which is read for the call: ``Schema.read`` reads it once for many.
 
     Raises:
         Refused: it isn't.
+        SchemaRefused: the text at the path of a schema declares none that is read.
         MemoryError: there is no memory.
-        OSError: the path can't be read.
+        OSError: a path can't be read.
         ValueError: the schema is closed, or the path is the text of a file.
 
     >>> p21.check(schema, point)
@@ -35,12 +37,12 @@ def check(schema: Schema, source: Source) -> Report:
         with accept(schema, source) as accepted:
             return accepted.report
     report = ReportStruct()
-    with schema._shared() as handle, Passed(cast(Buffer, source)) as (at, length):
+    with schema_of(schema)._shared() as handle, Passed(cast(Buffer, source)) as (at, length):
         judge(LIBRARY.p21_check(handle, at, length, report), report)
     return Report(report.instances, report.bytes)
 
 
-def canonical(schema: Schema, source: Source) -> bytes:
+def canonical(schema: SchemaOrPath, source: Source) -> bytes:
     """The canonical file of a file: one text for each meaning.
 
     Raises: as ``check``.
@@ -53,14 +55,14 @@ def canonical(schema: Schema, source: Source) -> bytes:
             return accepted.canonical()
     text = Handle()
     report = ReportStruct()
-    with schema._shared() as handle, Passed(cast(Buffer, source)) as (at, length):
+    with schema_of(schema)._shared() as handle, Passed(cast(Buffer, source)) as (at, length):
         judge(LIBRARY.p21_canonical(handle, at, length, text, report), report)
     return taken(text)
 
 
-def texts(schema: Schema, first: Source, second: Source) -> Tuple[bytes, bytes]:
+def texts(schema: SchemaOrPath, first: Source, second: Source) -> Tuple[bytes, bytes]:
     """The canonical files of two files. The second is looked at where the first is accepted."""
-    found = []
+    found, schema = [], schema_of(schema)
     for which, source in (("first", first), ("second", second)):
         try:
             found.append(canonical(schema, source))
@@ -69,7 +71,7 @@ def texts(schema: Schema, first: Source, second: Source) -> Tuple[bytes, bytes]:
     return found[0], found[1]
 
 
-def same(schema: Schema, first: Source, second: Source) -> bool:
+def same(schema: SchemaOrPath, first: Source, second: Source) -> bool:
     """Whether two files mean the same under a schema.
 
     Raises: as ``check``; ``Refused.which`` says which file is refused. The second is looked at where the first is accepted.
@@ -82,7 +84,7 @@ def same(schema: Schema, first: Source, second: Source) -> bool:
         return one == other
     answer = ctypes.c_uint8()
     report = ReportStruct()
-    with schema._shared() as handle, Passed(cast(Buffer, first)) as one_text, Passed(cast(Buffer, second)) as other_text:
+    with schema_of(schema)._shared() as handle, Passed(cast(Buffer, first)) as one_text, Passed(cast(Buffer, second)) as other_text:
         judge(LIBRARY.p21_same(handle, *one_text, *other_text, answer, report), report, of_two=True)
     return answer.value == 1
 
@@ -103,7 +105,7 @@ class Hash(NamedTuple):
 _HEADER_END = b"\nENDSEC;\n"
 
 
-def hash(schema: Schema, source: Source, data: bool = False) -> Hash:
+def hash(schema: SchemaOrPath, source: Source, data: bool = False) -> Hash:
     """The hash of what a file means: that of its canonical file, so that equal hashes are those of equal meanings.
 
     Args:

@@ -11,7 +11,7 @@ from typing import Any, Iterator, Optional, Tuple, Type, Union
 
 from p21._buffers import Passed, bytes_of
 from p21._library import FAILED, LIBRARY, Handle, ReportStruct, judge
-from p21._source import Buffer, Path
+from p21._source import Buffer, Path, is_buffer
 
 # So many schemas that came from other processes are kept, so that each is read once.
 KEPT = 8
@@ -106,6 +106,22 @@ class Schema:
 
     def __repr__(self) -> str:
         return f"<p21.Schema {name_in(self._text)}, {'closed' if self.closed else f'{len(self._text)} bytes'}>"
+
+
+SchemaOrPath = Union[Schema, Path]
+"""A schema, or the path of its text, which is read for the call."""
+
+
+def schema_of(given: SchemaOrPath) -> Schema:
+    """The schema that is given, or that the text in a file declares."""
+    if isinstance(given, Schema):
+        return given
+    if isinstance(given, str) and set(given) & set(";\n"):
+        raise ValueError("p21: a str is the path of a schema here: p21.Schema(text) reads a text")
+    if isinstance(given, (str, os.PathLike)):
+        return Schema.read(given)
+    reads = ": p21.Schema(text) reads a text" if is_buffer(given) else ""
+    raise TypeError(f"p21: a schema is a p21.Schema, or the path of its text, and no {type(given).__name__}{reads}")
 
 
 @functools.lru_cache(maxsize=KEPT)

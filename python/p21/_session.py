@@ -9,7 +9,7 @@ from typing import Any, NamedTuple, NoReturn, Optional, Type
 from p21._buffers import Passed
 from p21._html import table
 from p21._library import FAILED, LIBRARY, REFUSED, CursorStruct, Handle, ReportStruct, judge, taken
-from p21._schema import Schema, name_in
+from p21._schema import SchemaOrPath, name_in, schema_of
 from p21._source import Buffer, Source, pieces
 
 # So many bytes of a canonical file are read at once.
@@ -175,13 +175,13 @@ class Session(_Held):
     169
     """
 
-    def __init__(self, schema: Schema) -> None:
-        handle = Handle()
-        with schema._shared() as shared:
+    def __init__(self, schema: SchemaOrPath) -> None:
+        handle, read = Handle(), schema_of(schema)
+        with read._shared() as shared:
             status = LIBRARY.p21_session_new(shared, handle)
         if status == FAILED:
             raise MemoryError("p21: out of memory")
-        super().__init__(handle, name_in(schema.text))
+        super().__init__(handle, name_in(read.text))
         self._fed = 0
 
     def __enter__(self) -> "Session":
@@ -219,7 +219,7 @@ class Session(_Held):
         return f"<p21.Session under {self._schema}, {'closed' if self.closed else f'{self._fed} bytes taken'}>"
 
 
-def accept(schema: Schema, source: Source) -> Accepted:
+def accept(schema: SchemaOrPath, source: Source) -> Accepted:
     """Reads a file, and gives it as an accepted one, of which single statements can be asked for.
 
     Raises: as ``check``.

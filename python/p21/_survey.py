@@ -6,11 +6,12 @@ from typing import List, Optional
 
 from p21._faults import Refused
 from p21._html import table
-from p21._schema import Schema
+from p21._schema import SchemaOrPath
 from p21._source import Source
-from p21._tools import as_paths, program, run
+from p21._tools import as_paths, no_answer, program, run
 
 _LINE = re.compile(r"refused (\d+) (\S.*?) (?:in #(\d+)|at statement (\d+))")
+_ACCEPTED = re.compile(rb"accepted, instances \d+, canonical bytes \d+\n")
 _END = re.compile(r"refusals \d+(, the rest was not read|, no more were looked for)?")
 
 
@@ -37,27 +38,26 @@ class Survey:
         return table(("number", "name", "statement", "instance", "what it means"), rows)
 
 
-def survey(schema: Schema, source: Source, most: Optional[int] = None) -> Survey:
+def survey(schema: SchemaOrPath, source: Source, most: Optional[int] = None) -> Survey:
     """Every refusal of a file, in one run: what ``p21 check --all`` lists. The program does it, which the wheel installs with this
     package.
 
     Args:
         most: end after so many.
 
-    Raises: ``OSError`` where the path can't be read, or the program isn't here or has no ``--all``.
+    Raises: ``OSError`` where a path can't be read, the program isn't here or has no ``--all``, or it ends without an answer;
+    ``MemoryError`` where there is no memory.
     """
     words = ["--all"] if most is None else ["--all", "--most", str(most)]
     with as_paths(schema, source) as (schema_path, path):
         done = run([program(), "check", *words, "--", schema_path, path])
     said = done.stderr.decode("utf-8", "replace")
-    if done.returncode == 0:
+    if done.returncode == 0 and _ACCEPTED.fullmatch(done.stdout):
         return Survey([], True)
-    if "out of memory" in said.splitlines():
-        raise MemoryError("p21: out of memory")
     lines = [_LINE.fullmatch(line) for line in said.splitlines()]
     end = next((found for found in map(_END.fullmatch, said.splitlines()) if found), None)
     if done.returncode != 1 or end is None:
-        raise OSError(f"p21: {said.strip() or f'the program ended with status {done.returncode}'}")
+        raise no_answer(said, done.returncode)
     refusals = [
         Refused(int(it[1]), it[2], instance=int(it[3]) if it[3] else None, statement=int(it[4]) if it[4] else None) for it in lines if it
     ]

@@ -1,6 +1,7 @@
 """The program and the tools beside it, which a wheel installs with the package, and which a clone has."""
 
 import contextlib
+import errno
 import importlib
 import os
 import pathlib
@@ -12,11 +13,12 @@ import tempfile
 from types import ModuleType
 from typing import Iterator, List, Optional, Sequence, Tuple, cast
 
-from p21._schema import Schema
+from p21._schema import SchemaOrPath, schema_of
 from p21._source import Path, Source, is_path, pieces
 
 _CLONE = pathlib.Path(__file__).resolve().parents[2]
 _TOOLS = _CLONE / "tools"
+OUT_OF_MEMORY = "p21: out of memory"
 TOOLS = ("where", "diff", "renumber", "table", "adapt")
 
 
@@ -72,16 +74,29 @@ def tool(name: str) -> List[str]:
 def run(words: Sequence[str]) -> "subprocess.CompletedProcess[bytes]":
     """What a program or a tool answers."""
     environment = dict(os.environ, P21=program(), PYTHONIOENCODING="utf-8")
-    return subprocess.run(words, env=environment, stdin=subprocess.DEVNULL, stdout=subprocess.PIPE, stderr=subprocess.PIPE, check=False)
+    try:
+        return subprocess.run(words, env=environment, stdin=subprocess.DEVNULL, stdout=subprocess.PIPE, stderr=subprocess.PIPE, check=False)
+    except OSError as error:
+        if error.errno == errno.ENOMEM:
+            raise MemoryError(OUT_OF_MEMORY) from None
+        raise
+
+
+def no_answer(said: str, status: int) -> Exception:
+    """What is raised where a program or a tool doesn't answer, by what it said and its status."""
+    if said.strip().splitlines()[-1:] and said.strip().splitlines()[-1].endswith("out of memory"):
+        return MemoryError(OUT_OF_MEMORY)
+    ended = f"ended by signal {-status}" if status < 0 else f"ended with status {status}"
+    return OSError(f"p21: the program gave no answer: {'; '.join(filter(None, (said.strip(), ended)))}")
 
 
 @contextlib.contextmanager
-def as_paths(schema: Schema, source: Source) -> Iterator[Tuple[str, str]]:
+def as_paths(schema: SchemaOrPath, source: Source) -> Iterator[Tuple[str, str]]:
     """The text of a schema and a file as paths. What is no path is written to a file for the time of a ``with``."""
     with tempfile.TemporaryDirectory(prefix="p21-") as folder:
         schema_path = os.path.join(folder, "schema.exp")
         with open(schema_path, "wb") as file:
-            file.write(schema.text)
+            file.write(schema_of(schema).text)
         if is_path(source):
             # A path that can't be read is an OSError, as in every other call.
             with open(cast(Path, source), "rb"):

@@ -6,9 +6,9 @@ from typing import Any, Dict, List, Optional
 
 from p21._html import table
 from p21._numbers import RefusalNumber
-from p21._schema import Schema
+from p21._schema import SchemaOrPath
 from p21._source import Source
-from p21._tools import as_paths, run, tool
+from p21._tools import as_paths, no_answer, run, tool
 
 
 @dataclasses.dataclass(frozen=True)
@@ -46,12 +46,22 @@ class Place:
         return table(None, [*rows, *(("", note) for note in self.notes)])
 
 
-def where(schema: Schema, source: Source) -> Optional[Place]:
+def row_in(line: str) -> Dict[str, Any]:
+    """The row of ``p21-where`` that a line is, or an empty one."""
+    try:
+        row = json.loads(line)
+    except ValueError:
+        return {}
+    return row if isinstance(row, dict) else {}
+
+
+def where(schema: SchemaOrPath, source: Source) -> Optional[Place]:
     """Where a file is refused: line, column and attribute; None where it is accepted.
 
     The program and ``p21-where`` find it, which the wheel installs with this package. It is unproved, as ``diff`` is.
 
-    Raises: ``OSError`` where the path can't be read or the program isn't here.
+    Raises: ``OSError`` where a path can't be read, the program isn't here, or it ends without an answer; ``MemoryError`` where
+    there is no memory.
 
     >>> place = p21.where(schema, point.replace(b"1.E0", b"1"))
     >>> place.line, place.column, place.attribute, place.expected, place.found
@@ -59,14 +69,12 @@ def where(schema: Schema, source: Source) -> Optional[Place]:
     """
     with as_paths(schema, source) as (schema_path, path):
         done = run([*tool("where"), "--format", "json", "--", schema_path, path])
-    lines = done.stdout.decode("utf-8").splitlines()
-    if not lines:
-        if done.returncode == 0:
-            return None
-        raise OSError(done.stderr.decode("utf-8", "replace").strip() or f"p21-where ended with status {done.returncode}")
-    row: Dict[str, Any] = json.loads(lines[0])
-    if row["number"] is None:
-        raise OSError(row["answer"])
+    lines = done.stdout.decode("utf-8").split("\n")
+    if done.returncode == 0 and lines == [""]:
+        return None
+    row = row_in(lines[0])
+    if done.returncode != 1 or row.get("number") is None:
+        raise no_answer(str(row.get("answer") or done.stderr.decode("utf-8", "replace")), done.returncode)
     instance = row["instance"]
     fields: Dict[str, Any] = {field.name: row.get(field.name) for field in dataclasses.fields(Place)}
     fields.update(number=RefusalNumber(int(row["number"])), instance=int(str(instance).lstrip("#")) if instance is not None else None)

@@ -228,7 +228,7 @@ def test_whole_files_that_are_accepted(schemas, text, canonical):
     assert p21.same(schemas["DEMO"], text, canonical)
 
 
-@pytest.mark.parametrize("text, refusal", SCHEMAS_REFUSED)
+@pytest.mark.parametrize("text, refusal", SCHEMAS_REFUSED, ids=[refusal for _, refusal in SCHEMAS_REFUSED])
 def test_schemas_that_are_refused(text, refusal):
     with pytest.raises(p21.SchemaRefused) as found:
         p21.Schema(text)

@@ -56,6 +56,34 @@ def program():
 # --- What a file and a schema may be given as ---
 
 
+@pytest.mark.parametrize("kind", [str, pathlib.Path])
+def test_a_schema_by_its_path(kind):
+    schema, read = kind(EXAMPLES / "product.exp"), p21.Schema.read(EXAMPLES / "product.exp")
+    for source in (PRODUCT, PRODUCT.read_bytes()):
+        assert p21.check(schema, source) == COUNTS
+        assert p21.canonical(schema, source) == p21.canonical(read, source)
+        assert p21.same(schema, source, EXAMPLES / "product-other.step")
+        assert p21.hash(schema, source) == p21.hash(read, source)
+        assert p21.diff(schema, source, source)[-1]["verdict"] == "same"
+    assert p21.accept(schema, PRODUCT).report == COUNTS
+    with p21.Session(schema) as session:
+        session.feed(PRODUCT.read_bytes())
+        assert session.finish().report == COUNTS
+
+
+def test_what_is_no_schema():
+    with pytest.raises(FileNotFoundError):
+        p21.check("examples/none.exp", PRODUCT)
+    with pytest.raises(p21.SchemaRefused):
+        p21.check(PRODUCT, PRODUCT)
+    with pytest.raises(ValueError, match="is the path of a schema here: p21.Schema.text. reads a text"):
+        p21.check(POINTS, PRODUCT)
+    with pytest.raises(TypeError, match="and no bytes: p21.Schema.text. reads a text"):
+        p21.check(POINTS.encode(), PRODUCT)
+    with pytest.raises(TypeError, match="a schema is a p21.Schema, or the path of its text, and no NoneType$"):
+        p21.same(None, PRODUCT, PRODUCT)
+
+
 def given_as(kind, tmp_path):
     """The same file in another way."""
     text = PRODUCT.read_bytes()
@@ -427,7 +455,9 @@ def test_help(program):
     folder, tried = os.getcwd(), 0
     os.chdir(ROOT)
     try:
-        for module in [p21, *(importlib.import_module(f"p21.{it.name}") for it in pkgutil.iter_modules(p21.__path__) if it.name != "__main__")]:
+        # The library stands in the package too, where the build puts it, and is no module.
+        names_of_modules = [it.name for it in pkgutil.iter_modules(p21.__path__) if it.name not in ("__main__", "libp21")]
+        for module in [p21, *(importlib.import_module(f"p21.{name}") for name in names_of_modules)]:
             found = doctest.testmod(module, extraglobs={**names, **vars(module)} if module is not p21 else None)
             assert found.failed == 0, module.__name__
             tried += found.attempted
@@ -439,6 +469,38 @@ def test_help(program):
 
 
 # --- What the tools answer ---
+
+
+# A program that doesn't answer, and what is raised.
+NO_ANSWERS = [
+    ("kill -9 $$", OSError, "ended by signal 9"),
+    ("echo 'refused 45 Count in #3' >&2; kill -9 $$", OSError, "ended by signal 9"),
+    ("echo 'out of memory' >&2; exit 3", MemoryError, "out of memory"),
+    ("exit 1", OSError, "ended with status 1"),
+    ("echo usage >&2; exit 2", OSError, "usage"),
+]
+
+
+def program_that(lines, folder):
+    """A program of these lines of a shell."""
+    path = folder / "p21"
+    path.write_text(f"#!/bin/sh\n{lines}\n")
+    path.chmod(0o755)
+    return str(path)
+
+
+@pytest.mark.parametrize("lines, raised, said", [*NO_ANSWERS, ("exit 0", OSError, "no answer")])
+def test_a_survey_without_an_answer(product, tmp_path, monkeypatch, lines, raised, said):
+    monkeypatch.setenv("P21", program_that(lines, tmp_path))
+    with pytest.raises(raised, match=said):
+        p21.survey(product, PRODUCT)
+
+
+@pytest.mark.parametrize("lines, raised, said", NO_ANSWERS)
+def test_a_place_without_an_answer(product, tmp_path, monkeypatch, lines, raised, said):
+    monkeypatch.setenv("P21", program_that(lines, tmp_path))
+    with pytest.raises((OSError, MemoryError)):
+        p21.where(product, EXAMPLES / "refused" / "Count.step")
 
 
 def test_hashes(product, program):
@@ -492,3 +554,8 @@ def test_the_program_by_its_module(program):
     done = run("where", "examples/product.exp", "examples/refused/Count.step")
     assert done.stdout.startswith("refused 45 Count in #3\n") and done.returncode == 1
     assert run("nothing").returncode == 2
+    # Where there is no program, the status is none of its answers.
+    environment["P21"] = str(ROOT / "nowhere")
+    assert run("check", "examples/product.exp", "examples/product.step").returncode == 127
+    environment["P21"] = str(ROOT / "README.md")
+    assert run("check", "examples/product.exp", "examples/product.step").returncode == 126
