@@ -208,9 +208,8 @@ def unanswered(tests):
     output, _, status = tests.run(["--manifest", str(manifest), SCHEMA, f"{folder}/a.step"], program=program)
     is_said = "it changed while it was read" in output
     tests.judge("a file that changes", (True, 3, 1), (is_said, status, len(manifest.read_text().splitlines())))
-    for name, given in [("standard input", "-"), ("a pipe", f"{folder}/pipe")]:
-        if given != "-":
-            os.mkfifo(given)
+    os.mkfifo(folder / "pipe")
+    for name, given in [("standard input", "-"), ("standard input by its path", "/dev/stdin"), ("a pipe", f"{folder}/pipe")]:
         line = f"p21-table: {given} is no plain file, as those of a manifest are"
         tests.expect(name, ["--manifest", "{here}/pipes.json", SCHEMA, given], 2, [], line)
 

@@ -364,7 +364,10 @@ class Verifying:
             return None
         file, size = there.pop(0)
         del self.new[file]
-        found, why = self.held(path, file, size, self.manifest.hashes[path])
+        try:
+            found, why = self.held(path, file, size, self.manifest.hashes[path])
+        except reading.TROUBLES as trouble:
+            return Found.NOT_KNOWN, reading.told(trouble)
         if found not in (Found.AS_IT_WAS, Found.CHANGED):
             return found, why
         return Found.MOVED, f"to {file}; {why}" if why else f"to {file}"

@@ -54,6 +54,8 @@ Text = Union[bytes, bytearray, mmap.mmap]
 Piece = Union[bytes, bytearray, memoryview]
 PIECE = 1 << 20
 FURTHER = "a further schema, for files that name another one; may be given several times"
+# Where what a process has open has a path, which means something else to another process.
+OPEN_HERE = ("/dev/", "/proc/")
 # So many bytes are copied of what is no plain file, as a pipe or a device.
 MOST_COPIED = 1 << 30
 
@@ -345,7 +347,7 @@ def lasting(path: str) -> str:
     copy, where the program could not read it again and again. That is so of a pipe, and of what this process has open, as
     /dev/stdin, which `-` stands for. A copy is gone when this process ends."""
     path = "/dev/stdin" if path == "-" else path
-    is_open_here = path.startswith(("/dev/", "/proc/"))
+    is_open_here = path.startswith(OPEN_HERE)
     is_plain = os.path.isfile(path) and not is_open_here
     if not os.path.exists(path) or os.path.isdir(path) or not os.access(path, os.R_OK):
         return path
