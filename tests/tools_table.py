@@ -307,6 +307,15 @@ def folders(tests):
     counts.append(f"passed over: 1 link to a folder: {folder}/further")
     tests.judge("what can't be read, counted", counts, error.splitlines()[:3])
     (folder / "closed").chmod(0o755)
+    deep = folder / "deep"
+    for _ in range(1200):
+        deep.mkdir()
+        deep = deep / "d"
+    deep.write_text(file)
+    deep.rename(deep.with_suffix(".step"))
+    _, error, status = tests.run([SCHEMA, f"{folder}/deep"])
+    tests.judge("a deep folder", ("1 file, 1 accepted, 0 not\n", 0), (error, status))
+    subprocess.run(["rm", "-r", f"{folder}/deep"], check=True)
     secret, none = f"{folder}/secret.step", f"{folder}/none"
     for name, given, line in [
         ("a schema that may not be read", [secret, "examples"], f"cannot open {secret}: it may not be read"),

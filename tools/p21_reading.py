@@ -257,18 +257,25 @@ def below(path: str) -> Below:
     """The path itself, which may be `-` for standard input, or all that stands below a folder."""
     if not os.path.isdir(path):
         return Below([path], [], {}, [])
-    found = Below([], [], {}, [])
-
-    def unread(error: OSError) -> None:
-        found.unread[os.fsdecode(error.filename)] = reason_of(error)
-
-    for folder, folders, names in os.walk(path, onerror=unread):
-        at = pathlib.Path(folder)
-        found.links.extend(str(at / name) for name in folders if (at / name).is_symlink())
-        for name in names:
-            sort_in(found, at / name)
+    found, waiting = Below([], [], {}, []), [pathlib.Path(path)]
+    while waiting:
+        waiting.extend(look_into(waiting.pop(), found))
     found.files.sort()
     return found
+
+
+def look_into(folder: pathlib.Path, found: Below) -> List[pathlib.Path]:
+    """Puts all that stands in a folder where it belongs, but for the folders in it, which are answered."""
+    try:
+        with os.scandir(folder) as entries:
+            listed = [(folder / entry.name, entry.is_dir(), entry.is_symlink()) for entry in entries]
+    except OSError as error:
+        found.unread[str(folder)] = reason_of(error)
+        return []
+    found.links.extend(str(path) for path, is_folder, is_link in listed if is_folder and is_link)
+    for path in (path for path, is_folder, _ in listed if not is_folder):
+        sort_in(found, path)
+    return [path for path, is_folder, is_link in listed if is_folder and not is_link]
 
 
 def sort_in(found: Below, path: pathlib.Path) -> None:
