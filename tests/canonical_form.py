@@ -4,6 +4,8 @@ the folder examples, which stay as they are for as long as the form has this ver
 """
 
 import hashlib
+import json
+import os
 import pathlib
 import re
 import subprocess
@@ -89,11 +91,12 @@ def of_the_folder(tests):
 
 
 def version(tests):
-    """The page names the version of the hashes, and so do the tables."""
+    """The page names the version of the hashes, and so do the program and the tables."""
     found = set(re.findall(r"[Vv]ersion (\d+) of the canonical form", PAGE.read_text(encoding="utf-8")))
     tests.judge("the version of the form", {VERSION}, found)
-    said = re.findall(r"^FORM = (\d+)$", (ROOT / "tools" / "p21_manifest.py").read_text(encoding="utf-8"), re.M)
-    tests.judge("the version that tables and manifests name", [VERSION], said)
+    words = ["tools/p21-table", "--format", "json", "examples/product.exp", "examples/product.step"]
+    row = subprocess.run(words, capture_output=True, check=True, env=dict(os.environ, P21=tests.program)).stdout
+    tests.judge("the version that tables name", VERSION, str(json.loads(row)["form"]))
     line = subprocess.run([tests.program, "--version"], capture_output=True, check=True, text=True).stdout
     tests.judge("the version that the program names", [VERSION], re.findall(r"^p21 \S+ \(canonical form (\d+)\)$", line, re.M))
 
