@@ -4,11 +4,14 @@
 Over the examples, the refused ones too, and over files that are made by chance, what it shows is what the program, p21-where
 and p21-diff print. Then it is used as people do: with a keyboard, on a phone, without a network, with a job that is stopped,
 with a memory that can't grow, and in a browser that has no 64-bit memory. Where there is a Firefox, the examples are opened
-in it too.
+in it too, and what could differ there is tried in both. Files are dropped, chosen in fields, and where Xvfb and xdotool are, chosen
+by the browsers' own choosers on a screen.
 
-P21 names another program than ./p21. The status is 77 where there is no Chromium or no Firefox, or no `rt`, which makes the page.
+P21 names another program than ./p21. The status is 77 where there is no Chromium, no Firefox, no Xvfb or no xdotool, or no `rt`,
+which makes the page.
 """
 
+import os
 import pathlib
 import random
 import re
@@ -16,13 +19,14 @@ import shutil
 import socket
 import subprocess
 import sys
+import time
 
 import fuzz
 import needs
 from plain import commands
 from renaming import shuffled
 from tooling import ROOT, Tests, file_of
-from web import browser, firefox, making
+from web import browser, desktop, firefox, making
 
 CASES = 300
 ANSWER = """(() => {
@@ -30,7 +34,7 @@ ANSWER = """(() => {
     const texts = (within, selector) => [...within.querySelectorAll(selector)].map((found) => found.textContent);
     if (answer.hidden || answer.children.length === 0 || !answer.hasAttribute("data-whole")) return null;
     return {
-        verdict: texts(answer, ".verdict")[0],
+        verdict: texts(answer, ".verdict > div")[0],
         files: [...answer.querySelectorAll(".file")].map((file) => ({
             name: file.dataset.name,
             line: texts(file, ".line")[0] ?? texts(file, ".lines")[0].split("\\n")[0],
@@ -107,6 +111,12 @@ class Page:
             wanted["lines"] = self.tool("p21-where", "--all", schema, file) if status != 0 else None
             found["lines"] = shown["lines"]
         self.tests.judge(f"{name}, {file}", wanted, found)
+
+    def judge_refused(self, name, line, choose):
+        """A file that is chosen is refused by this line."""
+        choose()
+        shown = self.browser.wait(f"document.getElementById('verdict')?.textContent === 'Refused' && {ANSWER}")
+        self.tests.judge(f"{name}, refused", line, shown["files"][0]["line"])
 
     def judge_pair(self, name, shown, schema, first, second, differ=True):
         """What the page shows of two files is what the program and p21-diff print."""
@@ -323,6 +333,181 @@ def large(page):
     page.judge_file("after a stop", shown["files"][0], "product.exp", "product.step")
 
 
+def mend(page, name):
+    """Mends a file that is broken so, some time later: a browser knows a file by its time and size."""
+    path = page.folder / name
+    text = path.read_text()
+    path.write_text(text.replace("(1.,2.);", "(1.,2.));\n#2=CARTESIAN_POINT('another one',(3.,4.));"))
+    stat = path.stat()
+    os.utime(path, (stat.st_atime + 5, stat.st_mtime + 5))
+
+
+def broken(page, name):
+    """A file with a mistake. Returns what the program says of it."""
+    page.tests.make(name, file_of("#1=CARTESIAN_POINT('',(1.,2.);"))
+    return page.program("check", "product.exp", name)[1].rstrip("\n")
+
+
+def mended(page, choose, name, again=True):
+    """A file is refused, mended and chosen once more; and where the browser can read it, looked at again by a button."""
+    page.judge_refused(name, broken(page, "mended.step"), choose)
+    mend(page, "mended.step")
+    choose()
+    shown = page.browser.wait(f"document.getElementById('verdict')?.textContent === 'Accepted' && {ANSWER}")
+    page.judge_file(f"{name}, mended and chosen again", shown["files"][0], "product.exp", "mended.step")
+    page.judge_refused(name, broken(page, "mended.step"), choose)
+    mend(page, "mended.step")
+    page.browser.ask("document.getElementById('again').click()")
+    if again:
+        shown = page.browser.wait(f"document.getElementById('verdict')?.textContent === 'Accepted' && {ANSWER}")
+        page.judge_file(f"{name}, mended and checked again", shown["files"][0], "product.exp", "mended.step")
+    else:
+        page.browser.wait(f"document.getElementById('verdict')?.textContent === 'Read fault' && {ANSWER}")
+        said = "document.querySelector('.refusal p:nth-of-type(1)').textContent"
+        page.tests.judge(f"{name}, checked again", True, "choose it again" in page.browser.ask(said))
+
+
+def mended_files(page):
+    """A file that is mended: dropped, chosen in a field, and chosen by the chooser itself, in both browsers."""
+    shutil.copy(ROOT / "examples" / "product.exp", page.folder)
+    path = page.folder / "mended.step"
+
+    def by(choose, *words):
+        page.browser.open(f"file://{page.path}")
+        page.browser.wait("document.body.dataset.ready !== undefined")
+        page.browser.choose("#schema", page.folder / "product.exp")
+        page.browser.wait(ANSWER)
+        mended(page, choose, *words)
+
+    by(lambda: page.browser.drop([path]), "dropped in Chromium")
+    by(lambda: page.browser.choose("#first", path), "chosen in Chromium", False)
+    screen = desktop.Desktop() if desktop.found() else None
+    chromium = page.browser
+    try:
+        if screen:
+            page.browser = browser.Browser(desktop=screen)
+            by(lambda: screen.choose(page.browser, "first", path), "by the chooser of Chromium", False)
+            page.browser.close()
+        if firefox.found():
+            page.browser = firefox.Firefox(screen)
+            by(lambda: page.browser.choose("#first", path), "chosen in Firefox")
+            if screen:
+                by(lambda: screen.choose(page.browser, "first", path), "by the chooser of Firefox")
+            page.browser.close()
+    finally:
+        if page.browser is not chromium:
+            page.browser.close()
+        page.browser = chromium
+        if screen:
+            screen.close()
+
+
+def in_both(page, group):
+    """Does something in Chromium, and in Firefox where it is."""
+    group(page, "Chromium")
+    if firefox.found():
+        chromium, page.browser = page.browser, firefox.Firefox()
+        try:
+            page.open(page.path)
+            group(page, "Firefox")
+        finally:
+            page.browser.close()
+            page.browser = chromium
+
+
+def chosen(page, *names):
+    """What the page shows when these files are chosen in its fields: a schema, and one or two others."""
+    for field, name in zip(("schema", "first", "second"), names):
+        page.browser.ask("document.getElementById('answer').replaceChildren()")
+        page.browser.choose(f"#{field}", page.folder / name)
+        shown = page.browser.wait(ANSWER, MOST_SECONDS)
+    return shown
+
+
+def words(page):
+    """Explanations of refusals, and what stands beside an answer."""
+    for name in ("product.exp", "product.step", "refused/BadDirective.step", "refused/BadByte.step"):
+        shutil.copy(ROOT / "examples" / name, page.folder)
+    in_both(page, words_in)
+
+
+def words_in(page, name):
+    ask = page.browser.ask
+    chosen(page, "product.exp", "BadDirective.step")
+    means = ask("document.querySelector('.means').textContent")
+    page.tests.judge(f"a letter in {name}", True, "as \\X2\\00FC\\X0\\ for ü, and this is none" in means)
+    chosen(page, "product.exp", "BadByte.step")
+    page.tests.judge(f"a stressed word in {name}", ["without"], ask("[...document.querySelectorAll('.means em')].map((found) => found.textContent)"))
+    page.tests.judge(f"no asterisk in {name}", False, ask("document.querySelector('.means').textContent.includes('*without*')"))
+    page.tests.judge(f"nothing is checked in {name}", None, ask("document.querySelector('.not-checked')?.textContent ?? null"))
+    chosen(page, "product.exp", "product.step")
+    said = ask("document.querySelector('.not-checked')?.textContent ?? ''")
+    for word in ("Not checked", "WHERE", "UNIQUE", "INVERSE", "geometry"):
+        page.tests.judge(f"beside Accepted in {name}: {word}", True, word in said)
+
+
+# Names as a stranger may choose them: one that reads backwards, one that writes to a terminal, and one that would be a script.
+HOSTILE = ["exe.\u202epets.step", "\x1b[31mred\x07.step", "<img src=x onerror=document.title='run'>.step"]
+ESCAPED = ["exe.\\u202epets.step", "\\x1b[31mred\\x07.step", "<img src=x onerror=document.title='run'>.step"]
+# Characters that change how a text reads: those of control, and those that say which way it runs.
+UNSEEN = "/[\\x00-\\x08\\x0b-\\x1f\\x7f-\\x9f\\u200b-\\u200f\\u2028-\\u202e\\u2060-\\u206f]/"
+
+
+def hostile_names(page):
+    """Names of files are shown, heard and saved with such characters escaped, and none is run."""
+    for name, example in zip(HOSTILE, ("product.step", "product-changed.step", "refused/Count.step")):
+        shutil.copy(ROOT / "examples" / example, page.folder / name)
+    shutil.copy(ROOT / "examples" / "product.exp", page.folder / f"schema{HOSTILE[0]}.exp")
+    in_both(page, hostile_names_in)
+
+
+def hostile_names_in(page, browser_name):
+    judge, ask = page.tests.judge, page.browser.ask
+    schema = f"schema{HOSTILE[0]}.exp"
+    unseen = f"[document.body.innerText, document.body.innerHTML, {SAID}].map((text) => {UNSEEN}.test(text))"
+    for first, second in ((0, 1), (1, 2), (2, 0)):
+        shown = chosen(page, schema, HOSTILE[first], HOSTILE[second])
+        names = [file["name"] for file in shown["files"]]
+        judge(f"names in {browser_name}", [ESCAPED[first], ESCAPED[second]], names)
+        slots = ask("[...document.querySelectorAll('.chosen strong')].map((found) => found.textContent)")
+        judge(f"names that are chosen in {browser_name}", [f"schema{ESCAPED[0]}.exp", *names], slots)
+        judge(f"signs that aren't seen in {browser_name}", [False, False, False], ask(unseen))
+        judge(f"no script runs in {browser_name}", ["p21: STEP files, checked and compared", 0], ask("[document.title, document.images.length]"))
+        if HOSTILE[second] == HOSTILE[2]:
+            lines = page.tool("p21-where", "--all", schema, HOSTILE[second])
+            judge(f"lines in {browser_name}", lines, shown["files"][1]["lines"])
+
+
+# So many points make a file of 156 MB.
+MANY_POINTS = 2_900_000
+MOST_SECONDS = 300
+
+
+def large_in_both(page):
+    """A large file takes in Firefox at most four times as long as in Chromium: its memory isn't moved for each megabyte."""
+    with open(page.folder / "large.step", "w") as file:
+        head, end = file_of("MARK", [("PRODUCT_MODEL", "DEMO")]).split("MARK")
+        file.write(head)
+        for number in range(1, MANY_POINTS + 1):
+            file.write(f"#{number}=POINT('a point among many',{number}.25,{number % 89}.);\n")
+        file.write(end)
+    seconds = {}
+
+    def timed(page, name):
+        chosen(page, "demo.exp")
+        begun = time.monotonic()
+        shown = chosen(page, "demo.exp", "large.step")
+        seconds[name] = time.monotonic() - begun
+        page.tests.judge(f"{name}: a large file", f"accepted, instances {MANY_POINTS}", shown["files"][0]["line"].rpartition(",")[0])
+
+    shutil.copy(ROOT / "examples" / "demo.exp", page.folder)
+    in_both(page, timed)
+    (page.folder / "large.step").unlink()
+    print(f"{MANY_POINTS} points: " + ", ".join(f"{name} {took:.1f} s" for name, took in seconds.items()))
+    if "Firefox" in seconds:
+        page.tests.judge("Firefox keeps up", True, seconds["Firefox"] <= 4 * seconds["Chromium"])
+
+
 def people(page):
     """A keyboard, a screen reader, a phone, and what the page says of itself."""
     tests, tab = page.tests, page.browser
@@ -459,11 +644,14 @@ def main():
     page.is_unproved = "unproved" in said
     try:
         groups = [examples, chance, many, stopped_on_the_way, up_to_names, large_up_to_names, shelf, others, large, people, network, in_firefox]
+        groups += [mended_files, words, hostile_names, large_in_both]
         for group in (*groups, want_of_memory, without_memory):
             group(page)
     finally:
         page.browser.close()
-    tests.end("" if firefox.found() else "the examples in Firefox (there is none)")
+    missing = [] if firefox.found() else ["what is tried in Firefox (there is none)"]
+    missing += [] if desktop.found() else ["the choosers of the browsers (there is no Xvfb or no xdotool)"]
+    tests.end(", ".join(missing))
 
 
 if __name__ == "__main__":

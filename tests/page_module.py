@@ -71,6 +71,18 @@ def want_of_memory(tests, node):
     tests.judge("some memories suffice and some don't", True, all(counts.values()))
 
 
+def growth(tests, node):
+    """Memory doubles, so that a browser that moves it whole at each growth moves it seldom."""
+    rows = "\n".join(f"#{number}=POINT($,{number}.,1.);" for number in range(1, 1_000_001))
+    path = tests.make("points.step", file_of(rows, [("PRODUCT_MODEL", "DEMO")]))
+    command = [*node, "tests/web/memory.mjs", str(making.MODULE), "examples/demo.exp", path]
+    found = json.loads(subprocess.run(command, capture_output=True, text=True, check=True).stdout)
+    sizes = found["sizes"]
+    tests.judge("the memory of a large file", (0, True), (found["status"], sizes[-1] > 30_000_000))
+    tests.judge("each size of it but the last is doubled", [2 * size for size in sizes[:-1]], sizes[1:])
+    os.unlink(path)
+
+
 def refused_texts(tests):
     """The texts that tools/p21-where is tested by: schemas and files under them."""
     found = [[SCHEMA, str(path)] for path in sorted(pathlib.Path("examples/refused").iterdir())]
@@ -273,7 +285,7 @@ def main():
     needs.wanted("rt")
     tests = Tests("p21-where")
     making.make_page(tests.here / "p21.html")
-    for group in (marks, program_rows, want_of_memory, places, differences, shelves):
+    for group in (marks, program_rows, want_of_memory, growth, places, differences, shelves):
         group(tests, node)
     tests.end()
 

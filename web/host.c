@@ -46,7 +46,7 @@ long __sysv_signal(int signal, long handler) { return 0; }
 // Memory: blocks of certain sizes, each behind sixteen bytes that name its size. A block that is freed waits in a list for
 // the next of its size, and new ones are taken from the end of what is in use. All sizes are multiples of 16.
 
-enum { HEAD = 16, SMALL_SIZES = 7, SIZES = 240, PAGE = 65536, STEP = 1 << 20 };
+enum { HEAD = 16, SMALL_SIZES = 7, SIZES = 240, PAGE = 65536 };
 
 struct tried {
     size ok;
@@ -80,12 +80,22 @@ static size size_of(size number)
 
 static size *head_of(byte *block) { return (size *)(block - HEAD); }
 
-static int grow_by(size count) { return __builtin_wasm_memory_grow(0, (count + PAGE - 1) / PAGE) != (size)-1; }
+static size in_pages(size count) { return (count + PAGE - 1) / PAGE; }
 
+// Takes so many pages of the browser. Where each growth moves the whole memory, as in Firefox, what growth costs in all is
+// within a few times the memory only if each one is a share of what is there.
+static int grow_by(size pages) { return __builtin_wasm_memory_grow(0, pages) != (size)-1; }
+
+// Doubles the memory, or where the browser has not that much, takes half as much, and so on down to what is needed.
 static int has_room_to(size end)
 {
-    size have = __builtin_wasm_memory_size(0) * PAGE;
-    return end <= have || (end - have < STEP && grow_by(STEP)) || grow_by(end - have);
+    size have = __builtin_wasm_memory_size(0), need = in_pages(end);
+    if (need <= have)
+        return 1;
+    for (size more = have; more > need - have; more /= 2)
+        if (grow_by(more))
+            return 1;
+    return grow_by(need - have);
 }
 
 static byte *new_block(size count)

@@ -1,6 +1,7 @@
 // The page: files are chosen or dropped, a worker does the job, and its answer is shown.
 
 import { hasWideMemory, kindOf, namedSchema } from "./kinds.mjs";
+import { shown } from "./reading.mjs";
 
 const FRONT = 1 << 16;
 // So many schemas have a row each; of more there is one list that opens.
@@ -22,13 +23,20 @@ const COMPARISONS = {
 };
 const WORDS = {
   "out of memory": "The browser gave the program no more memory.",
-  "read fault": "The file can’t be read: is it a folder, or has it changed since it was chosen?",
+  "read fault": "The file can’t be read: is it a folder? Where it has changed since it was chosen, choose it again.",
 };
+const NOT_CHECKED =
+  "Not checked: the rules of the schema (WHERE, UNIQUE and RULE, INVERSE, what DERIVE computes), and whether the geometry is sound.";
 const examples = __EXAMPLES__;
 const isProved = __PROVED__;
 const chosen = { schemas: [], aliases: null, first: null, second: null };
+// Of a file that was dropped what the browser may have to read it anew, and the files that a job has read.
+const handles = new WeakMap();
+const readBefore = new WeakSet();
 const at = (id) => document.getElementById(id);
 let worker = null;
+// What begin() was called for last.
+let current = null;
 
 // --- Parts of the page ---
 
@@ -80,7 +88,6 @@ function fill(slot, rows) {
   const place = document.querySelector(`[data-slot=${slot}]`);
   place.classList.toggle("full", rows.length > 0);
   place.querySelector(".chosen").replaceChildren(...rows.map((row) => element("div", { class: "row" }, ...row)));
-  if (rows.length === 0) at(slot).value = "";
 }
 
 /** A button that takes something away from a slot. */
@@ -93,15 +100,20 @@ function removing(slot, what, action) {
   return button("×", taken, { class: "remove", "aria-label": `Take ${what} away`, title: "Take away" });
 }
 
+/** The name of a file as it may be shown: characters that change how it reads stand there by their numbers. */
+function nameOf(file) {
+  return shown(file.name);
+}
+
 /** The name and the size of a file. */
 function titled(file) {
-  return element("span", {}, element("strong", {}, file.name), " ", element("span", { class: "size" }, sized(file.size)));
+  return element("span", {}, element("strong", {}, nameOf(file)), " ", element("span", { class: "size" }, sized(file.size)));
 }
 
 /** Puts a STEP file into its slot, or none. */
 function put(slot, file) {
   chosen[slot] = file;
-  fill(slot, file ? [[titled(file), removing(slot, file.name, () => put(slot, null))]] : []);
+  fill(slot, file ? [[titled(file), removing(slot, nameOf(file), () => put(slot, null))]] : []);
 }
 
 /** Puts schemas into their slot, and the text of aliases. */
@@ -109,13 +121,13 @@ function putSchemas(schemas, aliases = null) {
   chosen.schemas = schemas;
   chosen.aliases = aliases;
   const without = (file) => putSchemas(chosen.schemas.filter((each) => each !== file), chosen.aliases);
-  const rows = schemas.map((file) => [titled(file), removing("schema", file.name, () => without(file))]);
+  const rows = schemas.map((file) => [titled(file), removing("schema", nameOf(file), () => without(file))]);
   if (schemas.length > FEW_SCHEMAS) {
-    const names = element("ul", {}, ...schemas.map(({ name }) => element("li", {}, name)));
+    const names = element("ul", {}, ...schemas.map((file) => element("li", {}, nameOf(file))));
     const all = element("details", {}, element("summary", {}, counted(schemas.length, "schema")), names);
     rows.splice(0, rows.length, [all, removing("schema", "all schemas", () => putSchemas([]))]);
   }
-  if (aliases) rows.push([titled(aliases), removing("schema", aliases.name, () => putSchemas(chosen.schemas))]);
+  if (aliases) rows.push([titled(aliases), removing("schema", nameOf(aliases), () => putSchemas(chosen.schemas))]);
   fill("schema", rows);
 }
 
@@ -133,6 +145,16 @@ function isAliases({ name }) {
   return /^aliases(?:\.txt)?$/i.test(name);
 }
 
+/** The slot that has this very file already, which may have been mended; null where there is none, or the browser can't tell. */
+async function slotOf(file) {
+  const handle = await handles.get(file);
+  for (const slot of ["first", "second"]) {
+    const other = await handles.get(chosen[slot]);
+    if (handle && other && (await handle.isSameEntry(other))) return slot;
+  }
+  return null;
+}
+
 /** Puts dropped files where they belong: by what they are, and otherwise where they were dropped. */
 async function sort(files, slot) {
   const kinds = await Promise.all(files.map(async (file) => kindOf(await frontOf(file))));
@@ -143,15 +165,16 @@ async function sort(files, slot) {
   if (schemas.length > 0) putSchemas(schemas, aliases);
   else if (aliases) putSchemas(chosen.schemas, aliases);
   if (steps.length === 1) {
+    const known = schemas.length === 0 ? await slotOf(steps[0]) : null;
+    const given = slot === "first" || slot === "second" ? slot : known;
     const free = chosen.first && !chosen.second && schemas.length === 0 ? "second" : "first";
-    const wanted = slot === "first" || slot === "second" ? slot : free;
-    if (wanted === "first" && slot !== "first") put("second", null);
-    put(wanted, steps[0]);
+    if (!given && free === "first") put("second", null);
+    put(given ?? free, steps[0]);
   } else if (steps.length > 1) {
     put("first", steps[0]);
     put("second", steps[1]);
   }
-  const left = steps.slice(2).map((file) => file.name);
+  const left = steps.slice(2).map(nameOf);
   begin(left.length > 0 ? `Left out: ${left.join(", ")}. Two files are looked at. ` : "");
 }
 
@@ -212,25 +235,62 @@ function started(job, heard) {
   return made;
 }
 
+/**
+ * A file as it now stands on the disk. A browser keeps of a chosen file what it was: Chromium then reads it no more once it has
+ * changed, and Firefox reads it up to the size that it had. Where this doesn't help, the program says that it can't be read.
+ */
+async function renewed(file) {
+  if (!readBefore.has(file)) return file;
+  try {
+    const handle = await handles.get(file);
+    if (handle) return withHandle(await handle.getFile(), handle);
+    const whole = await new Response(file.stream()).blob();
+    return whole.size === file.size ? file : new File([whole], file.name);
+  } catch {
+    return file;
+  }
+}
+
+/** A file that can be read anew by what the browser has for that. */
+function withHandle(file, handle) {
+  handles.set(file, handle);
+  return file;
+}
+
+/** Takes what is chosen as it now stands on the disk. Says whether nothing else was chosen meanwhile. */
+async function renewAll() {
+  const before = { ...chosen };
+  const now = await Promise.all([...chosen.schemas, chosen.aliases, chosen.first, chosen.second].map((file) => file && renewed(file)));
+  if (Object.keys(before).some((slot) => chosen[slot] !== before[slot])) return false;
+  const [aliases, first, second] = now.splice(-3);
+  if (aliases !== chosen.aliases || now.some((file, number) => file !== chosen.schemas[number])) putSchemas(now, aliases);
+  if (first !== chosen.first) put("first", first);
+  if (second !== chosen.second) put("second", second);
+  return true;
+}
+
 /** Starts over with what is chosen. */
-function begin(said = "", upToNames = false) {
+async function begin(said = "", upToNames = false) {
   stop();
   at("answer").hidden = true;
   at("answer").removeAttribute("data-whole");
   say(said);
-  if (!module) return;
+  const begun = Symbol("job");
+  current = begun;
+  if (!module || !(await renewAll()) || current !== begun) return;
   const files = [chosen.first, chosen.second].filter((file) => file !== null);
   if (chosen.schemas.length === 0) {
     if (files.length > 0) sayWanted(files[0], said);
     return;
   }
-  progress({ name: files[0]?.name ?? chosen.schemas[0].name });
+  progress({ name: nameOf(files[0] ?? chosen.schemas[0]) });
+  for (const file of [...chosen.schemas, chosen.aliases, ...files]) if (file) readBefore.add(file);
   const job = { schemas: chosen.schemas, aliases: chosen.aliases, files, upToNames };
   const mine = started(job, (message) => {
     if (worker !== mine) return;
     if (message.trouble || message.isWhole) stop();
     if (message.progress) progress(message.progress);
-    if (message.trouble) say(`There is no answer: ${message.trouble}.`);
+    if (message.trouble) say(`There is no answer: ${shown(message.trouble)}.`);
     if (message.answer) show(message.answer, said, upToNames);
     if (message.places) shownPlaces(message.places);
     at("answer").toggleAttribute("data-whole", message.isWhole === true);
@@ -250,7 +310,7 @@ function showWork(said) {
 async function sayWanted(file, said) {
   const name = namedSchema(await frontOf(file));
   if (chosen.schemas.length > 0) return;
-  say(said, name ? `Now the schema is wanted: ${file.name} names ${name}.` : "Now the schema is wanted, an EXPRESS text.");
+  say(said, name ? `Now the schema is wanted: ${nameOf(file)} names ${shown(name)}.` : "Now the schema is wanted, an EXPRESS text.");
 }
 
 /** Shows how far the job is. */
@@ -279,7 +339,7 @@ function show(answer, said, upToNames) {
   const { title, more, mood } = summary(answer);
   files = answer.files.length > 0 ? answer.files : answer.schemas;
   at("answer").replaceChildren(
-    element("div", { class: `verdict ${mood}` }, element("h2", { id: "verdict" }, title), more && element("p", {}, more)),
+    ofVerdict(title, more, mood),
     ...(answer.differences ? [differences(answer.differences, answer.files, upToNames)] : []),
     ...files.map((file) => ofFile(file, answer.explained)),
   );
@@ -289,6 +349,12 @@ function show(answer, said, upToNames) {
   const sentence = said + [`${title}.`, more, ...refused].filter(Boolean).join(" ");
   if (said) say(sentence);
   else hear(sentence);
+}
+
+/** How an answer ends, with a button for who has mended a file since. */
+function ofVerdict(title, more, mood) {
+  const said = element("div", {}, element("h2", { id: "verdict" }, title), more && element("p", {}, more));
+  return element("div", { class: `verdict ${mood}` }, said, button("Check again", () => begin(), { id: "again" }));
 }
 
 /** What is said to a screen reader of a file that isn't accepted. */
@@ -333,13 +399,13 @@ function failed({ status, line }) {
 function ofFile(answer, explained) {
   const made = element("div", { class: "file", "data-name": answer.name }, element("h3", {}, answer.name));
   if (answer.schema) made.append(element("p", { class: "by" }, "by ", element("strong", {}, answer.schema)));
-  if (answer.change) made.append(element("p", { class: "change" }, element("code", {}, answer.change)));
+  if (answer.change) made.append(element("p", { class: "change" }, element("code", {}, shown(answer.change))));
   if (!answer.accepted) {
     made.append(...ofRefusals(answer, explained));
     return made;
   }
   made.append(element("code", { class: "line" }, answer.line));
-  if (answer.canonical) made.append(canonical(answer));
+  if (answer.canonical) made.append(element("p", { class: "hint not-checked" }, NOT_CHECKED), canonical(answer));
   else made.append(element("p", {}, `${counted(answer.entities, "entity").replace("entitys", "entities")}.`));
   return made;
 }
@@ -525,11 +591,18 @@ function paragraphs(text) {
   return [...(hasExample ? [hint("For example, this is refused so:")] : []), ...blocks.map(ofBlock)];
 }
 
-/** A text that is indented, or a paragraph with words of code between backticks. */
+/** A text that is indented, or a paragraph. */
 function ofBlock(block) {
   if (block.startsWith("    ")) return element("pre", {}, block.replace(/^ {4}/gm, ""));
-  const parts = block.replaceAll("\n", " ").split("`");
-  return element("p", {}, ...parts.map((part, number) => (number % 2 ? element("code", {}, part) : part)));
+  return element("p", {}, ...withMarks(block.replaceAll("\n", " ")));
+}
+
+/** A text in which words of code stand between backticks, and others that are stressed between asterisks. */
+function withMarks(text) {
+  return text.split(/(`[^`]*`|\*\w[^*`]*\*)/).map((part, number) => {
+    if (number % 2 === 0) return part;
+    return element(part.startsWith("`") ? "code" : "em", {}, part.slice(1, -1));
+  });
 }
 
 /** What differs between two files: by the names of instances, and up to names. */
@@ -584,8 +657,15 @@ function markedPair(first, second) {
 
 // --- What people do ---
 
+/** The files that were chosen in a field. It is cleared, so that a file that is mended can be chosen once more. */
+function taken(field) {
+  const files = [...field.files];
+  field.value = "";
+  return files;
+}
+
 at("schema").addEventListener("change", ({ target }) => {
-  const given = [...target.files];
+  const given = taken(target);
   const aliases = given.find(isAliases) ?? null;
   const schemas = given.filter((file) => file !== aliases);
   if (given.length > 0) putSchemas(schemas.length > 0 ? schemas : chosen.schemas, aliases);
@@ -594,7 +674,8 @@ at("schema").addEventListener("change", ({ target }) => {
 
 for (const slot of ["first", "second"]) {
   at(slot).addEventListener("change", ({ target }) => {
-    if (target.files.length > 0) put(slot, target.files[0]);
+    const [file] = taken(target);
+    if (file) put(slot, file);
     begin();
   });
 }
@@ -612,12 +693,18 @@ addEventListener("dragleave", ({ relatedTarget }) => {
 addEventListener("drop", (event) => {
   event.preventDefault();
   document.body.classList.remove("dragging");
-  const items = [...event.dataTransfer.items].map((item) => item.webkitGetAsEntry?.());
-  const folder = items.find((entry) => entry?.isDirectory);
+  const items = [...event.dataTransfer.items].filter(({ kind }) => kind === "file");
+  const folder = items.map((item) => item.webkitGetAsEntry?.()).find((entry) => entry?.isDirectory);
   const slot = event.target.closest?.("[data-slot]")?.dataset.slot ?? null;
-  if (folder) say(`${folder.name} is a folder: drop the files that are in it.`);
-  else if (event.dataTransfer.files.length > 0) sort([...event.dataTransfer.files], slot);
+  if (folder) say(`${nameOf(folder)} is a folder: drop the files that are in it.`);
+  else if (items.length > 0) sort(items.map(dropped), slot);
 });
+
+/** A file that is dropped. */
+function dropped(item) {
+  const handle = item.getAsFileSystemHandle?.().catch(() => null);
+  return withHandle(item.getAsFile(), handle);
+}
 
 at("stop").addEventListener("click", () => {
   stop();

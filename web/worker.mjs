@@ -5,7 +5,7 @@
 import { differencesOf, differencesUpToNames, equalBytes } from "./differences.mjs";
 import { GivenFile } from "./files.mjs";
 import { Program, Text, Trouble } from "./program.mjs";
-import { listing, textOf } from "./reading.mjs";
+import { listing, shown, textOf } from "./reading.mjs";
 import { Outline } from "./schemas.mjs";
 import { Sets } from "./sets.mjs";
 import { Shelf, nameIn } from "./shelf.mjs";
@@ -88,19 +88,24 @@ function sentDifferences({ count, inHeader, shown, lines, word, verdict }) {
   return { count, shown, text, word, verdict, onlyHeader: count > 0 && count === inHeader };
 }
 
+/** A text for people of the program's, which is in UTF-8. */
+function sentenceOf(bytes) {
+  return new TextDecoder().decode(bytes);
+}
+
 /** The job: schemas, maybe with aliases, and none, one or two files, each with its name. */
 class Job {
   constructor(program, { schemas, aliases, files, upToNames }, say) {
     this.program = program;
-    this.files = files.map((file) => ({ name: file.name, text: new DroppedFile(file) }));
+    this.files = files.map((file) => ({ name: shown(file.name), text: new DroppedFile(file) }));
     this.upToNames = upToNames;
     this.say = say;
-    const listings = schemas.map((file) => ({ name: file.name, text: new Text(new DroppedFile(file).bytes) }));
+    const listings = schemas.map((file) => ({ name: shown(file.name), text: new Text(new DroppedFile(file).bytes) }));
     this.served = { ...listings[0], change: null };
     this.listings = listings;
     this.shelf = null;
     if (listings.length > 1 || aliases) {
-      this.shelf = new Shelf(listings, aliases && { name: aliases.name, text: textOf(new DroppedFile(aliases).bytes) });
+      this.shelf = new Shelf(listings, aliases && { name: shown(aliases.name), text: textOf(new DroppedFile(aliases).bytes) });
     }
     this.schemas = new Map();
     this.explanations = new Map();
@@ -118,8 +123,8 @@ class Job {
   explained(numbers) {
     for (const number of numbers) {
       if (this.explanations.has(number)) continue;
-      const text = textOf(this.program.run(["faults", number]).output);
-      const listed = textOf(this.program.run(["faults"]).output);
+      const text = sentenceOf(this.program.run(["faults", number]).output);
+      const listed = sentenceOf(this.program.run(["faults"]).output);
       const about = new RegExp(`^ +${number} (\\S+) +(.*)$`, "m").exec(listed);
       this.explanations.set(number, { name: about?.[1] ?? "", about: about?.[2] ?? "", text });
     }

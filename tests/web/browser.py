@@ -21,12 +21,14 @@ def found():
 class Browser:
     """A browser with one tab."""
 
-    def __init__(self, *options):
+    def __init__(self, *options, desktop=None):
+        """`desktop` is where its window stands, and without one it has no window."""
         self.folder = tempfile.TemporaryDirectory(prefix="chromium-", ignore_cleanup_errors=True)
         (heard, to_browser), (from_browser, said) = os.pipe(), os.pipe()
         os.set_inheritable(heard, True)
         os.set_inheritable(said, True)
-        words = [found(), "--headless=new", "--remote-debugging-pipe", "--no-first-run", "--disable-gpu", "--hide-scrollbars"]
+        words = [found(), "--remote-debugging-pipe", "--no-first-run", "--disable-gpu", "--hide-scrollbars"]
+        words += [] if desktop else ["--headless=new"]
         words += [f"--user-data-dir={self.folder.name}", *(["--no-sandbox"] if os.geteuid() == 0 else []), *options, "about:blank"]
 
         def with_pipes():
@@ -36,7 +38,12 @@ class Browser:
             os.dup2(other, 4)
 
         self.process = subprocess.Popen(
-            words, preexec_fn=with_pipes, pass_fds=(3, 4), stderr=subprocess.DEVNULL, start_new_session=True
+            words,
+            preexec_fn=with_pipes,
+            pass_fds=(3, 4),
+            stderr=subprocess.DEVNULL,
+            start_new_session=True,
+            env=desktop.environment() if desktop else None,
         )
         os.close(heard)
         os.close(said)

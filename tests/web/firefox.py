@@ -22,16 +22,17 @@ def found():
 class Firefox:
     """A browser with one tab."""
 
-    def __init__(self):
+    def __init__(self, desktop=None):
+        """`desktop` is where its window stands, and without one it has no window."""
         self.folder = tempfile.TemporaryDirectory(prefix="firefox-", ignore_cleanup_errors=True)
         with open(f"{self.folder.name}/user.js", "w") as file:
             file.write('user_pref("marionette.port", 0);\nuser_pref("datareporting.policy.dataSubmissionEnabled", false);\n')
         self.process = subprocess.Popen(
-            [found(), "--headless", "--marionette", "--no-remote", "--profile", self.folder.name],
+            [found(), *([] if desktop else ["--headless"]), "--marionette", "--no-remote", "--profile", self.folder.name],
             stdout=subprocess.DEVNULL,
             stderr=subprocess.DEVNULL,
             start_new_session=True,
-            env={**os.environ, "HOME": self.folder.name},
+            env={**(desktop.environment() if desktop else os.environ), "HOME": self.folder.name},
         )
         self.connection = socket.create_connection(("127.0.0.1", self.port()), timeout=120)
         self.input = self.connection.makefile("rb")
