@@ -11,6 +11,8 @@ P21 names another program than ./p21. The status is 77 where there is no Chromiu
 which makes the page.
 """
 
+import hashlib
+import json
 import os
 import pathlib
 import random
@@ -90,6 +92,14 @@ class Page:
         self.browser.ask("document.getElementById('answer').replaceChildren()")
         self.browser.drop([self.folder / name for name in names])
         return self.browser.wait(ANSWER)
+
+    def with_program(self):
+        """The environment in which the program is called p21."""
+        folder = self.folder / "path"
+        folder.mkdir(exist_ok=True)
+        if not (folder / "p21").exists():
+            (folder / "p21").symlink_to(os.path.abspath(self.tests.program))
+        return {**os.environ, "PATH": f"{folder}:{os.environ['PATH']}"}
 
     def program(self, *words):
         """What the program writes to each stream in that folder, and its status."""
@@ -404,6 +414,7 @@ def mended_files(page):
 
 def in_both(page, group):
     """Does something in Chromium, and in Firefox where it is."""
+    page.open(page.path)
     group(page, "Chromium")
     if firefox.found():
         chromium, page.browser = page.browser, firefox.Firefox()
@@ -446,6 +457,91 @@ def words_in(page, name):
         page.tests.judge(f"beside Accepted in {name}: {word}", True, word in said)
 
 
+def typed(page, words, hits):
+    """Words are typed into the search, and it says how many has all of them."""
+    field = "document.querySelector('.search input')"
+    page.browser.ask(f"({field}.value = {json.dumps(words)}, {field}.dispatchEvent(new Event('input')))")
+    page.browser.wait(f"document.querySelector('.search [role=status]').textContent === {json.dumps(hits)}")
+
+
+def saved(page, name):
+    """What the browser saves under this name."""
+    path = pathlib.Path(page.browser.downloads) / name
+    end = time.monotonic() + 30
+    while not path.exists() or path.stat().st_size == 0:
+        if time.monotonic() > end:
+            raise TimeoutError(name)
+        time.sleep(0.02)
+    text = path.read_text()
+    path.unlink()
+    return text
+
+
+def by_command_line(page):
+    """What the command line gives that stands beside the hash."""
+    line = page.browser.ask("[...document.querySelectorAll('.again')].at(-1).textContent")
+    done = subprocess.run(["bash", "-c", line], cwd=page.folder, env=page.with_program(), capture_output=True, text=True, check=False)
+    return done.stdout.split(" ")[0]
+
+
+def taken_along(page):
+    """Answers are searched, copied, saved and printed, and a hash is made again by its command line."""
+    for name in ("product.exp", "product.step", "product-changed.step", "refused/Count.step", "demo.exp"):
+        shutil.copy(ROOT / "examples" / name, page.folder)
+    rows = [f"#{number}=POINT($,1.,'two');" for number in range(1, 401)]
+    page.tests.make("many.step", file_of("\n".join([*rows, "#401=NOTHING();"]), [("PRODUCT_MODEL", "DEMO")]))
+    in_both(page, taken_along_in)
+
+
+def taken_along_in(page, name):
+    judge, ask = page.tests.judge, page.browser.ask
+    ask("navigator.clipboard.writeText = async (text) => { window.copied = text; }, window.print = () => { window.printed = true; }, 0")
+
+    def copied(title):
+        ask(f"(window.copied = null, document.querySelector('[aria-label=\"{title}\"]').click())")
+        page.browser.wait("window.copied !== null")
+        return ask("window.copied")
+
+    shown = chosen(page, "product.exp", "product.step")
+    canonical = page.program("canon", "product.exp", "product.step")[0].encode("latin-1")
+    digest = hashlib.sha256(canonical).hexdigest()
+    judge(f"the hash in {name}", [digest], ask("[...document.querySelectorAll('.hash code:not(.again)')].map((found) => found.textContent)"))
+    judge(f"the hash copied in {name}", digest, copied("Copy: the hash"))
+    judge(f"the hash by its command line in {name}", digest, by_command_line(page))
+    text = f"Accepted. product.step\n\nproduct.step by product.exp:\n{shown['files'][0]['line']}\nSHA-256 of the canonical file: {digest}\n"
+    judge(f"an answer copied in {name}", text, copied("Copy: the answer"))
+    ask("[...document.querySelectorAll('.verdict button')].find((found) => found.textContent === 'Save').click()")
+    judge(f"an answer saved in {name}", text, saved(page, "answer.txt"))
+    ask("[...document.querySelectorAll('.verdict button')].find((found) => found.textContent === 'Print').click()")
+    judge(f"the answer printed in {name}", True, ask("window.printed === true"))
+    chosen(page, "product.exp", "product.step", "product-changed.step")
+    lines = "".join(f"{line}\n" for line in page.tool("p21-diff", "product.exp", "product.step", "product-changed.step"))
+    judge(f"differences copied in {name}", lines, copied("Copy as text: the differences"))
+    judge(f"differences in the answer in {name}", True, f"by the names of instances:\n{lines}" in copied("Copy: the answer"))
+    ask("document.querySelector('[data-slot=second] .remove').click()")
+    shown = chosen(page, "demo.exp", "many.step")
+    lines = page.tool("p21-where", "--all", "demo.exp", "many.step")
+    judge(f"refusals copied in {name}", lines, copied("Copy as text: what is said of many.step").splitlines())
+    judge(f"refusals in the answer in {name}", lines, copied("Copy: the answer").splitlines()[3:])
+    typed(page, "NOTHING", "1 of 401")
+    judge(f"what is found in {name}", ["#401"], ask("[...document.querySelectorAll('.refusals > li > details > summary > code')].map((found) => found.textContent)"))
+    typed(page, "y #39", "11 of 401")
+    judge(f"what all words have in {name}", 11, ask("document.querySelectorAll('.refusals > li').length"))
+    typed(page, "", "")
+    judge(f"all again in {name}", 21, ask("document.querySelectorAll('.refusals > li').length"))
+
+
+def on_paper(page):
+    """What is printed: the answer, and nothing to choose or to press."""
+    chosen(page, "demo.exp", "many.step")
+    page.browser.call("Emulation.setEmulatedMedia", media="print")
+    seen = "(selector) => [...document.querySelectorAll(selector)].filter((found) => found.checkVisibility()).length"
+    for selector, count in (("#choose", 0), ("button:not(.more)", 0), (".search", 0), ("#verdict", 1), (".refusals > li summary", 21), ("#checksum", 1)):
+        page.tests.judge(f"on paper: {selector}", count, page.browser.ask(f"({seen})({json.dumps(selector)})"))
+    page.tests.judge("what is hard to read on paper", [], page.browser.ask(FAINT))
+    page.browser.call("Emulation.setEmulatedMedia", media="")
+
+
 # Names as a stranger may choose them: one that reads backwards, one that writes to a terminal, and one that would be a script.
 HOSTILE = ["exe.\u202epets.step", "\x1b[31mred\x07.step", "<img src=x onerror=document.title='run'>.step"]
 ESCAPED = ["exe.\\u202epets.step", "\\x1b[31mred\\x07.step", "<img src=x onerror=document.title='run'>.step"]
@@ -473,7 +569,10 @@ def hostile_names_in(page, browser_name):
         judge(f"names that are chosen in {browser_name}", [f"schema{ESCAPED[0]}.exp", *names], slots)
         judge(f"signs that aren't seen in {browser_name}", [False, False, False], ask(unseen))
         judge(f"no script runs in {browser_name}", ["p21: STEP files, checked and compared", 0], ask("[document.title, document.images.length]"))
-        if HOSTILE[second] == HOSTILE[2]:
+        if HOSTILE[second] != HOSTILE[2]:
+            canonical = page.program("canon", schema, HOSTILE[second])[0].encode("latin-1")
+            judge(f"a hash by its command line in {browser_name}", hashlib.sha256(canonical).hexdigest(), by_command_line(page))
+        else:
             lines = page.tool("p21-where", "--all", schema, HOSTILE[second])
             judge(f"lines in {browser_name}", lines, shown["files"][1]["lines"])
 
@@ -644,7 +743,7 @@ def main():
     page.is_unproved = "unproved" in said
     try:
         groups = [examples, chance, many, stopped_on_the_way, up_to_names, large_up_to_names, shelf, others, large, people, network, in_firefox]
-        groups += [mended_files, words, hostile_names, large_in_both]
+        groups += [mended_files, words, hostile_names, taken_along, on_paper, large_in_both]
         for group in (*groups, want_of_memory, without_memory):
             group(page)
     finally:

@@ -12,6 +12,9 @@ const FEW_REFUSALS = 5;
 const SOME_REFUSALS = 30;
 const FEW_KINDS = 3;
 const FIRST_ROWS = 20;
+// Of more differences than these there is a search, which waits so many milliseconds for the next letter.
+const FEW_DIFFERENCES = 5;
+const SEARCH_WAITS = 100;
 const MORE_ROWS = 200;
 // So many refusals are shown as text; all can be saved.
 const MOST_TEXTS = 1000;
@@ -74,11 +77,47 @@ function sized(bytes) {
 
 /** A button that saves what a function gives as a file of this name. */
 function saving(text, bytesOf, name) {
-  return button(text, () => {
-    const link = element("a", { href: URL.createObjectURL(bytesOf()), download: name });
+  return button(text, async () => {
+    const link = element("a", { href: URL.createObjectURL(await bytesOf()), download: name });
     link.click();
     setTimeout(() => URL.revokeObjectURL(link.href), 60_000);
   });
+}
+
+/** A button that copies the text that a function gives, and says so. */
+function copying(title, textOf, what) {
+  const made = button(title, async () => {
+    try {
+      await navigator.clipboard.writeText(await textOf());
+      say(`Copied: ${what}.`);
+    } catch {
+      say("The browser lets nothing be copied: save it in place of that.");
+    }
+  });
+  made.setAttribute("aria-label", `${title}: ${what}`);
+  return made;
+}
+
+/** A field that looks for words in a list. `find` shows what has all of them, and answers how many that are. */
+function searching(label, count, find) {
+  const found = element("span", { class: "hint", role: "status" });
+  const field = element("input", { type: "search", autocomplete: "off", spellcheck: "false" });
+  let waiting = null;
+  field.addEventListener("input", () => {
+    clearTimeout(waiting);
+    waiting = setTimeout(() => {
+      const words = field.value.toLowerCase().split(/\s+/).filter(Boolean);
+      const many = find(words);
+      found.textContent = words.length > 0 ? `${many.toLocaleString("en")} of ${count.toLocaleString("en")}` : "";
+    }, SEARCH_WAITS);
+  });
+  return element("p", { class: "search" }, element("label", {}, element("span", {}, label), " ", field), " ", found);
+}
+
+/** Does a text have all of some words, which are in small letters? */
+function hasWords(text, words) {
+  const small = text.toLowerCase();
+  return words.every((word) => small.includes(word));
 }
 
 // --- Files ---
@@ -339,7 +378,7 @@ function show(answer, said, upToNames) {
   const { title, more, mood } = summary(answer);
   files = answer.files.length > 0 ? answer.files : answer.schemas;
   at("answer").replaceChildren(
-    ofVerdict(title, more, mood),
+    ofVerdict(title, more, mood, () => answerAsText(title, more, files, answer.differences)),
     ...(answer.differences ? [differences(answer.differences, answer.files, upToNames)] : []),
     ...files.map((file) => ofFile(file, answer.explained)),
   );
@@ -351,10 +390,33 @@ function show(answer, said, upToNames) {
   else hear(sentence);
 }
 
-/** How an answer ends, with a button for who has mended a file since. */
-function ofVerdict(title, more, mood) {
+/** How an answer ends, with what there is to do with it. `textOf` gives its text. */
+function ofVerdict(title, more, mood, textOf) {
   const said = element("div", {}, element("h2", { id: "verdict" }, title), more && element("p", {}, more));
-  return element("div", { class: `verdict ${mood}` }, said, button("Check again", () => begin(), { id: "again" }));
+  const actions = [
+    button("Check again", () => begin(), { id: "again" }),
+    copying("Copy", textOf, "the answer"),
+    saving("Save", async () => new Blob([await textOf()], { type: "text/plain" }), "answer.txt"),
+    button("Print", () => print()),
+  ];
+  return element("div", { class: `verdict ${mood}` }, said, element("div", { class: "buttons" }, ...actions));
+}
+
+/** An answer as a text: how it ends, and what there is to say of each file and of what differs. */
+async function answerAsText(title, more, shownFiles, found) {
+  const parts = [[`${title}.`, more].filter(Boolean).join(" "), ...shownFiles.map(fileAsText)];
+  if (found) parts.push(`What differs, by the names of instances:\n${await found.text.text()}`);
+  if (found?.upToNames) parts.push(`What differs, whatever the names of instances are:\n${await found.upToNames.text.text()}`);
+  return parts.map((part) => `${part.trimEnd()}\n`).join("\n");
+}
+
+/** What there is to say of a file or a schema, as a text. */
+function fileAsText(file) {
+  const by = file.schema ? ` by ${file.schema}` : "";
+  const change = file.change ? [shown(file.change)] : [];
+  const hash = file.hash ? [`SHA-256 of the canonical file: ${file.hash}`] : [];
+  const said = file.accepted ? [file.line, ...hash] : linesOf(file, file.refusals.length);
+  return [`${file.name}${by}:`, ...change, ...said].join("\n");
 }
 
 /** What is said to a screen reader of a file that isn't accepted. */
@@ -398,14 +460,14 @@ function failed({ status, line }) {
 /** What the program says of a file or a schema. */
 function ofFile(answer, explained) {
   const made = element("div", { class: "file", "data-name": answer.name }, element("h3", {}, answer.name));
-  if (answer.schema) made.append(element("p", { class: "by" }, "by ", element("strong", {}, answer.schema)));
+  if (answer.isByShelf) made.append(element("p", { class: "by" }, "by ", element("strong", {}, answer.schema)));
   if (answer.change) made.append(element("p", { class: "change" }, element("code", {}, shown(answer.change))));
   if (!answer.accepted) {
     made.append(...ofRefusals(answer, explained));
     return made;
   }
   made.append(element("code", { class: "line" }, answer.line));
-  if (answer.canonical) made.append(element("p", { class: "hint not-checked" }, NOT_CHECKED), canonical(answer));
+  if (answer.canonical) made.append(element("p", { class: "hint not-checked" }, NOT_CHECKED), ...hashed(answer), canonical(answer));
   else made.append(element("p", {}, `${counted(answer.entities, "entity").replace("entitys", "entities")}.`));
   return made;
 }
@@ -413,6 +475,27 @@ function ofFile(answer, explained) {
 /** A part that opens and closes. */
 function fold(title, ...inner) {
   return element("details", {}, element("summary", {}, title), ...inner);
+}
+
+/** The hash of the canonical file, and the command line that makes it again. */
+function hashed(answer) {
+  if (!answer.hash) return [];
+  const hash = element("div", { class: "hash" }, element("code", {}, answer.hash), copying("Copy", () => answer.hash, "the hash"));
+  const rows = [element("dt", {}, "SHA-256 of the canonical file"), element("dd", {}, hash)];
+  if (!answer.change) {
+    const line = `p21 canon ${answer.paths.map(asWord).join(" ")} | sha256sum`;
+    const again = element("div", { class: "hash" }, element("code", { class: "again" }, line), copying("Copy", () => line, "the command line"));
+    rows.push(element("dt", {}, "The same on a command line"), element("dd", {}, again));
+  }
+  return [element("dl", {}, ...rows)];
+}
+
+/** The name of a file as a word of a command line. What changes how it reads stands there by numbers, which bash reads. */
+function asWord(name) {
+  const path = name.startsWith("-") ? `./${name}` : name;
+  if (/^[\w@%+=:,./-]+$/.test(path)) return path;
+  if (shown(path) === path) return `'${path.replaceAll("'", "'\\''")}'`;
+  return `$'${[...path].map((sign) => (sign === "'" || sign === "\\" ? `\\${sign}` : shown(sign))).join("")}'`;
 }
 
 /** The canonical file, or where it is long its beginning. */
@@ -428,13 +511,16 @@ function canonical({ name, canonical }) {
 /** The refusals of a file, one alone in full, and several by their kinds. */
 function ofRefusals(answer, explained) {
   const { refusals } = answer;
+  // What shows a refusal that is in the list.
   answer.rows = new Map();
   answer.text = element("pre", { class: "lines", tabindex: "0", role: "region", "aria-label": `${answer.name}, as text` });
   const whole = () => new Blob([`${linesOf(answer, refusals.length).join("\n")}\n`], { type: "text/plain" });
   const isLong = refusals.length > MOST_TEXTS;
   const saved = refusals.length > 1 ? saving("Save as text", whole, `${answer.name}.txt`) : null;
   const note = isLong ? hint(`The first ${MOST_TEXTS} of ${counted(refusals.length, "refusal")}.`) : null;
-  const text = fold("As text", ...[saved, note, answer.text].filter(Boolean));
+  const copied = copying("Copy as text", () => linesOf(answer, refusals.length).join("\n"), `what is said of ${answer.name}`);
+  const actions = element("div", { class: "buttons" }, saved, copied);
+  const text = fold("As text", ...[actions, note, answer.text].filter(Boolean));
   const rest = answer.rest ? element("p", { class: "rest" }, `${answer.rest[0].toUpperCase()}${answer.rest.slice(1)}.`) : null;
   if (refusals.length === 1) {
     const row = element("div", { class: "refusal" });
@@ -445,11 +531,27 @@ function ofRefusals(answer, explained) {
   }
   const kinds = Map.groupBy(refusals.keys(), (at) => kindOfRefusal(refusals[at]));
   const count = `${counted(refusals.length, "refusal")}${kinds.size > 1 ? ` of ${kinds.size} kinds` : ""}`;
-  const isFew = refusals.length <= FEW_REFUSALS;
-  const made = [...kinds].map(([kind, places]) => ofKind(answer, kind, places, explained[kind.split(" ")[0]], isFew, kinds.size));
   const last = answer.unplaced?.toLocaleString("en");
   const unplaced = answer.unplaced > 0 ? hint(`The places of the last ${last} aren’t looked for.`) : null;
-  return [element("p", { class: "count" }, count), rest, unplaced, ...made, text].filter(Boolean);
+  const list = element("div", {});
+  const find = (words) => {
+    const found = refusals.keys().filter((at) => hasWords(refusals[at].lines.join(" "), words));
+    return showKinds(answer, list, [...found], explained);
+  };
+  find([]);
+  const search = refusals.length > FEW_REFUSALS ? searching("Look for", refusals.length, find) : null;
+  return [element("p", { class: "count" }, count), rest, unplaced, search, list, text].filter(Boolean);
+}
+
+/** Shows the refusals at these places by their kinds, and answers how many they are. */
+function showKinds(answer, list, places, explained) {
+  const kinds = Map.groupBy(places, (at) => kindOfRefusal(answer.refusals[at]));
+  const isFew = places.length <= FEW_REFUSALS;
+  answer.rows.clear();
+  list.replaceChildren(
+    ...[...kinds].map(([kind, each]) => ofKind(answer, kind, each, explained[kind.split(" ")[0]], isFew, kinds.size)),
+  );
+  return places.length;
 }
 
 /** The number of a refusal, as a word; nothing of another line. */
@@ -626,10 +728,17 @@ function differences(found, files, upToNames) {
 
 /** A list of differences. */
 function listOfDifferences({ count, shown, text, verdict }, files) {
-  const made = [saving("Save as text", () => text, "differences.txt")];
+  const actions = [saving("Save as text", () => text, "differences.txt"), copying("Copy as text", () => text.text(), "the differences")];
+  const made = [element("div", { class: "buttons" }, ...actions)];
   if (verdict) made.unshift(element("p", { class: "known" }, verdict));
   if (shown.length < count) made.push(hint(`The first ${shown.length} of ${counted(count, "difference")}.`));
-  return [...made, element("ol", {}, ...shown.map((difference) => ofDifference(difference, files)))];
+  const rows = shown.map((difference) => ofDifference(difference, files));
+  const find = (words) => {
+    for (const row of rows) row.hidden = !hasWords(row.textContent, words);
+    return rows.filter((row) => !row.hidden).length;
+  };
+  const search = rows.length > FEW_DIFFERENCES ? [searching("Look for", rows.length, find)] : [];
+  return [...made, ...search, element("ol", {}, ...rows)];
 }
 
 function ofDifference({ what, texts }, files) {

@@ -93,14 +93,26 @@ function sentenceOf(bytes) {
   return new TextDecoder().decode(bytes);
 }
 
+/** The SHA-256 of bytes in hexadecimal digits; null where the browser computes none, as on a page that a server has without TLS. */
+async function hashOf(bytes) {
+  try {
+    const digest = await crypto.subtle.digest("SHA-256", bytes);
+    return [...new Uint8Array(digest)].map((byte) => byte.toString(16).padStart(2, "0")).join("");
+  } catch {
+    return null;
+  }
+}
+
 /** The job: schemas, maybe with aliases, and none, one or two files, each with its name. */
 class Job {
   constructor(program, { schemas, aliases, files, upToNames }, say) {
     this.program = program;
-    this.files = files.map((file) => ({ name: shown(file.name), text: new DroppedFile(file) }));
+    this.files = files.map((file) => ({ name: shown(file.name), path: file.name, text: new DroppedFile(file) }));
     this.upToNames = upToNames;
     this.say = say;
-    const listings = schemas.map((file) => ({ name: shown(file.name), text: new Text(new DroppedFile(file).bytes) }));
+    const listings = schemas.map((file) => {
+      return { name: shown(file.name), path: file.name, text: new Text(new DroppedFile(file).bytes) };
+    });
     this.served = { ...listings[0], change: null };
     this.listings = listings;
     this.shelf = null;
@@ -152,10 +164,11 @@ class Job {
   // Files
 
   /** What the program says of a file: its canonical file, or where it is refused. */
-  ofFile({ name, text: file }) {
+  ofFile({ name, path, text: file }) {
     const served = this.shelf ? this.shelf.serving(nameIn(file)) : this.served;
     if (!served) return notAccepted(name, 3, [withLines(withoutPlace(`no schema ${nameIn(file)} on the shelf`), name)]);
-    const said = { schema: this.shelf && served.name, change: served.change, served };
+    const paths = [this.listings.find((each) => each.name === served.name).path, path];
+    const said = { schema: served.name, paths, isByShelf: this.shelf !== null, change: served.change, served };
     const schema = this.ofSchema(served);
     if (!schema.accepted) return { ...schema, ...said };
     const heard = (path, done) => path === "file" && this.heard(name, done, file.size);
@@ -243,8 +256,9 @@ class Job {
   }
 
   /** Does the job: says the answer, and behind it the places that aren't found yet. */
-  run() {
+  async run() {
     const answer = this.answer();
+    for (const file of answer.files) if (file.accepted) file.hash = await hashOf(file.canonical);
     const refused = [...answer.schemas, ...answer.files].flatMap(({ refusals }) => refusals ?? []);
     const numbers = refused.map(({ line }) => /refused (S?\d+) /.exec(line)?.[1]).filter(Boolean);
     const explained = this.explained(new Set(numbers));
@@ -286,11 +300,11 @@ function sendableFile({ canonical, served, file, ...rest }) {
 }
 
 if (typeof WorkerGlobalScope !== "undefined") {
-  self.onmessage = ({ data }) => {
+  self.onmessage = async ({ data }) => {
     const say = (message) => self.postMessage(message);
     try {
       const program = new Program(data.module);
-      if (data.schemas) new Job(program, data, say).run();
+      if (data.schemas) await new Job(program, data, say).run();
       else say({ version: textOf(program.run(["--version"]).output).trim() });
     } catch (error) {
       say({ trouble: error instanceof Trouble ? error.message : `${error.name}: ${error.message}` });

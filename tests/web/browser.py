@@ -54,6 +54,9 @@ class Browser:
         self.rest = b""
         tab = self.call("Target.createTarget", url="about:blank")["targetId"]
         self.session = self.call("Target.attachToTarget", targetId=tab, flatten=True)["sessionId"]
+        self.downloads = os.path.join(self.folder.name, "downloads")
+        os.mkdir(self.downloads)
+        self.call("Browser.setDownloadBehavior", behavior="allow", downloadPath=self.downloads)
         self.call("Page.enable")
         self.call("Runtime.enable")
 

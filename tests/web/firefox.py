@@ -25,8 +25,16 @@ class Firefox:
     def __init__(self, desktop=None):
         """`desktop` is where its window stands, and without one it has no window."""
         self.folder = tempfile.TemporaryDirectory(prefix="firefox-", ignore_cleanup_errors=True)
+        self.downloads = os.path.join(self.folder.name, "downloads")
+        os.mkdir(self.downloads)
+        settings = {
+            "marionette.port": 0,
+            "datareporting.policy.dataSubmissionEnabled": False,
+            "browser.download.folderList": 2,
+            "browser.download.dir": self.downloads,
+        }
         with open(f"{self.folder.name}/user.js", "w") as file:
-            file.write('user_pref("marionette.port", 0);\nuser_pref("datareporting.policy.dataSubmissionEnabled", false);\n')
+            file.writelines(f"user_pref({json.dumps(name)}, {json.dumps(value)});\n" for name, value in settings.items())
         self.process = subprocess.Popen(
             [found(), *([] if desktop else ["--headless"]), "--marionette", "--no-remote", "--profile", self.folder.name],
             stdout=subprocess.DEVNULL,
