@@ -11,7 +11,9 @@ P21 names another program than ./p21. The status is 77 where there is no Chromiu
 which makes the page.
 """
 
+import gzip
 import hashlib
+import io
 import json
 import os
 import pathlib
@@ -22,6 +24,7 @@ import socket
 import subprocess
 import sys
 import time
+import zipfile
 
 import fuzz
 import needs
@@ -299,6 +302,13 @@ def shelf(page):
     page.browser.wait(f"{SAID} === 'shelf is a folder: drop the files that are in it.'")
 
 
+def forget(page):
+    """Has the schemas that the browser remembers forgotten."""
+    page.browser.wait("!document.getElementById('remembered').hidden")
+    page.browser.ask("document.getElementById('forget').click()")
+    page.browser.wait("document.getElementById('remembered').hidden")
+
+
 def others(page):
     """A schema that is refused, exchanged files, a file of another kind, and files without a schema."""
     page.tests.make("refused.exp", "SCHEMA s; ENTITY a; x : foo; END_ENTITY; END_SCHEMA;")
@@ -314,6 +324,7 @@ def others(page):
     page.tests.judge("a file in place of the schema", lines, shown["files"][0]["lines"])
     for slot in ("schema", "first", "second"):
         page.browser.ask(f"document.querySelector('[data-slot={slot}] .remove')?.click()")
+    forget(page)
     page.browser.drop([page.folder / "product.step"])
     page.browser.wait(f"{SAID} === 'Now the schema is wanted: product.step names PRODUCT_MODEL.'")
     page.browser.drop([page.folder / "product.exp"])
@@ -542,6 +553,146 @@ def on_paper(page):
     page.browser.call("Emulation.setEmulatedMedia", media="")
 
 
+def zipped(members, method=zipfile.ZIP_DEFLATED):
+    """A zip archive of these files."""
+    whole = io.BytesIO()
+    with zipfile.ZipFile(whole, "w", method) as archive:
+        for name, data in members.items():
+            archive.writestr(name, data)
+    return whole.getvalue()
+
+
+def packed(page):
+    """Files that are packed are unpacked; what can't be unpacked, or has no model or several, is told, and so are other kinds."""
+    for name in ("product.exp", "product.step", "product-changed.step"):
+        shutil.copy(ROOT / "examples" / name, page.folder)
+    in_both(page, packed_in)
+
+
+def packed_in(page, name):
+    judge, ask = page.tests.judge, page.browser.ask
+    step, listing = ((page.folder / each).read_bytes() for each in ("product.step", "product.exp"))
+    hashed = hashlib.sha256(page.program("canon", "product.exp", "product.step")[0].encode("latin-1")).hexdigest()
+    inside = {"read me.txt": b"no model", "a folder/the model.step": step}
+    for file, data, called, has_line in (
+        ("model.stpZ", gzip.compress(step), "model.stp", True),
+        ("model.step.gz", gzip.compress(step), "model.step", True),
+        ("model.ifcZIP", zipped({"model.ifc": step}), "model.ifc", True),
+        ("stored.zip", zipped(inside, zipfile.ZIP_STORED), "the model.step", shutil.which("unzip") is not None),
+    ):
+        page.tests.make(file, data)
+        shown = chosen(page, "product.exp", file)["files"][0]
+        judge(f"{file} in {name}", (called, "accepted, instances 128, canonical bytes 4872"), (shown["name"], shown["line"]))
+        judge(f"where {file} was in {name}", f"unpacked from {file}", ask("document.querySelector('.file .hint').textContent"))
+        if has_line and (file.endswith(("Z", "gz")) or shutil.which("unzip")):
+            judge(f"the hash of {file} by its command line in {name}", hashed, by_command_line(page))
+    page.tests.make("schemas.zip", zipped({"product.exp": listing}))
+    shown = chosen(page, "schemas.zip", "product.step")["files"][0]
+    judge(f"a packed schema in {name}", "accepted, instances 128, canonical bytes 4872", shown["line"])
+    judge(f"no command line for it in {name}", None, ask("document.querySelector('.again')"))
+    whole = zipped({"model.step": step}, zipfile.ZIP_STORED)
+    at = whole.index(b"CARTESIAN_POINT")
+    damaged = "{} can’t be unpacked: it is damaged, cut off or too large"
+    for file, data, said in (
+        ("cut.stpZ", gzip.compress(step)[:-20], damaged.format("cut.stpZ")),
+        ("changed.stpZ", gzip.compress(step, 0).replace(b"CARTESIAN", b"CARTESIAM"), damaged.format("changed.stpZ")),
+        ("changed.zip", whole[:at] + b"X" + whole[at + 1 :], damaged.format("changed.zip")),
+        ("cut.zip", whole[:-40], "cut.zip is a zip archive without its end"),
+        ("none.zip", zipped({"a.txt": b"a", "b.txt": b"b"}), "there is no STEP file in none.zip"),
+        ("two.zip", zipped({"a.step": step, "b.step": step}), "there are several STEP files in two.zip: unpack it, and choose one"),
+    ):
+        page.tests.make(file, data)
+        page.browser.choose("#schema", page.folder / "product.exp")
+        page.browser.choose("#first", page.folder / file)
+        wanted = f"There is no answer: {said}."
+        page.browser.wait(f"{SAID} === {json.dumps(wanted)}")
+        judge(f"{file} in {name}", True, ask("document.getElementById('answer').hidden"))
+    ask("document.querySelector('[data-slot=first] .remove').click()")
+    for file, data, kind in (
+        ("drawing.pdf", b"%PDF-1.7\n", "a PDF document"),
+        ("view.png", b"\x89PNG\r\n\x1a\n", "an image"),
+        ("part.sldprt", b"\xd0\xcf\x11\xe0\xa1\xb1\x1a\xe1", "a compound document, as native files of SolidWorks, Inventor and Revit are"),
+        ("part.CATPart", b"V5_CFV2\0", "a native file of CATIA"),
+        ("part.prt", b"#UGC:2 PART 1\n", "a native file of Creo"),
+        ("plan.dwg", b"AC1032\0", "a DWG drawing"),
+        ("mesh.stl", b"solid part\n", "an STL file"),
+        ("model.ifcXML", b'<?xml version="1.0"?>\n<ifc:ifcXML xmlns="http://www.buildingsmart-tech.org/ifcXML/IFC4">', "IFC or STEP as XML"),
+        ("model.json", b'{"type": "ifcJSON"}', "JSON"),
+        ("page.html", b"<!DOCTYPE html><title>403</title>", "a page of HTML"),
+    ):
+        page.tests.make(file, data)
+        shown = chosen(page, "product.exp", file)["files"][0]
+        judge(f"{file} in {name}", page.program("check", "product.exp", file)[1].strip(), shown["line"])
+        looks = ask("(document.querySelector('.other-kind') ?? document.querySelector('.looks')).textContent")
+        told = f"This is {kind}, and no STEP file in clear text."
+        judge(f"what {file} is in {name}", True, looks == told or looks == "this is XML or HTML, and not clear text")
+        ask("document.querySelector('[data-slot=schema] .remove').click()")
+        page.browser.wait(f"{SAID} === {json.dumps(f'{file} is {kind}, and no STEP file in clear text.')}")
+
+
+def without_schema(page):
+    """A file alone: where its listing is published, and a schema that was used before is remembered until it is forgotten."""
+    for name in ("product.exp", "product.step", "demo.exp"):
+        shutil.copy(ROOT / "examples" / name, page.folder)
+    in_both(page, without_schema_in)
+
+
+# By the table of docs/SCHEMAS.md.
+ISO = "https://standards.iso.org/iso/10303"
+PUBLISHED = {
+    "IFC4": "https://standards.buildingsmart.org",
+    "IFC2X3": "https://standards.buildingsmart.org",
+    "ifc4x3_add2": "https://standards.buildingsmart.org",
+    "AUTOMOTIVE_DESIGN { 1 0 10303 214 1 1 1 1 }": ISO,
+    "CONFIG_CONTROL_DESIGN": ISO,
+    "AP203_CONFIGURATION_CONTROLLED_3D_DESIGN_OF_MECHANICAL_PARTS_AND_ASSEMBLIES_MIM_LF": ISO,
+    "AP242_MANAGED_MODEL_BASED_3D_ENGINEERING_MIM_LF { 1 0 10303 442 3 1 4 }": ISO,
+    "PRODUCT_MODEL": None,
+}
+
+
+def without_schema_in(page, name):
+    judge, ask = page.tests.judge, page.browser.ask
+
+    def reopened():
+        page.browser.open(f"file://{page.path}")
+        page.browser.wait("document.body.dataset.ready !== undefined")
+
+    if not ask("document.getElementById('remembered').hidden"):
+        forget(page)
+    for schema, address in PUBLISHED.items():
+        page.tests.make("alone.step", file_of("", [("PRODUCT_MODEL", schema)]))
+        page.browser.choose("#first", page.folder / "alone.step")
+        first = schema.split(" ")[0]
+        page.browser.wait(f"{SAID}.startsWith('Now the schema is wanted: alone.step names {first}.')")
+        judge(f"where {first} is published, in {name}", address, ask("document.querySelector('#said a')?.getAttribute('href') ?? null"))
+    reopened()
+    chosen(page, "product.exp")
+    page.browser.wait("document.getElementById('remembered').textContent === 'This browser remembers product.exp. Forget'")
+    chosen(page, "demo.exp")
+    page.browser.wait("document.getElementById('remembered').textContent === 'This browser remembers demo.exp, product.exp. Forget'")
+    page.tests.make("refused.exp", "SCHEMA refused; ENTITY a; x : foo; END_ENTITY; END_SCHEMA;")
+    chosen(page, "refused.exp")
+    reopened()
+    page.browser.wait("document.getElementById('remembered').textContent === 'This browser remembers demo.exp, product.exp. Forget'")
+    page.browser.choose("#first", page.folder / "product.step")
+    shown = page.browser.wait(ANSWER)
+    page.judge_file(f"by a remembered schema in {name}", shown["files"][0], "product.exp", "product.step")
+    words = "By a schema that this browser remembers: product.exp. Accepted. product.step"
+    judge(f"what is said of it in {name}", words, ask(SAID))
+    slot = "document.querySelector('[data-slot=schema] .chosen').textContent"
+    judge(f"it stands in its place in {name}", True, ask(slot).startswith("product.exp"))
+    ask("document.querySelector('[data-slot=schema] .remove').click()")
+    page.browser.wait(f"{SAID} === 'Now the schema is wanted: product.step names PRODUCT_MODEL.'")
+    judge(f"taken away in {name}", "", ask(slot))
+    forget(page)
+    judge(f"forgotten in {name}", "The schemas are forgotten.", ask(SAID))
+    reopened()
+    page.browser.choose("#first", page.folder / "product.step")
+    page.browser.wait(f"{SAID} === 'Now the schema is wanted: product.step names PRODUCT_MODEL.'")
+    judge(f"nothing is remembered in {name}", True, ask("document.getElementById('remembered').hidden"))
+
+
 # Names as a stranger may choose them: one that reads backwards, one that writes to a terminal, and one that would be a script.
 HOSTILE = ["exe.\u202epets.step", "\x1b[31mred\x07.step", "<img src=x onerror=document.title='run'>.step"]
 ESCAPED = ["exe.\\u202epets.step", "\\x1b[31mred\\x07.step", "<img src=x onerror=document.title='run'>.step"]
@@ -743,7 +894,7 @@ def main():
     page.is_unproved = "unproved" in said
     try:
         groups = [examples, chance, many, stopped_on_the_way, up_to_names, large_up_to_names, shelf, others, large, people, network, in_firefox]
-        groups += [mended_files, words, hostile_names, taken_along, on_paper, large_in_both]
+        groups += [mended_files, words, hostile_names, taken_along, on_paper, packed, without_schema, large_in_both]
         for group in (*groups, want_of_memory, without_memory):
             group(page)
     finally:

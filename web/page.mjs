@@ -1,9 +1,10 @@
 // The page: files are chosen or dropped, a worker does the job, and its answer is shown.
 
-import { hasWideMemory, kindOf, namedSchema } from "./kinds.mjs";
+import { SCHEMA_TEXT, hasWideMemory, namedSchema } from "./kinds.mjs";
+import { beginningOf, otherKindOf } from "./packed.mjs";
 import { shown } from "./reading.mjs";
+import { forgetAll, remember, remembered } from "./remembered.mjs";
 
-const FRONT = 1 << 16;
 // So many schemas have a row each; of more there is one list that opens.
 const FEW_SCHEMAS = 3;
 // So many refusals are shown open, so many have all of their kinds open, and of so many kinds the first refusal is; of a kind so
@@ -31,6 +32,8 @@ const WORDS = {
 const NOT_CHECKED =
   "Not checked: the rules of the schema (WHERE, UNIQUE and RULE, INVERSE, what DERIVE computes), and whether the geometry is sound.";
 const examples = __EXAMPLES__;
+// Where listings are published: of each the schema, what FILE_SCHEMA begins with, by whom, and the address.
+const PUBLISHED = __PUBLISHED__;
 const isProved = __PROVED__;
 const chosen = { schemas: [], aliases: null, first: null, second: null };
 // Of a file that was dropped what the browser may have to read it anew, and the files that a job has read.
@@ -170,12 +173,12 @@ function putSchemas(schemas, aliases = null) {
   fill("schema", rows);
 }
 
-/** How a file begins, as a text; nothing where it can't be read. */
-async function frontOf(file) {
+/** How a file begins, or what is in it where it is packed; nothing where it can't be read. */
+async function beginning(file) {
   try {
-    return await file.slice(0, FRONT).text();
+    return await beginningOf(file);
   } catch {
-    return "";
+    return { name: file.name, front: "", kind: null };
   }
 }
 
@@ -196,7 +199,7 @@ async function slotOf(file) {
 
 /** Puts dropped files where they belong: by what they are, and otherwise where they were dropped. */
 async function sort(files, slot) {
-  const kinds = await Promise.all(files.map(async (file) => kindOf(await frontOf(file))));
+  const kinds = (await Promise.all(files.map(beginning))).map(({ kind }) => kind);
   const isSchema = (file, number) => (kinds[number] ? kinds[number] === "schema" : slot === "schema" || /\.exp$/i.test(file.name));
   const aliases = files.find((file, number) => !kinds[number] && isAliases(file)) ?? null;
   const schemas = files.filter((file, number) => file !== aliases && isSchema(file, number));
@@ -214,7 +217,59 @@ async function sort(files, slot) {
     put("second", steps[1]);
   }
   const left = steps.slice(2).map(nameOf);
-  begin(left.length > 0 ? `Left out: ${left.join(", ")}. Two files are looked at. ` : "");
+  const kept = await recall();
+  begin(left.length > 0 ? `Left out: ${left.join(", ")}. Two files are looked at. ${kept}` : kept);
+}
+
+// --- Schemas that were used before ---
+
+/** The name that a schema serves; null where it can't be told by how the text begins. */
+async function servedBy(file) {
+  const { front } = await beginning(file);
+  const heading = SCHEMA_TEXT.exec(front)?.[0];
+  return heading ? (/^\s+(\w+)/.exec(front.slice(heading.length))?.[1].toUpperCase() ?? null) : null;
+}
+
+/** Keeps schemas that the program has read for another time. */
+async function rememberAll(schemas) {
+  for (const file of schemas) {
+    const serves = await servedBy(file);
+    if (serves) await remember(serves, file);
+  }
+  await showRemembered();
+}
+
+/** Shows which schemas are kept, with a button that forgets them. */
+async function showRemembered() {
+  const kept = (await remembered()).map(nameOf);
+  const forget = async () => {
+    await forgetAll();
+    await showRemembered();
+    say("The schemas are forgotten.");
+    at("schema").focus();
+  };
+  at("remembered").hidden = kept.length === 0;
+  at("remembered").replaceChildren(`This browser remembers ${kept.join(", ")}. `, button("Forget", forget, { id: "forget" }));
+}
+
+/** Puts the schemas that the files name into their slot where none is chosen and they are remembered. Answers a sentence on that. */
+async function recall() {
+  stop();
+  const files = [chosen.first, chosen.second].filter((file) => file !== null);
+  if (chosen.schemas.length > 0 || files.length === 0) return "";
+  const named = await Promise.all(files.map(async (file) => namedSchema((await beginning(file)).front)?.toUpperCase()));
+  const found = (await remembered()).filter(({ serves }) => named.includes(serves));
+  if (found.length === 0 || chosen.schemas.length > 0) return "";
+  putSchemas(found.map(({ name, text }) => new File([text], name)));
+  return `By a schema that this browser remembers: ${found.map(nameOf).join(", ")}. `;
+}
+
+/** Where the listing of a schema is published, as a sentence; null where that isn't known. */
+function publishedAt(name) {
+  const found = PUBLISHED.find(({ names }) => names.some((each) => name.toUpperCase().startsWith(each)));
+  if (!found) return null;
+  const link = element("a", { href: `https://${found.address}`, target: "_blank", rel: "noreferrer" }, found.address);
+  return element("span", { class: "published" }, ` The listing of ${found.schema} is published by ${found.publisher}, on `, link, ".");
 }
 
 /** Says something in a sentence, to be read and heard. */
@@ -330,7 +385,10 @@ async function begin(said = "", upToNames = false) {
     if (message.trouble || message.isWhole) stop();
     if (message.progress) progress(message.progress);
     if (message.trouble) say(`There is no answer: ${shown(message.trouble)}.`);
-    if (message.answer) show(message.answer, said, upToNames);
+    if (message.answer) {
+      show(message.answer, said, upToNames);
+      rememberAll(message.answer.read.map((number) => job.schemas[number]));
+    }
     if (message.places) shownPlaces(message.places);
     at("answer").toggleAttribute("data-whole", message.isWhole === true);
     if (message.isWhole) shownLines();
@@ -347,9 +405,16 @@ function showWork(said) {
 
 /** Says of a file without a schema which one is wanted. */
 async function sayWanted(file, said) {
-  const name = namedSchema(await frontOf(file));
+  const { front, kind } = await beginning(file);
+  const name = namedSchema(front);
+  const other = kind ? null : otherKindOf(front);
   if (chosen.schemas.length > 0) return;
-  say(said, name ? `Now the schema is wanted: ${nameOf(file)} names ${shown(name)}.` : "Now the schema is wanted, an EXPRESS text.");
+  if (other) {
+    say(said, `${nameOf(file)} is ${other}, and no STEP file in clear text.`);
+    return;
+  }
+  if (name) say(said, `Now the schema is wanted: ${nameOf(file)} names ${shown(name)}.`, publishedAt(name) ?? "");
+  else say(said, "Now the schema is wanted, an EXPRESS text.");
 }
 
 /** Shows how far the job is. */
@@ -460,6 +525,11 @@ function failed({ status, line }) {
 /** What the program says of a file or a schema. */
 function ofFile(answer, explained) {
   const made = element("div", { class: "file", "data-name": answer.name }, element("h3", {}, answer.name));
+  const packed = answer.from?.unpackedBy;
+  if (packed) made.append(element("p", { class: "hint" }, `unpacked from ${shown(packed.from)}`));
+  if (answer.otherKind && !answer.refusals.some(({ looks }) => looks)) {
+    made.append(element("p", { class: "other-kind" }, `This is ${answer.otherKind}, and no STEP file in clear text.`));
+  }
   if (answer.isByShelf) made.append(element("p", { class: "by" }, "by ", element("strong", {}, answer.schema)));
   if (answer.change) made.append(element("p", { class: "change" }, element("code", {}, shown(answer.change))));
   if (!answer.accepted) {
@@ -482,12 +552,23 @@ function hashed(answer) {
   if (!answer.hash) return [];
   const hash = element("div", { class: "hash" }, element("code", {}, answer.hash), copying("Copy", () => answer.hash, "the hash"));
   const rows = [element("dt", {}, "SHA-256 of the canonical file"), element("dd", {}, hash)];
-  if (!answer.change) {
-    const line = `p21 canon ${answer.paths.map(asWord).join(" ")} | sha256sum`;
+  const line = commandLine(answer);
+  if (line) {
     const again = element("div", { class: "hash" }, element("code", { class: "again" }, line), copying("Copy", () => line, "the command line"));
     rows.push(element("dt", {}, "The same on a command line"), element("dd", {}, again));
   }
   return [element("dl", {}, ...rows)];
+}
+
+/** The command line that makes the hash of a canonical file again; null where it would want more than this. */
+function commandLine({ change, from: { listing, listingUnpackedBy, path, unpackedBy } }) {
+  if (change || listingUnpackedBy) return null;
+  if (!unpackedBy) return `p21 canon ${asWord(listing)} ${asWord(path)} | sha256sum`;
+  const { program, from, member } = unpackedBy;
+  // Of an archive unzip takes patterns for the names in it.
+  if (program === "unzip" && /[*?[\\]/.test(member)) return null;
+  const unpack = program === "gunzip" ? `gunzip < ${asWord(from)}` : `unzip -p ${asWord(from)} ${asWord(member)}`;
+  return `${unpack} | p21 canon ${asWord(listing)} /dev/stdin | sha256sum`;
 }
 
 /** The name of a file as a word of a command line. What changes how it reads stands there by numbers, which bash reads. */
@@ -785,7 +866,7 @@ for (const slot of ["first", "second"]) {
   at(slot).addEventListener("change", ({ target }) => {
     const [file] = taken(target);
     if (file) put(slot, file);
-    begin();
+    recall().then(begin);
   });
 }
 
@@ -834,6 +915,8 @@ at("module").append(
   isProved ? "" : "The gate has not passed these sources. ",
   "What runs here is WebAssembly: the same sources as the proved program’s, through LLVM’s other backend.",
 );
+
+showRemembered();
 
 if (module) {
   const asked = started({}, ({ version, trouble }) => {

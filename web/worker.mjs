@@ -4,6 +4,7 @@
 
 import { differencesOf, differencesUpToNames, equalBytes } from "./differences.mjs";
 import { GivenFile } from "./files.mjs";
+import { LOOKED_AT, otherKindOf, unpacked } from "./packed.mjs";
 import { Program, Text, Trouble } from "./program.mjs";
 import { listing, shown, textOf } from "./reading.mjs";
 import { Outline } from "./schemas.mjs";
@@ -103,16 +104,19 @@ async function hashOf(bytes) {
   }
 }
 
-/** The job: schemas, maybe with aliases, and none, one or two files, each with its name. */
+/** A file with its name as it may be shown, its name, and by which program it was unpacked. */
+function given({ file, unpackedBy }) {
+  return { name: shown(file.name), path: file.name, unpackedBy, text: new DroppedFile(file) };
+}
+
+/** The job: schemas, maybe with aliases, and none, one or two files, each with its name and unpacked. */
 class Job {
   constructor(program, { schemas, aliases, files, upToNames }, say) {
     this.program = program;
-    this.files = files.map((file) => ({ name: shown(file.name), path: file.name, text: new DroppedFile(file) }));
+    this.files = files.map(given);
     this.upToNames = upToNames;
     this.say = say;
-    const listings = schemas.map((file) => {
-      return { name: shown(file.name), path: file.name, text: new Text(new DroppedFile(file).bytes) };
-    });
+    const listings = schemas.map(given).map((each) => ({ ...each, text: new Text(each.text.bytes) }));
     this.served = { ...listings[0], change: null };
     this.listings = listings;
     this.shelf = null;
@@ -164,11 +168,12 @@ class Job {
   // Files
 
   /** What the program says of a file: its canonical file, or where it is refused. */
-  ofFile({ name, path, text: file }) {
+  ofFile({ name, path, unpackedBy, text: file }) {
     const served = this.shelf ? this.shelf.serving(nameIn(file)) : this.served;
     if (!served) return notAccepted(name, 3, [withLines(withoutPlace(`no schema ${nameIn(file)} on the shelf`), name)]);
-    const paths = [this.listings.find((each) => each.name === served.name).path, path];
-    const said = { schema: served.name, paths, isByShelf: this.shelf !== null, change: served.change, served };
+    const listed = this.listings.find((each) => each.name === served.name);
+    const from = { listing: listed, path, unpackedBy };
+    const said = { schema: served.name, from, isByShelf: this.shelf !== null, change: served.change, served };
     const schema = this.ofSchema(served);
     if (!schema.accepted) return { ...schema, ...said };
     const heard = (path, done) => path === "file" && this.heard(name, done, file.size);
@@ -176,7 +181,8 @@ class Job {
     const { output, error, status } = this.program.run(["canon", "--", "schema", "file"], files, heard);
     if (status === 0) return { ...this.accepted(name, output), ...said };
     if (status !== 1) return { ...notAccepted(name, status, [withLines(withoutPlace(error), name)]), ...said };
-    return { ...this.refused(name, files, error, heard), ...said, file };
+    const otherKind = otherKindOf(textOf(file.piece(0, LOOKED_AT)));
+    return { ...this.refused(name, files, error, heard), ...said, file, otherKind };
   }
 
   accepted(name, canonical) {
@@ -252,7 +258,8 @@ class Job {
     const isSame = compared && equalBytes(first.canonical, second.canonical);
     const verdict = compared ? (isSame ? "same" : "different") : areAccepted ? "apart" : null;
     const differences = compared && !isSame ? this.differences(first, second) : null;
-    return { schemas, files, verdict, differences };
+    const read = [...this.listings.keys()].filter((number) => this.schemas.get(this.listings[number].text)?.accepted);
+    return { schemas, files, verdict, differences, read };
   }
 
   /** Does the job: says the answer, and behind it the places that aren't found yet. */
@@ -291,7 +298,8 @@ function sendable(answer, explained) {
 }
 
 /** What is said of a file: of a canonical file the beginning, and the whole to be saved. */
-function sendableFile({ canonical, served, file, ...rest }) {
+function sendableFile({ canonical, served, file, from, ...all }) {
+  const rest = { ...all, from: from && { ...from, listing: from.listing.path, listingUnpackedBy: from.listing.unpackedBy } };
   if (!rest.accepted) return rest;
   const shown = canonical.subarray(0, SHOWN_CANONICAL);
   const end = shown.length < canonical.length ? shown.lastIndexOf(10) + 1 : shown.length;
@@ -299,12 +307,25 @@ function sendableFile({ canonical, served, file, ...rest }) {
   return { ...rest, canonical: { shown: textOf(shown.subarray(0, end)), size: canonical.length, whole } };
 }
 
+/** A job with all of its files unpacked. */
+async function unpackedJob({ schemas, files, ...rest }, say) {
+  const unpackedFile = async (file, kind) => {
+    say({ progress: { name: shown(file.name) } });
+    return unpacked(file, kind);
+  };
+  return {
+    ...rest,
+    schemas: await Promise.all(schemas.map((file) => unpackedFile(file, "schema"))),
+    files: await Promise.all(files.map((file) => unpackedFile(file, "file"))),
+  };
+}
+
 if (typeof WorkerGlobalScope !== "undefined") {
   self.onmessage = async ({ data }) => {
     const say = (message) => self.postMessage(message);
     try {
       const program = new Program(data.module);
-      if (data.schemas) await new Job(program, data, say).run();
+      if (data.schemas) await new Job(program, await unpackedJob(data, say), say).run();
       else say({ version: textOf(program.run(["--version"]).output).trim() });
     } catch (error) {
       say({ trouble: error instanceof Trouble ? error.message : `${error.name}: ${error.message}` });
