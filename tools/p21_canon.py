@@ -1,12 +1,12 @@
 """Canonical files as the tools read them: how the program is asked for one, and how one is written with other names."""
 
 import mmap
-import os
 import re
 import tempfile
 from typing import BinaryIO, Dict, Iterator, Optional, Tuple
 
 import p21_reading as reading
+import p21_system as system
 from p21_reading import shown
 
 
@@ -16,11 +16,9 @@ def handed(path: str) -> str:
         path.encode("utf-8")
     except UnicodeEncodeError:
         try:
-            descriptor = os.open(path, os.O_RDONLY)
+            path = system.held(path)
         except OSError as error:
             raise reading.Trouble(f"cannot open {shown(path)}: {error.strerror}") from None
-        os.set_inheritable(descriptor, True)
-        path = f"/dev/fd/{descriptor}"
     return str(reading.lasting(path))
 
 

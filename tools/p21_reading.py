@@ -16,7 +16,6 @@ import pathlib
 import re
 import shlex
 import shutil
-import signal
 import subprocess
 import sys
 import tempfile
@@ -43,6 +42,8 @@ from typing import (
     Union,
     overload,
 )
+
+import p21_system as system
 
 HERE = pathlib.Path(__file__).resolve().parent
 # A text as it lies in memory or in a file.
@@ -109,16 +110,13 @@ class Arguments(argparse.ArgumentParser):
 
     def parse(self) -> argparse.Namespace:
         """The command line. Options may stand among the names of files."""
-        return self.parse_intermixed_args()
+        return self.parse_intermixed_args(system.expanded(sys.argv[1:]))
 
 
 def ended(tool: str, status: int, work: Callable[[], int]) -> int:
     """The status of a tool's work. Where it can't be done, or its output can't be written, a line says why, and this is the
     status."""
-    signal.signal(signal.SIGPIPE, signal.SIG_DFL)
-    signal.signal(signal.SIGINT, signal.SIG_DFL)
-    for stream in (sys.stdout, sys.stderr):
-        stream.reconfigure(errors="backslashreplace")  # type: ignore[attr-defined]
+    system.begin()
     try:
         try:
             return work()
@@ -126,7 +124,8 @@ def ended(tool: str, status: int, work: Callable[[], int]) -> int:
             sys.stdout.flush()
     except (Trouble, OSError) as trouble:
         with contextlib.suppress(OSError):
-            print(f"{tool}: {shown(told(trouble))}", file=sys.stderr, flush=True)
+            if not system.is_closed_pipe(trouble):
+                print(f"{tool}: {shown(told(trouble))}", file=sys.stderr, flush=True)
         # What waits to be written would fail again at the end.
         for stream in (sys.stdout, sys.stderr):
             os.dup2(os.open(os.devnull, os.O_WRONLY), stream.fileno())
@@ -152,18 +151,18 @@ def find_program() -> str:
     if os.environ.get("P21"):
         return os.environ["P21"]
     repository = HERE.parent
-    if (repository / "crates.txt").exists():
+    if (repository / "crates.txt").exists() and not system.IS_WINDOWS:
         subprocess.run([repository / "p21", "--version"], stdout=subprocess.DEVNULL, check=True)
         return str(repository / "crates" / "p21" / "out" / "p21")
-    installed = (HERE.parent.parent / "bin" / "p21", pathlib.Path(sys.argv[0]).parent / "p21")
+    installed = (HERE.parent.parent / "bin" / system.PROGRAM, pathlib.Path(sys.argv[0]).parent / system.PROGRAM)
     return next((str(path) for path in installed if path.is_file()), shutil.which("p21") or "p21")
 
 
 def line_of(error: bytes, status: int) -> str:
-    """What the program wrote to its second stream, without the last line end, and the signal that ended it."""
+    """What the program wrote to its second stream, without the last line end, and what ended it, such as a signal."""
     line = error.decode("utf-8", "surrogateescape")
     line = line[:-1] if line.endswith("\n") else line
-    return line if status >= 0 else f"{line} ended by signal {-status}".lstrip()
+    return line if status >= 0 else f"{line} ended by {system.ended_by(status)}".lstrip()
 
 
 FOLDER = "it is a folder"
@@ -213,18 +212,15 @@ def lasting(path: str) -> str:
     """The path, or that of a descriptor which the program inherits: of the file, where its name isn't UTF-8, or else of a
     copy, where the program could not read it again and again. That is so of a pipe, and of what this process has open, as
     /dev/stdin, which `-` stands for. A copy is gone when this process ends."""
-    path = "/dev/stdin" if path == "-" else path
-    is_open_here = path.startswith(("/dev/", "/proc/"))
-    is_plain = os.path.isfile(path) and not is_open_here
-    if not os.path.exists(path) or os.path.isdir(path) or not os.access(path, os.R_OK):
+    path = system.STANDARD_INPUT if path == "-" else path
+    is_own_input = system.IS_WINDOWS and path == system.STANDARD_INPUT
+    is_plain = os.path.isfile(path) and not path.startswith(system.OPEN_HERE)
+    if not is_own_input and (not os.path.exists(path) or os.path.isdir(path) or not os.access(path, os.R_OK)):
         return path
     if is_plain:
-        return path if is_text(path) else inherited(os.open(path, os.O_RDONLY))
-    with tempfile.TemporaryFile() as copy:
-        with open(path, "rb", buffering=0) as file:
-            copy_of(file, copy, path)
-        copy.flush()
-        return inherited(os.dup(copy.fileno()))
+        return path if is_text(path) else system.held(path)
+    with system.standard_input() if is_own_input else open(path, "rb", buffering=0) as file:
+        return system.lasting_copy(lambda copy: copy_of(file, copy, path))
 
 
 def is_text(path: str) -> bool:
@@ -246,12 +242,6 @@ def copy_of(file: IO[bytes], copy: IO[bytes], path: str) -> None:
         copy.write(piece)
 
 
-def inherited(descriptor: int) -> str:
-    """The path of a descriptor in a program that inherits it."""
-    os.set_inheritable(descriptor, True)
-    return f"/dev/fd/{descriptor}"
-
-
 @contextlib.contextmanager
 def opened(path: str) -> Iterator[str]:
     """What `lasting` answers, for as long as a `with` block runs."""
@@ -259,8 +249,8 @@ def opened(path: str) -> Iterator[str]:
     try:
         yield found
     finally:
-        if found.startswith("/dev/fd/") and found != path:
-            os.close(int(found.rpartition("/")[2]))
+        if found != path and system.is_own(found):
+            system.let_go(found)
 
 
 def text_of(path: str) -> Text:
@@ -301,7 +291,8 @@ def run(
             )
         except OSError as error:
             raise Trouble(f"cannot run {program}: {error.strerror}") from None
-    return Answer(done.stdout or b"", line_of(done.stderr, done.returncode), done.returncode)
+    status = system.status_of(done.returncode)
+    return Answer(done.stdout or b"", line_of(done.stderr, status), status)
 
 
 REFUSAL = re.compile(r"(?:schema )?refused (S?\d+) (\w+(?:\(\w+\))?)(?: at statement (\d+)| in (#\d+))?")

@@ -59,7 +59,7 @@ def name_in(path: str) -> Optional[str]:
         return None
     try:
         with open(path, "rb") as file:
-            data = os.pread(file.fileno(), MOST_HEADER, 0)
+            data = file.read(MOST_HEADER)
         for statement in p21_files.statements(data):
             text = data[statement.start : statement.end]
             if text.startswith(b"FILE_SCHEMA"):

@@ -1,6 +1,7 @@
 """The program and its tools: ``python3 -m p21 check S FILE``, ``python3 -m p21 where S FILE``."""
 
 import os
+import subprocess
 import sys
 from typing import NoReturn
 
@@ -16,6 +17,9 @@ def main() -> NoReturn:
     except FileNotFoundError as error:
         sys.exit(str(error))
     os.environ["P21"] = known
+    if os.name == "nt":
+        # There a process doesn't become another, and whoever waits would not wait for it.
+        sys.exit(subprocess.call(command))
     os.execv(command[0], command)
 
 

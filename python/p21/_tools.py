@@ -15,6 +15,7 @@ from typing import Iterator, List, Optional, Sequence, Tuple, cast
 from p21._schema import Schema
 from p21._source import Path, Source, is_path, pieces
 
+_PROGRAM = "p21.exe" if os.name == "nt" else "p21"
 _CLONE = pathlib.Path(__file__).resolve().parents[2]
 _TOOLS = _CLONE / "tools"
 TOOLS = ("where", "diff", "renumber", "table", "adapt")
@@ -55,7 +56,7 @@ def _found(name: str, in_clone: pathlib.Path) -> Optional[str]:
 
 def program() -> str:
     """The program: ``$P21``, or that of the clone, or the one that is installed with this package."""
-    found = os.environ.get("P21") or _found("p21", _CLONE / "crates/p21/out/p21")
+    found = os.environ.get("P21") or _found(_PROGRAM, _CLONE / "crates/p21/out" / _PROGRAM)
     if found is None:
         raise FileNotFoundError("p21: the program is not here: the wheel has it, and ./p21 builds it in a clone; P21 names another one")
     return found
