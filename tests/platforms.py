@@ -30,7 +30,7 @@ OUT = ROOT / "platforms" / "out"
 sys.path[:0] = [str(ROOT / "tools"), str(TESTS / "hostile")]
 from cases import DEMO, file_of, write_all  # noqa: E402
 from release import systems  # noqa: E402
-from rigged import Rigged, Tally  # noqa: E402
+from rigged import OUT_OF_MEMORY, Rigged, Tally  # noqa: E402
 
 WINDOWS, ARM = "x86_64-windows", "aarch64-linux"
 VERSION = b"p21 0.1.0 (canonical form 1)\n"
@@ -44,7 +44,7 @@ OTHERWISE = {
         *(f"progress of {what}" for what in ("a check", "a canonical file", "a comparison")),
     ],
 }
-# Each allocation of these is refused, alone and with all behind it.
+# Each allocation of these is refused.
 REFUSED = [
     ["param", "hex"],
     ["schema", "demo.exp"],
@@ -57,6 +57,7 @@ REFUSED = [
     ["--version"],
     ["frob"],
 ]
+MISTAKEN = [["frob"]]
 STACK = 8 << 20
 # What a tool prints is the same where it runs as on Windows.
 PRODUCT = "examples/product.exp"
@@ -332,18 +333,29 @@ def starters(made, tally, here):
 
 
 def refusals(made, tally, here):
-    """Each allocation refused, alone and with all behind it, is answered as by the program for Linux, which asks as often."""
+    """Each allocation of some commands refused, and each tenth with all behind it: want of memory is answered, and nothing else. Of a
+    wrong command line alone some are done without, as often as by the program for Linux."""
+    further = set()
     with Rigged(os.environ["P21"]) as linux, Rigged(str(made.failing)) as own:
         for rigged in (linux, own):
             write_all(rigged)
         for words in REFUSED:
-            wanted, counts = linux.failing(words)
-            found = fails_itself(own, words)
-            tally.check(f"{words}, allocations", found[1].allocations, counts.allocations)
-            for on in (0, 1):
-                for at in range(1, counts.allocations + 1):
-                    wanted = linux.failing(words, REFUSE=at, REFUSE_ON=on)
-                    tally.check(f"{words}, allocation {at}{' and on' if on else ''}", fails_itself(own, words, REFUSE=at, REFUSE_ON=on), wanted)
+            plain, counts = linux.failing(words)
+            found, own_counts = fails_itself(own, words)
+            tally.check(f"{words}, with memory", found, plain if words != ["--version"] else found)
+            # The first word is longer or shorter, and is the same for each command.
+            further.add(own_counts.allocations - counts.allocations)
+            unseen = [0, 0]
+            for at in range(1, own_counts.allocations + 1):
+                for on in (0, 1) if at % 10 == 0 else (0,):
+                    found = fails_itself(own, words, REFUSE=at, REFUSE_ON=on)[0]
+                    is_unseen = words in MISTAKEN and not on and found == plain
+                    unseen[0] += is_unseen
+                    tally.check(f"{words}, allocation {at}{' and on' if on else ''}", found, plain if is_unseen else OUT_OF_MEMORY)
+            for at in range(1, counts.allocations + 1) if words in MISTAKEN else ():
+                unseen[1] += linux.failing(words, REFUSE=at)[0] == plain
+            tally.check(f"{words}, done without", unseen[0], unseen[1])
+    tally.check("as many allocations as on Linux, but for the first word", len(further), 1)
     tally.part(f"{made.name}, allocations refused")
 
 
