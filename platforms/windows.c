@@ -10,8 +10,8 @@
 /* The numbers that Linux has for errors. The program tells want of memory from all others. */
 enum { NO_SUCH_FILE = 2, INPUT_OUTPUT = 5, OUT_OF_MEMORY = 12 };
 
-/* The most bytes that are asked of the system at once. */
-enum { MOST_AT_ONCE = 1 << 30 };
+/* The most bytes that are asked of the system at once, and of a console. */
+enum { MOST_AT_ONCE = 1 << 30, MOST_OF_CONSOLE = 1 << 14 };
 
 /* The program's name for standard input, since the system has none. */
 static const char STANDARD_INPUT[] = "/dev/stdin";
@@ -139,9 +139,17 @@ int p21_open(const char *name, int flags, ...) {
     return file == INVALID_HANDLE_VALUE ? failed(error) : (int)(intptr_t)file;
 }
 
+/* Is this a console? */
+int p21_isatty(int file) {
+    DWORD mode;
+    return GetConsoleMode(handle_of(file), &mode) != 0;
+}
+
+static DWORD at_most(uint64_t count, DWORD most) { return count < most ? (DWORD)count : most; }
+
 int64_t p21_read(int file, void *into, uint64_t room) {
     DWORD count;
-    if (ReadFile(handle_of(file), into, room < MOST_AT_ONCE ? (DWORD)room : MOST_AT_ONCE, &count, NULL))
+    if (ReadFile(handle_of(file), into, at_most(room, MOST_AT_ONCE), &count, NULL))
         return count;
     DWORD error = GetLastError();
     /* Whoever wrote to a pipe has closed it. */
@@ -150,18 +158,12 @@ int64_t p21_read(int file, void *into, uint64_t room) {
 
 int64_t p21_write(int file, const void *from, uint64_t count) {
     DWORD taken;
-    if (WriteFile(handle_of(file), from, count < MOST_AT_ONCE ? (DWORD)count : MOST_AT_ONCE, &taken, NULL))
+    if (WriteFile(handle_of(file), from, at_most(count, p21_isatty(file) ? MOST_OF_CONSOLE : MOST_AT_ONCE), &taken, NULL))
         return taken;
     return failed(GetLastError());
 }
 
 int p21_close(int file) { return file == 0 || CloseHandle(handle_of(file)) ? 0 : failed(GetLastError()); }
-
-/* Is this a console? */
-int p21_isatty(int file) {
-    DWORD mode;
-    return GetConsoleMode(handle_of(file), &mode) != 0;
-}
 
 /* There are no signals: a write to a pipe that nobody reads fails. */
 int64_t __sysv_signal(int signal, int64_t handler) {

@@ -46,7 +46,7 @@ OTHERWISE = {
 }
 # Each allocation of these is refused.
 REFUSED = [
-    ["param", "hex"],
+    ["param", "list"],
     ["schema", "demo.exp"],
     ["check", "demo.exp", "point"],
     ["canon", "demo.exp", "bags"],
@@ -58,6 +58,8 @@ REFUSED = [
     ["frob"],
 ]
 MISTAKEN = [["frob"]]
+# A command of fewer allocations has each of them refused.
+FEW = 130
 STACK = 8 << 20
 # What a tool prints is the same where it runs as on Windows.
 PRODUCT = "examples/product.exp"
@@ -73,6 +75,7 @@ TOOLS = [
     ["p21-diff", "--names", PRODUCT, "examples/product.step", "{here}/renamed.step"],
     ["p21-diff", "--names", "--pairing", "{here}/pairs", PRODUCT, "examples/product.step", "{here}/renamed.step"],
     ["p21-renumber", PRODUCT, "examples/product.step", "{here}/pairs"],
+    ["p21-renumber", PRODUCT, "examples/product.step", "{here}/ünïcode name.step"],
     ["p21-table", PRODUCT, "examples"],
     ["p21-table", "--names", "--format", "jsonl", PRODUCT, "examples"],
     ["p21-table", "--schemas", "{here}/shelf", "--format", "tsv", "examples/product.step", "{here}/ünïcode name.step"],
@@ -333,12 +336,14 @@ def starters(made, tally, here):
 
 
 def refusals(made, tally, here):
-    """Each allocation of some commands refused, and each tenth with all behind it: want of memory is answered, and nothing else. Of a
-    wrong command line alone some are done without, as often as by the program for Linux."""
+    """Each allocation of some commands refused, of longer ones each third, and some with all behind them: want of memory is answered,
+    and nothing else. Of a wrong command line alone some are done without, as often as by the program for Linux."""
     further = set()
     with Rigged(os.environ["P21"]) as linux, Rigged(str(made.failing)) as own:
         for rigged in (linux, own):
             write_all(rigged)
+            rigged.write("list", "(1,(2.50,'a'),.T.,#7)")
+            rigged.write("several", file_of("#1=POINT($,1.,1.);\n#2=POINT($,1.);\n#3=CLOUD((#1,#2,#9),(),(TALLY(1)));\n"))
         for words in REFUSED:
             plain, counts = linux.failing(words)
             found, own_counts = fails_itself(own, words)
@@ -346,8 +351,8 @@ def refusals(made, tally, here):
             # The first word is longer or shorter, and is the same for each command.
             further.add(own_counts.allocations - counts.allocations)
             unseen = [0, 0]
-            for at in range(1, own_counts.allocations + 1):
-                for on in (0, 1) if at % 10 == 0 else (0,):
+            for at in range(1, own_counts.allocations + 1, 1 if own_counts.allocations < FEW else 3):
+                for on in (0, 1) if at % 10 == 1 else (0,):
                     found = fails_itself(own, words, REFUSE=at, REFUSE_ON=on)[0]
                     is_unseen = words in MISTAKEN and not on and found == plain
                     unseen[0] += is_unseen

@@ -14,7 +14,7 @@ FLAGS = ("-std=c11", "-Wall", "-Wextra", "-Werror", "-O2", "-s", f"-ffile-prefix
 
 class System(NamedTuple):
     """How the program and the library are made for a system: the target, the compiler that links them and its package, the
-    packages whose code is linked in, the files of C of the program, the words for it and for the library, what both are called,
+    libraries of other packages that are linked in, the files of C of the program, the words for it and for the library, what both are called,
     and what wheels call the system."""
 
     target: Target
@@ -53,7 +53,7 @@ SYSTEMS = {
         ),
         compiler="x86_64-w64-mingw32-gcc",
         package="gcc-mingw-w64-x86-64",
-        linked=("mingw-w64-x86-64-dev", "gcc-mingw-w64-base"),
+        linked=("libmingw32.a", "libgcc.a"),
         host=("windows.c", "memory.c"),
         program_words=("-municode", "-static", "-Wl,--stack,8388608", "-Wl,--no-insert-timestamp"),
         library_words=("-shared", "-static", "-Wl,--no-insert-timestamp", "p21.def"),
@@ -71,7 +71,7 @@ SYSTEMS = {
         ),
         compiler="aarch64-linux-gnu-gcc",
         package="gcc-aarch64-linux-gnu",
-        linked=("libc6-dev-arm64-cross", "libgcc-12-dev-arm64-cross"),
+        linked=("libc.a", "libgcc.a"),
         host=("posix.c", "memory.c"),
         program_words=("-static", "-Wl,--build-id=none"),
         library_words=(
