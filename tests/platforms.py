@@ -145,7 +145,8 @@ class Made:
     def linked_failing(self):
         """The program over a host that fails as it is told."""
         wrapped = ["rattle_alloc", "rattle_realloc", *(("p21_read", "p21_write") if self.name == WINDOWS else ("read", "write"))]
-        output = self.folder / f"failing-{self.system.program}"
+        output = self.folder / "linked" / self.system.program
+        output.parent.mkdir()
         words = systems.linking_program(self.system, "a test's")
         further = [TESTS / "platforms" / "failing_host.c", *(f"-Wl,--wrap={name}" for name in wrapped)]
         subprocess.run([*words, *further, "-o", output], check=True)
@@ -181,7 +182,7 @@ def files(made, tally):
             tally.check(f"{name} wants no other file", set(re.findall(r"DLL Name: (\S+)", said[name])), {"KERNEL32.dll", "msvcrt.dll"})
         stack = re.search(r"SizeOfStackReserve\s+([0-9a-f]+)", said["p21.exe"])
         tally.check("the stack", int(stack[1], 16), STACK)
-        exported = set(re.findall(r"\[ *\d+\] \+base\[ *\d+\]  ?(?:[0-9a-f]+ )?(p21_\w+)", said["p21.dll"]))
+        exported = set(re.findall(r" (p21_\w+)$", said["p21.dll"].partition("[Ordinal/Name Pointer] Table")[2], re.M))
     else:
         tally.check("p21 wants no other file", "NEEDED" in said["p21"], False)
         tally.check("libp21.so wants the C library alone", re.findall(r"NEEDED +(\S+)", said["libp21.so"]), ["libc.so.6"])
@@ -421,7 +422,7 @@ def tools(made, tally, here):
         wanted = answer([ROOT / "tools" / tool, *given], **more)
         found = answer([sys.executable, TESTS / "platforms" / "as_windows.py", tool, *given], env=as_windows, **more)
         tally.check(f"{tool} {rest}", found, wanted)
-    tally.check("no copy is left", list(copies.iterdir()), [])
+    tally.check("no copy is left", [path.name for path in copies.iterdir() if not path.name.startswith("wine")], [])
     tally.part(f"{made.name}, the tools")
 
 
