@@ -26,6 +26,19 @@ import texts
 
 ROOT = pathlib.Path(__file__).resolve().parent.parent
 BUILT = ("crates/p21/out/p21", "crates/p21/out/p21.o", "crates/p21_c/out/libp21_c.a")
+# What is compiled for other systems, with a note of what it was made of.
+OTHERS = ("aarch64-linux", "x86_64-windows")
+FOR_OTHERS = [f"platforms/out/{system}/{name}" for system in OTHERS for name in ("p21.o", "p21.made-of", "p21_c.o", "p21_c.made-of")]
+# Of the files of a release the tarball and the wheel of this system.
+TARBALL, WHEEL = "*-x86_64-linux.tar.gz", "*manylinux*_x86_64.whl"
+# What wheels call the other systems, and the files in their packages that are other than here.
+TAGS = {"aarch64-linux": "manylinux2014_aarch64", "x86_64-windows": "win_amd64"}
+OWN = {
+    "aarch64-linux": {"bin/p21", "bin/p21-where", "lib/libp21.so", "lib/libp21.so.0", "lib/pkgconfig/p21.pc", "include/p21.h"},
+    "x86_64-windows": {"bin/p21.exe", "bin/p21-where.cmd", "bin/p21.dll", "lib/p21.lib", "lib/p21/p21-where", "include/p21.h"},
+}
+# The first bytes of a program for each.
+BEGINS = {"aarch64-linux": b"\x7fELF", "x86_64-windows": b"MZ"}
 SYSTEM = {"PATH": "/usr/sbin:/usr/bin:/sbin:/bin", "HOME": "/tmp", "LC_ALL": "C.UTF-8", "PIP_NO_INDEX": "1"}
 # The program and the library want no newer C library.
 NEWEST = (2, 17)
@@ -108,8 +121,8 @@ def clone(folder):
     must(*git, "init", "-q", cwd=folder)
     must(*git, "add", "-A", cwd=folder)
     must(*git, "commit", "-q", "-m", "What stands here", cwd=folder)
-    for name in filter(lambda name: (ROOT / name).is_file(), BUILT):
-        (folder / name).parent.mkdir(exist_ok=True)
+    for name in filter(lambda name: (ROOT / name).is_file(), (*BUILT, *FOR_OTHERS)):
+        (folder / name).parent.mkdir(parents=True, exist_ok=True)
         shutil.copy2(ROOT / name, folder / name)
 
 
@@ -175,6 +188,10 @@ def records(parts, folder):
     if len(crates) < 2:
         parts.leave_out("a whole release", f"there is no {BUILT[2]}: tools/build-library builds it")
         return
+    missing = [name for name in FOR_OTHERS if not (ROOT / name).is_file()]
+    if missing:
+        parts.leave_out("a whole release", f"there is no {missing[0]}: tools/build-for --library makes it")
+        return
     status, output = make_release(tree, release, P21_KEEP="1")
     parts.judge("a release of what is proved", 0, status)
     if status != 0:
@@ -222,8 +239,8 @@ def files(parts, release, again, folder):
     listed = [line.split("  ")[1] for line in (release / "SHA256SUMS").read_text().splitlines()]
     parts.judge("what has a checksum", [name for name in names if name != "SHA256SUMS"], listed)
     found = {}
-    for package in ("tar.gz", "whl"):
-        for path in release.glob(f"*.{package}"):
+    for package, pattern in (("tar.gz", TARBALL), ("whl", WHEEL)):
+        for path in release.glob(pattern):
             shutil.unpack_archive(path, folder / package, "zip" if package == "whl" else "gztar")
             found |= {f"{package}: {it.relative_to(folder)}": it for it in (folder / package).rglob("*") if is_elf(it)}
     if shutil.which("dpkg-deb"):
@@ -249,6 +266,37 @@ def pages_for_users():
     """The pages that README names for users, and itself."""
     listed = (ROOT / "README.md").read_text().partition("\nFor users:\n")[2].partition("\nFor auditors:\n")[0]
     return {"README.md", *re.findall(r"^- `(?:docs/)?(\w+\.md)`", listed, re.M)}
+
+
+def others(parts, release, folder):
+    """The packages for other systems: each has what is wanted there and nothing of this system's, and pip takes the wheel of a system
+    there alone."""
+    for system, tag in TAGS.items():
+        packed = next((path for path in release.iterdir() if re.search(rf"-{system}\.(zip|tar\.gz)$", path.name)), None)
+        if packed is None:
+            parts.leave_out(f"the packages for {system}", f"there is no platforms/out/{system}/p21_c.o: tools/build-for --library makes it")
+            continue
+        shutil.unpack_archive(packed, folder / system)
+        top = next((folder / system).iterdir())
+        names = {str(path.relative_to(top)) for path in top.rglob("*") if not path.is_dir()}
+        parts.judge(f"{packed.name}: its name", packed.name.removesuffix(".zip").removesuffix(".tar.gz"), top.name)
+        parts.judge(f"{packed.name}: what it has", OWN[system], OWN[system] & names)
+        program = top / min(OWN[system] & {"bin/p21", "bin/p21.exe"})
+        parts.judge(f"{packed.name}: the program", BEGINS[system], program.read_bytes()[: len(BEGINS[system])])
+        here_alone = [path for path in top.rglob("*") if is_elf(path) and (system != "aarch64-linux" or path.read_bytes()[18:20] != b"\xb7\x00")]
+        parts.judge(f"{packed.name}: programs of this system", [], here_alone)
+        shown = {name for name in names if name.startswith(("share/man/", "share/zsh/"))}
+        parts.judge(f"{packed.name}: manuals", system != "x86_64-windows", bool(shown))
+        licensed = [name for name in names if name.startswith("share/doc/p21/licenses/") and name.endswith("-copyright")]
+        parts.judge(f"{packed.name}: licenses of what is linked in", 2, len(licensed))
+        target = folder / f"{system}-wheel"
+        words = ["-m", "pip", "install", "--quiet", "--no-index", "--find-links", release, "--only-binary=:all:", "--platform", tag, "--target", target, "p21"]
+        if run(sys.executable, *words)[0] != 0:
+            parts.judge(f"the wheel for {system}", "installed", run(sys.executable, *words)[1])
+            continue
+        library = target / "p21" / ("p21.dll" if tag == "win_amd64" else "libp21.so")
+        parts.judge(f"the wheel for {system}: the library", (True, BEGINS[system]), (library.is_file(), library.read_bytes()[: len(BEGINS[system])]))
+        parts.judge(f"the wheel for {system}: the program", True, (target / "bin" / program.name).is_file())
 
 
 def is_elf(path):
@@ -356,7 +404,7 @@ def program_in_c(parts, release, folder):
     folder.mkdir()
     (folder / "program.c").write_text(re.search(r"^```c\n(.*?)^```", page, re.M | re.S)[1])
     lines = textwrap.dedent(re.search(r"(?:^    .*\n)+", page[page.index("    export PKG_CONFIG_PATH") :], re.M)[0])
-    must("tar", "xzf", next(release.glob("*.tar.gz")), "-C", folder)
+    must("tar", "xzf", next(release.glob(TARBALL)), "-C", folder)
     prefix = next(folder.glob("p21-*"))
     (folder / "examples").symlink_to(ROOT / "examples")
     output = here(folder, lines.replace("PREFIX", str(prefix)))
@@ -366,9 +414,9 @@ def program_in_c(parts, release, folder):
 def packages_here(parts, release, folder):
     """The packages that need no root, on this system."""
     tried(parts, "here", here, release, folder / "here-tar", "tar.gz")
-    if list(release.glob("*.whl")):
+    if list(release.glob(WHEEL)):
         program_in_c(parts, release, folder / "here-c")
-    if not list(release.glob("*.whl")):
+    if not list(release.glob(WHEEL)):
         return
     if run("/usr/bin/python3", "-c", "import ensurepip", env=SYSTEM)[0] != 0:
         parts.leave_out("the wheel here", "the Python of this system has no venv")
@@ -395,12 +443,13 @@ def main():
             if status != 0:
                 sys.exit(output)
         files(parts, release, folder / "again", folder / "unpacked")
+        others(parts, release, folder / "others")
         packages_here(parts, release, folder)
         root = debian(parts, folder, given)
         if root:
             shell = below(root)
-            for package in ("tar.gz", "whl", "deb"):
-                if list(release.glob(f"*.{package}")):
+            for package, pattern in (("tar.gz", TARBALL), ("whl", WHEEL), ("deb", "*.deb")):
+                if list(release.glob(pattern)):
                     tried(parts, "Debian 11", shell, release, root / "tmp" / package, package)
             removed(parts, shell, root)
     return parts.end()

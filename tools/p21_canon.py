@@ -7,6 +7,7 @@ import tempfile
 from typing import BinaryIO, Dict, Iterator, Optional, Tuple
 
 import p21_reading as reading
+import p21_system as system
 from p21_reading import shown
 
 # How a canonical file begins and ends, and what is said of a program that gives something else.
@@ -30,9 +31,7 @@ def handed(path: str) -> str:
     try:
         path.encode("utf-8")
     except UnicodeEncodeError:
-        descriptor = os.open(path, os.O_RDONLY)
-        os.set_inheritable(descriptor, True)
-        path = f"/dev/fd/{descriptor}"
+        path = system.held(path)
     return str(reading.lasting(path))
 
 

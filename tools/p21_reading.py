@@ -18,7 +18,6 @@ import pathlib
 import re
 import shlex
 import shutil
-import signal
 import stat
 import subprocess
 import sys
@@ -48,14 +47,14 @@ from typing import (
     overload,
 )
 
+import p21_system as system
+
 HERE = pathlib.Path(__file__).resolve().parent
 # A text as it lies in memory or in a file.
 Text = Union[bytes, bytearray, mmap.mmap]
 Piece = Union[bytes, bytearray, memoryview]
 PIECE = 1 << 20
 FURTHER = "a further schema, for files that name another one; may be given several times"
-# Where what a process has open has a path, which means something else to another process.
-OPEN_HERE = ("/dev/", "/proc/")
 # So many bytes are copied of what is no plain file, as a pipe or a device.
 MOST_COPIED = 1 << 30
 
@@ -140,21 +139,18 @@ class Arguments(argparse.ArgumentParser):
 
     def parse(self) -> argparse.Namespace:
         """The command line. Options may stand among the names of files."""
-        return self.parse_intermixed_args()
+        return self.parse_intermixed_args(system.expanded(sys.argv[1:]))
 
 
 def ended(tool: str, status: int, work: Callable[[], int]) -> int:
     """The status of a tool's work. Where it can't be done, or its output can't be written, a line says why, and this is the
     status."""
-    signal.signal(signal.SIGPIPE, signal.SIG_DFL)
-    signal.signal(signal.SIGINT, signal.SIG_DFL)
     # A stream that is closed is None, and what is printed to it would go elsewhere.
     sys.stderr = sys.stderr or open(os.devnull, "w", encoding="utf-8")
     if not sys.stdout:
         print(f"{tool}: standard output is closed", file=sys.stderr)
         return status
-    for stream in (sys.stdout, sys.stderr):
-        stream.reconfigure(errors="backslashreplace")  # type: ignore[attr-defined]
+    system.begin()
     try:
         try:
             return work()
@@ -162,11 +158,11 @@ def ended(tool: str, status: int, work: Callable[[], int]) -> int:
             sys.stdout.flush()
     except Exception as trouble:
         with contextlib.suppress(OSError):
-            if isinstance(trouble, TROUBLES):
-                print(f"{tool}: {shown(told(trouble))}", file=sys.stderr, flush=True)
-            else:
+            if not isinstance(trouble, TROUBLES):
                 # A fault of the tool itself is no answer either.
                 traceback.print_exc()
+            elif not system.is_closed_pipe(trouble):
+                print(f"{tool}: {shown(told(trouble))}", file=sys.stderr, flush=True)
         # What waits to be written would fail again at the end.
         for stream in (sys.stdout, sys.stderr):
             os.dup2(os.open(os.devnull, os.O_WRONLY), stream.fileno())
@@ -201,22 +197,22 @@ def find_program() -> str:
     if os.environ.get("P21"):
         return os.environ["P21"]
     repository = HERE.parent
-    if (repository / "crates.txt").exists():
+    if (repository / "crates.txt").exists() and not system.IS_WINDOWS:
         built = subprocess.run([repository / "p21", "--version"], stdout=subprocess.DEVNULL, check=False)
         if built.returncode != Status.DONE:
             raise Trouble(f"the program of {repository} could not be built")
         return str(repository / "crates" / "p21" / "out" / "p21")
-    installed = (HERE.parent.parent / "bin" / "p21", pathlib.Path(sys.argv[0]).parent / "p21")
+    installed = (HERE.parent.parent / "bin" / system.PROGRAM, pathlib.Path(sys.argv[0]).parent / system.PROGRAM)
     return next((str(path) for path in installed if path.is_file()), shutil.which("p21") or "p21")
 
 
 def line_of(error: bytes, status: int) -> str:
-    """What the program wrote to its second stream, without the last line end, and the signal that ended it, or the status where
+    """What the program wrote to its second stream, without the last line end, and what ended it, such as a signal, or the status where
     it isn't one of its own, or where nothing else is said."""
     line = error.decode("utf-8", "surrogateescape")
     line = line[:-1] if line.endswith("\n") else line
     if status < 0:
-        return f"{line} ended by signal {-status}".lstrip()
+        return f"{line} ended by {system.ended_by(status)}".lstrip()
     return f"{line} ended with status {status}".lstrip() if status > Status.FAILED or (status and not line) else line
 
 
@@ -353,18 +349,15 @@ def lasting(path: str) -> str:
     """The path, or that of a descriptor which the program inherits: of the file, where its name isn't UTF-8, or else of a
     copy, where the program could not read it again and again. That is so of a pipe, and of what this process has open, as
     /dev/stdin, which `-` stands for. A copy is gone when this process ends."""
-    path = "/dev/stdin" if path == "-" else path
-    is_open_here = path.startswith(OPEN_HERE)
-    is_plain = os.path.isfile(path) and not is_open_here
-    if not os.path.exists(path) or os.path.isdir(path) or not os.access(path, os.R_OK):
+    path = system.STANDARD_INPUT if path == "-" else path
+    is_own_input = system.IS_WINDOWS and path == system.STANDARD_INPUT
+    is_plain = os.path.isfile(path) and not path.startswith(system.OPEN_HERE)
+    if not is_own_input and (not os.path.exists(path) or os.path.isdir(path) or not os.access(path, os.R_OK)):
         return path
     if is_plain:
-        return path if is_text(path) else inherited(os.open(path, os.O_RDONLY))
-    with tempfile.TemporaryFile() as copy:
-        with open(path, "rb", buffering=0) as file:
-            copy_of(file, copy, path)
-        copy.flush()
-        return inherited(os.dup(copy.fileno()))
+        return path if is_text(path) else system.held(path)
+    with system.standard_input() if is_own_input else open(path, "rb", buffering=0) as file:
+        return system.lasting_copy(lambda copy: copy_of(file, copy, path))
 
 
 def is_text(path: str) -> bool:
@@ -386,12 +379,6 @@ def copy_of(file: IO[bytes], copy: IO[bytes], path: str) -> None:
         copy.write(piece)
 
 
-def inherited(descriptor: int) -> str:
-    """The path of a descriptor in a program that inherits it."""
-    os.set_inheritable(descriptor, True)
-    return f"/dev/fd/{descriptor}"
-
-
 @contextlib.contextmanager
 def opened(path: str) -> Iterator[str]:
     """What `lasting` answers, for as long as a `with` block runs."""
@@ -399,8 +386,8 @@ def opened(path: str) -> Iterator[str]:
     try:
         yield found
     finally:
-        if found.startswith("/dev/fd/") and found != path:
-            os.close(int(found.rpartition("/")[2]))
+        if found != path and system.is_own(found):
+            system.let_go(found)
 
 
 def text_of(path: str) -> bytes:
@@ -440,7 +427,8 @@ def run(
             )
         except OSError as error:
             raise cannot_run(program, error) from None
-    return Answer(done.stdout or b"", line_of(done.stderr, done.returncode), status_of(done.returncode))
+    status = system.status_of(done.returncode)
+    return Answer(done.stdout or b"", line_of(done.stderr, status), status_of(status))
 
 
 def answered(answer: Answer) -> Answer:
@@ -550,7 +538,7 @@ def listing(program: str, schema: str, most: int) -> Optional[Mapping[str, List[
                 listed.kill()
                 return None
         errors.seek(0)
-        error = line_of(errors.read(), listed.returncode)
+        error = line_of(errors.read(), system.status_of(listed.returncode))
     if listed.returncode != Status.DONE:
         raise Trouble(error)
     attributes = Attributes(text)

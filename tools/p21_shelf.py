@@ -120,7 +120,8 @@ def name_in(path: str) -> Optional[str]:
     try:
         with open(path, "rb") as file:
             while True:
-                data = os.pread(file.fileno(), size, 0)
+                file.seek(0)
+                data = file.read(size)
                 is_read, name = name_of(data)
                 if is_read or len(data) < size or size >= MOST_HEADER:
                     return name

@@ -46,7 +46,7 @@ class CursorStruct(ctypes.Structure):
 
 def _path() -> str:
     named = os.environ.get("P21_LIBRARY")
-    return named if named else str(pathlib.Path(__file__).resolve().parent / "libp21.so")
+    return named if named else str(pathlib.Path(__file__).resolve().parent / ("p21.dll" if os.name == "nt" else "libp21.so"))
 
 
 def _declared() -> Any:

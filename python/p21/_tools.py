@@ -16,6 +16,7 @@ from typing import Iterator, List, Optional, Sequence, Tuple, cast
 from p21._schema import SchemaOrPath, schema_of
 from p21._source import Path, Source, is_path, pieces
 
+_PROGRAM = "p21.exe" if os.name == "nt" else "p21"
 _CLONE = pathlib.Path(__file__).resolve().parents[2]
 _TOOLS = _CLONE / "tools"
 OUT_OF_MEMORY = "p21: out of memory"
@@ -57,7 +58,7 @@ def _found(name: str, in_clone: pathlib.Path) -> Optional[str]:
 
 def program() -> str:
     """The program: ``$P21``, or that of the clone, or the one that is installed with this package."""
-    found = os.environ.get("P21") or _found("p21", _CLONE / "crates/p21/out/p21")
+    found = os.environ.get("P21") or _found(_PROGRAM, _CLONE / "crates/p21/out" / _PROGRAM)
     if found is None:
         raise FileNotFoundError("p21: the program is not here: the wheel has it, and ./p21 builds it in a clone; P21 names another one")
     return found

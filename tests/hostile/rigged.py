@@ -1,6 +1,7 @@
 """The program p21, run by itself or with a library that lets its allocations, reads and writes fail.
 
-The environment variable P21 names the program; without it, it is ./p21 of the repository.
+The environment variable P21 names the program; without it, it is ./p21 of the repository. Where P21_FAILS_ITSELF is set, the
+program has in it what the library does, and none is loaded.
 """
 
 import collections
@@ -67,7 +68,9 @@ class Rigged:
         `meanwhile` is called once, where the program stops itself.
         """
         environment = {name: str(value) for name, value in failures.items()}
-        environment.update(LD_PRELOAD=str(self.library), COUNTS=str(self.counts))
+        if not os.environ.get("P21_FAILS_ITSELF"):
+            environment.update(LD_PRELOAD=str(self.library))
+        environment.update(COUNTS=str(self.counts))
         self.counts.write_text("0 0 0 0")
         answer = self.spawned(arguments, environment, meanwhile)
         return answer, Counts(*map(int, self.counts.read_text().split()))

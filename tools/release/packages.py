@@ -1,4 +1,4 @@
-"""The packages of a release, from its files below a prefix: a tarball, a package of Debian and a wheel.
+"""The packages of a release, from its files below a prefix: a tarball, an archive for Windows, a package of Debian and a wheel.
 
 Each is the same byte for byte for the same files: times are those that are given, owners are root, and the files stand in the
 order in which they are given.
@@ -19,13 +19,12 @@ import tarfile
 import tempfile
 import time
 import zipfile
-from typing import Any, Dict, Iterable, Mapping, NamedTuple, Tuple
+from typing import Any, Dict, Iterable, Mapping, NamedTuple, Sequence, Tuple
 
 ABOUT = "says whether two STEP files (ISO 10303-21) hold the same model"
 MAINTAINER = "The authors of p21 <p21@localhost>"
-# The version of the C library that wheels and Debian's package name, and what wheels call systems that have it.
+# The version of the C library that wheels and Debian's package name.
 C_LIBRARY = "2.17"
-PLATFORMS = ("manylinux_2_17_x86_64", "manylinux2014_x86_64")
 COPYRIGHT = """\
 Format: https://www.debian.org/doc/packaging-manuals/copyright-format/1.0/
 Upstream-Name: p21
@@ -44,6 +43,12 @@ BEFORE_REMOVAL = """\
 set -e
 rm -rf /usr/lib/p21/__pycache__
 """
+
+
+# The library in the Python package, on Linux and on Windows.
+LIBRARIES = ("libp21.so", "p21.dll")
+# What isn't there on Windows begins so.
+OF_POSIX = ("bin/p21", "share/man/", "share/bash-completion/", "share/zsh/", "share/fish/")
 
 
 class Entry(NamedTuple):
@@ -134,8 +139,31 @@ Description: {ABOUT}
         subprocess.run(words, env=times, stdout=subprocess.DEVNULL, check=True)
 
 
+def for_windows(entries: Entries, starter: str) -> Dict[str, Entry]:
+    """The files as Windows has them: each tool is started by a file of its name beside the program, and no manual or completion is
+    there, since no program shows them."""
+    found = {}
+    cmd = Entry(starter.replace("\n", "\r\n").encode(), True)
+    for name, entry in entries.items():
+        folder, _, base = name.rpartition("/")
+        if folder == "lib/p21" and entry.is_program:
+            found[f"bin/{base}.cmd"] = cmd
+        if not entry.leads_to and not name.startswith(OF_POSIX):
+            found[name] = entry
+    return dict(sorted(found.items()))
+
+
+def development_entries(root: pathlib.Path, version: str, library: Mapping[str, Entry]) -> Dict[str, Entry]:
+    """What a program is compiled over: the library's files with the headers, and what pkg-config and CMake ask for."""
+    found = {f"include/{path.name}": Entry(path.read_bytes()) for path in (root / "include").iterdir()}
+    for name, folder in {"p21.pc": "pkgconfig", "p21Config.cmake": "cmake/p21", "p21ConfigVersion.cmake": "cmake/p21"}.items():
+        text = (root / "tools" / "library" / name).read_text().replace("@VERSION@", version)
+        found[f"lib/{folder}/{name}"] = Entry(text.encode())
+    return {**found, **library}
+
+
 def wheel_entries(
-    version: str, settings: Mapping[str, Any], root: pathlib.Path, entries: Entries, library: pathlib.Path
+    version: str, settings: Mapping[str, Any], root: pathlib.Path, entries: Entries, library: pathlib.Path, platforms: Sequence[str]
 ) -> Dict[str, Entry]:
     """The files of a wheel: the Python package of a repository with the library in it; the program and the tools as scripts,
     and what the tools share as modules; and what goes to `share`."""
@@ -144,11 +172,13 @@ def wheel_entries(
     patterns = ["*.py", *settings["tool"]["setuptools"]["package-data"]["p21"]]
     files = sorted(path for pattern in patterns for path in package.glob(pattern))
     found = {f"p21/{path.relative_to(package)}": Entry(path.read_bytes()) for path in files}
-    found["p21/libp21.so"] = Entry(library.read_bytes(), True)
+    named = LIBRARIES[library.suffix == ".dll"]
+    found.pop(f"p21/{LIBRARIES[0]}", None)
+    found[f"p21/{named}"] = Entry(library.read_bytes(), True)
     for name, entry in entries.items():
         folder, _, base = name.rpartition("/")
-        if name == "bin/p21":
-            found[f"{data}/scripts/p21"] = entry
+        if folder == "bin" and not entry.leads_to:
+            found[f"{data}/scripts/{base}"] = entry
         elif folder == "lib/p21" and entry.is_program:
             # pip puts its own Python in place of this word.
             script = re.sub(rb"\A#!.*python3\n", b"#!python\n", entry.content)
@@ -167,7 +197,7 @@ def wheel_entries(
         "Description-Content-Type": "text/markdown",
     }
     wheel = [("Wheel-Version", "1.0"), ("Generator", "tools/make-release"), ("Root-Is-Purelib", "false")]
-    wheel += [("Tag", f"py3-none-{platform}") for platform in PLATFORMS]
+    wheel += [("Tag", f"py3-none-{platform}") for platform in platforms]
     readme = (root / "python/README.md").read_text()
     found[f"{dist}/LICENSE"] = Entry((root / "LICENSE").read_bytes())
     found[f"{dist}/METADATA"] = Entry(message(about.items(), readme))
@@ -194,11 +224,11 @@ def listing(entries: Entries, own: str) -> bytes:
     return text.getvalue().encode()
 
 
-def wheel(path: pathlib.Path, entries: Entries, when: int) -> None:
-    """A wheel."""
-    with zipfile.ZipFile(path, "w") as archive:
+def archive(path: pathlib.Path, entries: Entries, when: int) -> None:
+    """A zip archive, as a wheel is one too."""
+    with zipfile.ZipFile(path, "w") as packed:
         for name, entry in entries.items():
             info = zipfile.ZipInfo(name, time.gmtime(when)[:6])
             info.compress_type, info.create_system = zipfile.ZIP_DEFLATED, 3
             info.external_attr = (0o100755 if entry.is_program else 0o100644) << 16
-            archive.writestr(info, entry.content, compresslevel=9)
+            packed.writestr(info, entry.content, compresslevel=9)

@@ -1,0 +1,37 @@
+/* What a host shares with another: how it answers the program, which is compiled through another backend of LLVM than the
+ * gate's. The toolchain's own C code answers on Linux on x86-64 (`libos_c.a`), and the contracts of the standard library say
+ * what each call answers; a failed one leaves its error under the number that Linux has for it. */
+#ifndef HOST_H
+#define HOST_H
+
+#include <stdbool.h>
+#include <stddef.h>
+#include <stdint.h>
+#include <string.h>
+
+/* The status of a run whose answer can't be written, or that found no memory. */
+enum { FAILED = 3 };
+
+/* The answers of rattle_arg that are no count: there is no such word, and the word is longer than the room. */
+enum { NO_WORD = -1, NO_ROOM = -2 };
+
+int p21_main(void);
+
+/* Copies a word without its end, and answers how many bytes it has. */
+static inline int64_t copied(const char *word, char *into, uint64_t room) {
+    uint64_t count = strlen(word);
+    if (count > room)
+        return NO_ROOM;
+    memcpy(into, word, count);
+    return (int64_t)count;
+}
+
+/* The line behind the version: build-for names the system, and says how the program came of its sources. */
+static const char SYSTEM_LINE[] = SYSTEM "\n";
+
+/* Was the version asked for? */
+static inline bool asks_version(int count, char **words) {
+    return count > 1 && (strcmp(words[1], "--version") == 0 || strcmp(words[1], "-V") == 0);
+}
+
+#endif

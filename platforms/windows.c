@@ -1,0 +1,242 @@
+/* The host on Windows. Files and streams are handles, which are read and written in bytes. Names and words are UTF-16 for the
+ * system, and UTF-8 for the program. */
+#define WIN32_LEAN_AND_MEAN
+#include <windows.h>
+
+#include <stdlib.h>
+
+#include "host.h"
+
+/* The numbers that Linux has for errors. The program tells want of memory from all others. */
+enum { NO_SUCH_FILE = 2, INPUT_OUTPUT = 5, OUT_OF_MEMORY = 12 };
+
+/* The most bytes that are asked of the system at once, and of a console. */
+enum { MOST_AT_ONCE = 1 << 30, MOST_OF_CONSOLE = 1 << 14 };
+
+/* The program's name for standard input, since the system has none. */
+static const char STANDARD_INPUT[] = "/dev/stdin";
+
+static int last_error;
+static int word_count;
+static char **words;
+
+int rattle_errno(void) { return last_error; }
+
+void rattle_set_errno(int error) { last_error = error; }
+
+/* The answer of a call that failed. */
+static int failed(DWORD error) {
+    switch (error) {
+    case ERROR_NOT_ENOUGH_MEMORY:
+    case ERROR_OUTOFMEMORY:
+    case ERROR_NO_SYSTEM_RESOURCES:
+    case ERROR_COMMITMENT_LIMIT:
+        last_error = OUT_OF_MEMORY;
+        break;
+    case ERROR_FILE_NOT_FOUND:
+    case ERROR_PATH_NOT_FOUND:
+        last_error = NO_SUCH_FILE;
+        break;
+    default:
+        last_error = INPUT_OUTPUT;
+    }
+    return -1;
+}
+
+/* --- Names --- */
+
+/* A text in UTF-16, or NULL where there is no memory. */
+static wchar_t *wide(const char *text) {
+    int room = MultiByteToWideChar(CP_UTF8, 0, text, -1, NULL, 0);
+    wchar_t *found = malloc((size_t)room * sizeof *found);
+    if (found)
+        MultiByteToWideChar(CP_UTF8, 0, text, -1, found, room);
+    return found;
+}
+
+/* A word in UTF-8, or NULL where there is no memory. A word that is no text, since half of a pair is missing in it, has a byte
+ * that no UTF-8 has. */
+static char *narrow(const wchar_t *word) {
+    int room = WideCharToMultiByte(CP_UTF8, WC_ERR_INVALID_CHARS, word, -1, NULL, 0, NULL, NULL);
+    char *found = malloc(room > 0 ? (size_t)room : sizeof "\xff");
+    if (found && room > 0)
+        WideCharToMultiByte(CP_UTF8, WC_ERR_INVALID_CHARS, word, -1, found, room, NULL, NULL);
+    else if (found)
+        strcpy(found, "\xff");
+    return found;
+}
+
+/* Opens a file that others may meanwhile write, rename and remove. A folder is opened too: reading it fails, as elsewhere. */
+static HANDLE opened(const wchar_t *name) {
+    const DWORD shared = FILE_SHARE_READ | FILE_SHARE_WRITE | FILE_SHARE_DELETE;
+    const DWORD flags = FILE_FLAG_BACKUP_SEMANTICS | FILE_FLAG_SEQUENTIAL_SCAN;
+    return CreateFileW(name, GENERIC_READ, shared, NULL, OPEN_EXISTING, flags, NULL);
+}
+
+/* The whole name of a file, in front of which room for a prefix is left; NULL where there is none, or no memory. */
+static wchar_t *whole_name(const wchar_t *name, size_t prefix) {
+    DWORD room = GetFullPathNameW(name, 0, NULL, NULL);
+    wchar_t *found = room > 0 ? malloc((prefix + room) * sizeof *found) : NULL;
+    if (room > 0 && !found)
+        SetLastError(ERROR_NOT_ENOUGH_MEMORY);
+    if (found && GetFullPathNameW(name, room, found + prefix, NULL) >= room) {
+        free(found);
+        found = NULL;
+    }
+    return found;
+}
+
+/* Opens a file whose name may be longer than the system takes otherwise: a whole name behind the prefix that says so. */
+static HANDLE opened_by_whole_name(const wchar_t *name) {
+    static const wchar_t LONG[] = L"\\\\?\\", LONG_ON_SERVER[] = L"\\\\?\\UNC";
+    enum { ROOM = sizeof LONG_ON_SERVER / sizeof(wchar_t) - 1, LONG_LENGTH = sizeof LONG / sizeof(wchar_t) - 1 };
+    wchar_t *found = whole_name(name, ROOM);
+    if (!found)
+        return INVALID_HANDLE_VALUE;
+    wchar_t *whole = found + ROOM;
+    if (whole[0] != L'\\' || whole[1] != L'\\') {
+        whole -= LONG_LENGTH;
+        memcpy(whole, LONG, LONG_LENGTH * sizeof *whole);
+    } else if (whole[2] != L'?' && whole[2] != L'.') {
+        /* Of `\\server\share` the first of the two is part of the prefix. */
+        whole -= ROOM - 1;
+        memcpy(whole, LONG_ON_SERVER, ROOM * sizeof *whole);
+    }
+    HANDLE file = opened(whole);
+    DWORD error = GetLastError();
+    free(found);
+    SetLastError(error);
+    return file;
+}
+
+/* --- Files and streams --- */
+
+/* What is open under a number: a stream under its own, and a file under its handle, of which 32 bits say all. The last two of a
+ * handle are zero, so it is no number of a stream. */
+static HANDLE handle_of(int number) {
+    switch (number) {
+    case 0:
+        return GetStdHandle(STD_INPUT_HANDLE);
+    case 1:
+        return GetStdHandle(STD_OUTPUT_HANDLE);
+    case 2:
+        return GetStdHandle(STD_ERROR_HANDLE);
+    default:
+        return (HANDLE)(intptr_t)number;
+    }
+}
+
+int p21_open(const char *name, int flags, ...) {
+    (void)flags;
+    if (strcmp(name, STANDARD_INPUT) == 0)
+        return 0;
+    wchar_t *asked = wide(name);
+    if (!asked)
+        return failed(ERROR_NOT_ENOUGH_MEMORY);
+    HANDLE file = opened_by_whole_name(asked);
+    DWORD error = GetLastError();
+    free(asked);
+    return file == INVALID_HANDLE_VALUE ? failed(error) : (int)(intptr_t)file;
+}
+
+/* Is this a console? */
+int p21_isatty(int file) {
+    DWORD mode;
+    return GetConsoleMode(handle_of(file), &mode) != 0;
+}
+
+static DWORD at_most(uint64_t count, DWORD most) { return count < most ? (DWORD)count : most; }
+
+int64_t p21_read(int file, void *into, uint64_t room) {
+    DWORD count;
+    if (ReadFile(handle_of(file), into, at_most(room, MOST_AT_ONCE), &count, NULL))
+        return count;
+    DWORD error = GetLastError();
+    /* Whoever wrote to a pipe has closed it. */
+    return error == ERROR_BROKEN_PIPE || error == ERROR_HANDLE_EOF ? 0 : failed(error);
+}
+
+int64_t p21_write(int file, const void *from, uint64_t count) {
+    DWORD taken;
+    if (WriteFile(handle_of(file), from, at_most(count, p21_isatty(file) ? MOST_OF_CONSOLE : MOST_AT_ONCE), &taken, NULL))
+        return taken;
+    return failed(GetLastError());
+}
+
+int p21_close(int file) { return file == 0 || CloseHandle(handle_of(file)) ? 0 : failed(GetLastError()); }
+
+/* There are no signals: a write to a pipe that nobody reads fails. */
+int64_t __sysv_signal(int signal, int64_t handler) {
+    (void)signal, (void)handler;
+    return 0;
+}
+
+/* --- The program --- */
+
+int64_t rattle_arg(uint64_t number, char *into, uint64_t room) {
+    return number < (uint64_t)word_count ? copied(words[number], into, room) : NO_WORD;
+}
+
+/* Writes a text to a stream; is all of it written? */
+static bool is_written(int stream, const char *text) { return p21_write(stream, text, strlen(text)) == (int64_t)strlen(text); }
+
+/* The code page that a console had, or 0 where none was set. */
+static UINT former_page;
+
+static void restore_page(void) {
+    if (former_page)
+        SetConsoleOutputCP(former_page);
+}
+
+/* Has the console, where an answer goes to one, show UTF-8 until the program ends. */
+static void show_utf8(void) {
+    if (!p21_isatty(1) && !p21_isatty(2))
+        return;
+    former_page = GetConsoleOutputCP();
+    SetConsoleOutputCP(CP_UTF8);
+    atexit(restore_page);
+}
+
+/* The first word as elsewhere: the name of the program without its folder, and without what the name ends in here. */
+static char *as_elsewhere(char *word) {
+    static const char ENDING[] = ".exe";
+    for (char *at = word; *at; at++)
+        if (*at == '\\' || *at == '/' || *at == ':')
+            word = at + 1;
+    size_t count = strlen(word);
+    if (count >= sizeof ENDING && _stricmp(word + count + 1 - sizeof ENDING, ENDING) == 0)
+        word[count + 1 - sizeof ENDING] = '\0';
+    return word;
+}
+
+/* Takes the words of the command line; is there memory for them? */
+static bool takes_words(int count, wchar_t **given) {
+    words = malloc((size_t)count * sizeof *words);
+    if (!words)
+        return false;
+    for (word_count = 0; word_count < count; word_count++) {
+        words[word_count] = narrow(given[word_count]);
+        if (!words[word_count])
+            return false;
+    }
+    if (count > 0)
+        words[0] = as_elsewhere(words[0]);
+    return true;
+}
+
+/* The C library takes no word for a pattern of names. */
+int _dowildcard = 0;
+
+int wmain(int count, wchar_t **given) {
+    /* No dialog asks for a disk that isn't there. */
+    SetErrorMode(SEM_FAILCRITICALERRORS | SEM_NOOPENFILEERRORBOX);
+    show_utf8();
+    if (!takes_words(count, given)) {
+        is_written(2, "out of memory\n");
+        return FAILED;
+    }
+    int status = p21_main();
+    if (status == 0 && asks_version(word_count, words) && !is_written(1, SYSTEM_LINE))
+        return FAILED;
+    return status;
+}

@@ -1,0 +1,463 @@
+#!/usr/bin/env python3
+"""The program, its tools and its library for Windows and for Linux on AArch64, as tools/build-for makes them, under Wine and under
+QEMU's user mode. What each answers is what the program for Linux on x86-64 answers, byte for byte.
+
+    tests/platforms.py [SYSTEM..]     x86_64-windows and aarch64-linux; both without any
+
+program.sh, every_refusal.py, two_ways.py, fuzz.py and hostile/large.py are run over each program; then names, pipes, streams in
+bytes, each allocation of some commands refused, and the C programs of bindings over each library. The tools are run as on
+Windows, as far as a Python for Linux can (platforms/as_windows.py).
+
+P21 names another program for Linux than ./p21. It wants `rt`, which makes what is compiled where it is missing or old, and Debian's
+packages wine64, qemu-user, gcc-mingw-w64-x86-64 and gcc-aarch64-linux-gnu. Where one of them isn't here, the status is 77.
+"""
+
+import contextlib
+import hashlib
+import os
+import pathlib
+import re
+import shutil
+import subprocess
+import sys
+import tempfile
+
+import needs
+
+ROOT = pathlib.Path(__file__).resolve().parent.parent
+TESTS = ROOT / "tests"
+OUT = ROOT / "platforms" / "out"
+sys.path[:0] = [str(ROOT / "tools"), str(TESTS / "hostile")]
+from cases import DEMO, file_of, write_all  # noqa: E402
+from release import systems  # noqa: E402
+from rigged import OUT_OF_MEMORY, Rigged, Tally  # noqa: E402
+
+WINDOWS, ARM = "x86_64-windows", "aarch64-linux"
+VERSION = b"p21 0.1.0 (canonical form 1)\n"
+FUZZED, TWO_WAYS = 2000, 300
+# The rows of program.sh that are otherwise: Wine makes text of a word that is none, and draws a terminal by itself.
+OTHERWISE = {
+    ARM: ["the version"],
+    WINDOWS: [
+        "the version",
+        "an argument that is no text",
+        *(f"progress of {what}" for what in ("a check", "a canonical file", "a comparison")),
+    ],
+}
+# Each allocation of these is refused.
+REFUSED = [
+    ["param", "list"],
+    ["schema", "demo.exp"],
+    ["check", "demo.exp", "point"],
+    ["canon", "demo.exp", "bags"],
+    ["show", "demo.exp", "point", "--name", "2"],
+    ["same", "demo.exp", "bags", "bags.same"],
+    ["check", "--all", "demo.exp", "several"],
+    ["check", "demo.exp", "nowhere"],
+    ["--version"],
+    ["frob"],
+]
+MISTAKEN = [["frob"]]
+# A command of fewer allocations has each of them refused.
+FEW = 130
+STACK = 8 << 20
+# What a tool prints is the same where it runs as on Windows.
+PRODUCT = "examples/product.exp"
+TOOLS = [
+    ["p21-where", PRODUCT, "examples/refused/Count.step"],
+    ["p21-where", "--all", "--format", "json", PRODUCT, "examples/refused/WrongKind.step", "examples/refused/Dangling.step"],
+    ["p21-where", "--all", "--format", "sarif", PRODUCT, "{here}/ünïcode name.step"],
+    ["p21-where", "--schemas", "{here}/shelf", "examples/refused/Missing.step"],
+    ["p21-where", PRODUCT, "{here}/none.step"],
+    ["p21-diff", PRODUCT, "examples/product.step", "examples/product-changed.step"],
+    ["p21-diff", "--names", "--stat", PRODUCT, "examples/product.step", "examples/product-changed.step"],
+    ["p21-diff", "--format", "html", PRODUCT, "examples/product.step", "examples/product-changed.step"],
+    ["p21-diff", "--names", PRODUCT, "examples/product.step", "{here}/renamed.step"],
+    ["p21-diff", "--names", "--pairing", "{here}/pairs", PRODUCT, "examples/product.step", "{here}/renamed.step"],
+    ["p21-renumber", PRODUCT, "examples/product.step", "{here}/pairs"],
+    ["p21-renumber", PRODUCT, "examples/product.step", "{here}/ünïcode name.step"],
+    ["p21-table", PRODUCT, "examples"],
+    ["p21-table", "--names", "--format", "jsonl", PRODUCT, "examples"],
+    ["p21-table", "--schemas", "{here}/shelf", "--format", "tsv", "examples/product.step", "{here}/ünïcode name.step"],
+    ["p21-adapt", PRODUCT],
+    ["p21-adapt", "{here}/none.exp"],
+]
+# These are given the refused file by a pipe.
+BY_A_PIPE = [["p21-where", PRODUCT, "-"], ["p21-table", PRODUCT, "-"], ["p21-where", "--all", "--format", "json", PRODUCT, "-"]]
+
+
+class Wine:
+    """Wine with a folder of its own, in which what it starts is kept running until the end."""
+
+    def __init__(self, folder):
+        self.command = shutil.which("wine64") or "/usr/lib/wine/wine64"
+        self.environment = {"WINEPREFIX": str(folder / "wine"), "WINEDEBUG": "-all", "WINEDLLOVERRIDES": "mscoree=;mshtml=", "HOME": str(folder)}
+        # The first run fills the folder, and says so.
+        subprocess.run([*self.front(), "cmd", "/c", "exit"], stdin=subprocess.DEVNULL, capture_output=True, check=True)
+
+    def front(self):
+        """The words in front of a program."""
+        return ["env", *(f"{name}={value}" for name, value in self.environment.items()), self.command]
+
+    def end(self):
+        """Ends what runs in the folder."""
+        server = shutil.which("wineserver") or "/usr/lib/wine/wineserver"
+        subprocess.run([server, "-k"], env={**os.environ, **self.environment}, check=False)
+
+
+class Qemu:
+    """QEMU's user mode."""
+
+    def __init__(self, _):
+        self.environment = {}
+
+    def front(self):
+        """The words in front of a program, which finds the libraries of Debian's packages."""
+        return ["qemu-aarch64", "-L", "/usr/aarch64-linux-gnu"]
+
+    def end(self):
+        """Nothing is left running."""
+
+
+RUNNERS = {WINDOWS: Wine, ARM: Qemu}
+
+
+class Made:
+    """What is made for a system: the program and one that fails by itself, each with a file that starts it as one does on Linux."""
+
+    def __init__(self, name, folder):
+        self.system = systems.SYSTEMS[name]
+        self.name = name
+        self.folder = folder
+        self.runner = RUNNERS[name](folder)
+        self.program = self.started("p21", OUT / name / self.system.program)
+        self.failing = self.started("failing/p21", self.linked_failing())
+
+    def started(self, name, program):
+        """A file that starts a program."""
+        path = self.folder / name
+        path.parent.mkdir(exist_ok=True)
+        words = " ".join(f"'{word}'" for word in (*self.runner.front(), program))
+        path.write_text(f'#!/bin/sh\nexec {words} "$@"\n')
+        path.chmod(0o755)
+        return path
+
+    def linked_failing(self):
+        """The program over a host that fails as it is told."""
+        wrapped = ["rattle_alloc", "rattle_realloc", *(("p21_read", "p21_write") if self.name == WINDOWS else ("read", "write"))]
+        output = self.folder / "linked" / self.system.program
+        output.parent.mkdir()
+        words = systems.linking_program(self.system, "a test's")
+        further = [TESTS / "platforms" / "failing_host.c", *(f"-Wl,--wrap={name}" for name in wrapped)]
+        subprocess.run([*words, *further, "-o", output], check=True)
+        return output
+
+    def compiled(self, name, *words, compiler=None):
+        """A C program of a test."""
+        output = self.folder / (f"{name}.exe" if self.name == WINDOWS else name)
+        subprocess.run([compiler or self.system.compiler, "-std=c11", "-O1", "-Wall", "-Wextra", "-Werror", "-o", output, *words], check=True)
+        return [*self.runner.front(), output]
+
+
+def answer(words, **more):
+    """The status of a program, and what it writes to both streams."""
+    done = subprocess.run(words, stdout=subprocess.PIPE, stderr=subprocess.PIPE, check=False, **more)
+    return done.returncode, done.stdout, done.stderr
+
+
+# --- What is linked ---
+
+
+def files(made, tally):
+    """The same bytes each time; no other file is wanted; the stack is as on Linux; and the library has the calls of the header."""
+    folder = OUT / made.name
+    names = [made.system.program, made.system.library, *(["p21.lib"] if made.name == WINDOWS else [])]
+    sums = [{name: hashlib.sha256((folder / name).read_bytes()).hexdigest() for name in names} for _ in built(made.name)]
+    tally.check("the same bytes again", sums[0], sums[1])
+    dump = made.system.compiler.replace("gcc", "objdump")
+    said = {name: subprocess.run([dump, "-p", folder / name], check=True, capture_output=True, text=True).stdout for name in names[:2]}
+    declared = set(re.findall(r"^[a-z0-9_]+ (p21_[a-z_]+)\(", (ROOT / "include" / "p21.h").read_text(), re.M))
+    if made.name == WINDOWS:
+        for name in names[:2]:
+            tally.check(f"{name} wants no other file", set(re.findall(r"DLL Name: (\S+)", said[name])), {"KERNEL32.dll", "msvcrt.dll"})
+        stack = re.search(r"SizeOfStackReserve\s+([0-9a-f]+)", said["p21.exe"])
+        tally.check("the stack", int(stack[1], 16), STACK)
+        exported = set(re.findall(r" (p21_\w+)$", said["p21.dll"].partition("[Ordinal/Name Pointer] Table")[2], re.M))
+    else:
+        tally.check("p21 wants no other file", "NEEDED" in said["p21"], False)
+        tally.check("libp21.so wants the C library alone", re.findall(r"NEEDED +(\S+)", said["libp21.so"]), ["libc.so.6"])
+        tally.check("of version 2.17", set(re.findall(r"GLIBC_(\S+)", said["libp21.so"])), {"2.17"})
+        listed = [made.system.compiler.replace("gcc", "nm"), "-D", "--defined-only", folder / "libp21.so"]
+        named = subprocess.run(listed, check=True, capture_output=True, text=True).stdout
+        exported = set(re.findall(r" T (\w+)", named))
+    tally.check("the calls of the library", exported, declared)
+    tally.part(f"{made.name}, what is linked")
+
+
+def built(name):
+    """Builds all for a system twice; the second time it is linked alone."""
+    for _ in range(2):
+        subprocess.run([ROOT / "tools" / "build-for", "--library", name], check=True, stdout=subprocess.DEVNULL)
+        yield
+
+
+def versions(made, tally):
+    """The version names the system, and says how the program came of its sources; where it can't be written that is a fault."""
+    status, output, error = answer([made.program, "--version"])
+    first, second = output.split(b"\n", 1)
+    tally.check("the version", (status, first + b"\n", error), (0, VERSION, b""))
+    tally.check("the system", bool(re.fullmatch(rf"{made.name}: .*proved.*, another backend\n".encode(), second)), True)
+    tally.check("the system, by a short word", answer([made.program, "-V"])[1], output)
+    tally.check("no system with an answer", answer([made.program, "param", "examples/param.txt"], cwd=ROOT)[1].count(b"\n"), 1)
+    tally.part(f"{made.name}, the version")
+
+
+# --- Scripts that try a program ---
+
+
+def scripts(made, tally):
+    """What tries the program for Linux tries this one."""
+    own = {**os.environ, "P21": str(made.program), "P21_OTHERWISE": "".join(f"|{name}|" for name in OTHERWISE[made.name])}
+    failing = {**own, "P21": str(made.failing), "P21_FAILS_ITSELF": "1"}
+    runs = {
+        "program.sh": (own, []),
+        "every_refusal.py": (own, []),
+        "fuzz.py": (own, ["--cases", str(FUZZED), "--seed", "1"]),
+        "two_ways.py": (failing, ["--cases", str(TWO_WAYS)]),
+        "hostile/large.py": (failing, []),
+    }
+    for script, (environment, words) in runs.items():
+        done = subprocess.run([TESTS / script, *words], stdout=subprocess.PIPE, stderr=subprocess.STDOUT, check=False, env=environment, text=True)
+        tally.check(f"{script}: {done.stdout[-2000:] if done.returncode else ''}", done.returncode, 0)
+        tally.part(f"{made.name}, {script}", f": {done.stdout.rstrip().rpartition(chr(10))[2][:100]}")
+
+
+# --- Names, streams and pipes ---
+
+
+def alike(made, tally, name, words, **more):
+    """A run answers as that of the program for Linux does."""
+    tally.check(name, answer([made.program, *words], **more), answer([os.environ["P21"], *words], **more))
+
+
+def names(made, tally, here):
+    """Names with spaces, of other letters, and longer than Windows takes by itself; and such as aren't there."""
+    deep = here / ("d" * 120) / ("e" * 120) / ("f" * 60)
+    deep.mkdir(parents=True)
+    files_named = [here / "with some spaces.step", here / "ünïcode – 模型.step", deep / "long.step", here / ("g" * 200 + ".step")]
+    for path in files_named:
+        path.write_text(file_of("#2 = POINT($, 1.0, 10.E-1);\n"))
+        for name in (str(path), os.path.relpath(path, here)):
+            alike(made, tally, name[-40:], ["canon", "demo.exp", name], cwd=here)
+        alike(made, tally, f"{path.name[-40:]} that isn't there", ["check", "demo.exp", f"{path}.none"], cwd=here)
+    for name in ("", " ", ".", "..", str(deep), "*.step", "?", "with some spaces.step/", "a" * 300, "none/none"):
+        alike(made, tally, f"the name {name[:40]!r}", ["check", "demo.exp", name], cwd=here)
+    tally.part(f"{made.name}, names")
+
+
+def bytes_as_they_are(made, tally, here):
+    """No byte of a stream is another: line ends of two bytes, the byte that ends a text of Windows, and bytes that are no text."""
+    texts = {
+        "two.bytes": file_of("#2 = POINT($, 1.0, 10.E-1);\n").replace("\n", "\r\n").encode(),
+        "an.end": file_of("#2=POINT('\x1a',1.,1.);\n").encode(),
+        "no.text": file_of("#2=POINT('a',1.,1.);\n").encode().replace(b"'a'", b"'\xff'"),
+        "a.mark": b"\xef\xbb\xbf" + file_of("").encode(),
+        "nothing": b"",
+    }
+    for name, text in texts.items():
+        (here / name).write_bytes(text)
+        alike(made, tally, name, ["canon", "demo.exp", name], cwd=here)
+        alike(made, tally, f"{name} by a pipe", ["canon", "demo.exp", "/dev/stdin"], cwd=here, input=text)
+    large = file_of("".join(f"#{name}=POINT($,1.,1.);\n" for name in range(1, 50_000))).encode()
+    (here / "large").write_bytes(large)
+    for command in ("check", "canon"):
+        alike(made, tally, f"{command} of a large file", [command, "demo.exp", "large"], cwd=here)
+        alike(made, tally, f"{command} of a large file by a pipe", [command, "demo.exp", "/dev/stdin"], cwd=here, input=large)
+    found = []
+    for program in (made.program, os.environ["P21"]):
+        with open(here / "large", "rb") as file:
+            found.append(answer([program, "check", "demo.exp", "/dev/stdin"], cwd=here, stdin=file))
+    tally.check("a large file as standard input", found[0], found[1])
+    tally.part(f"{made.name}, bytes")
+
+
+def closed_pipes(made, tally, here):
+    """A reader that goes away is a write fault, and nothing else is said."""
+    for words in (["canon", "demo.exp", "large"], ["check", "--all", "demo.exp", "refused"]):
+        (here / "refused").write_text(file_of("".join(f"#{name}=POINT($,1.);\n" for name in range(1, 50_000))))
+        found = []
+        for program in (made.program, os.environ["P21"]):
+            run = subprocess.Popen([program, *words], cwd=here, stdout=subprocess.PIPE, stderr=subprocess.PIPE)
+            # The refusals are written to the second stream.
+            read, other = (run.stdout, run.stderr) if words[0] == "canon" else (run.stderr, run.stdout)
+            read.read(1)
+            read.close()
+            found.append((other.read(), run.wait()))
+            other.close()
+        tally.check(f"{words[0]} to a pipe that is closed", found[0], found[1])
+    tally.part(f"{made.name}, closed pipes")
+
+
+def of_windows(made, tally, here):
+    """What Windows alone has: names of its own, a file that another program has open for writing, and a word that is no text."""
+    accepted = (0, b"accepted, instances 1, canonical bytes 171\n", b"")
+    path = here / "with some spaces.step"
+    own = f"Z:{path}".replace("/", "\\")
+    for name in (own, f"\\\\?\\{own}", own.replace("\\", "/")):
+        tally.check(name, answer([made.program, "check", "demo.exp", name], cwd=here), accepted)
+    tally.check("NUL", answer([made.program, "check", "demo.exp", "NUL"], cwd=here)[::2], (1, b"refused 24 EndsEarly at statement 1\n"))
+    starting = made.compiled("starting", "-municode", TESTS / "platforms" / "starting.c")
+    program = OUT / made.name / made.system.program
+    words = f'"{program}" check demo.exp "{path.name}"'
+    tally.check("a file that is open for writing", answer([*starting, "held", path, words], cwd=here), accepted)
+    found = answer([*starting, "half", program], cwd=here)
+    tally.check("a word that is no text", found, (2, b"", b"error: an argument is not UTF-8\n"))
+    tally.part(f"{made.name}, what Windows alone has")
+
+
+def starters(made, tally, here):
+    """A tool is started by the Python that stands beside it, and its words and status are handed on."""
+    source = here / "python.c"
+    source.write_text('#include <stdio.h>\nint main(int n, char **w) { for (int i = 1; i < n; i++) puts(w[i]); return n; }\n')
+    folder = here / "bin"
+    (here / "lib" / "p21").mkdir(parents=True)
+    folder.mkdir()
+    shutil.copy(made.compiled("python", source)[-1], folder / "python.exe")
+    (folder / "p21-where.cmd").write_bytes((ROOT / "platforms" / "starter.cmd").read_bytes().replace(b"\n", b"\r\n"))
+    words = [*made.runner.front(), "cmd", "/c", "bin\\p21-where.cmd", "a", "b c"]
+    for place, wanted in (("lib/p21", r"..\lib\p21\p21-where"), ("bin", "p21-where")):
+        (here / place / "p21-where").touch()
+        status, output, _ = answer(words, cwd=here)
+        tool, *rest = output.decode().splitlines()
+        tally.check(f"a tool in {place}", (status, tool.endswith(f"\\bin\\{wanted}"), rest), (4, True, ["a", "b c"]))
+    tally.part(f"{made.name}, what starts a tool")
+
+
+# --- Memory ---
+
+
+def refusals(made, tally, here):
+    """Each allocation of some commands refused, of longer ones each third, and some with all behind them: want of memory is answered,
+    and nothing else. Of a wrong command line alone some are done without, as often as by the program for Linux."""
+    further = set()
+    with Rigged(os.environ["P21"]) as linux, Rigged(str(made.failing)) as own:
+        for rigged in (linux, own):
+            write_all(rigged)
+            rigged.write("list", "(1,(2.50,'a'),.T.,#7)")
+            rigged.write("several", file_of("#1=POINT($,1.,1.);\n#2=POINT($,1.);\n#3=CLOUD((#1,#2,#9),(),(TALLY(1)));\n"))
+        for words in REFUSED:
+            plain, counts = linux.failing(words)
+            found, own_counts = fails_itself(own, words)
+            tally.check(f"{words}, with memory", found, plain if words != ["--version"] else found)
+            # The first word is longer or shorter, and is the same for each command.
+            further.add(own_counts.allocations - counts.allocations)
+            unseen = [0, 0]
+            for at in range(1, own_counts.allocations + 1, 1 if own_counts.allocations < FEW else 3):
+                for on in (0, 1) if at % 10 == 1 else (0,):
+                    found = fails_itself(own, words, REFUSE=at, REFUSE_ON=on)[0]
+                    is_unseen = words in MISTAKEN and not on and found == plain
+                    unseen[0] += is_unseen
+                    tally.check(f"{words}, allocation {at}{' and on' if on else ''}", found, plain if is_unseen else OUT_OF_MEMORY)
+            for at in range(1, counts.allocations + 1) if words in MISTAKEN else ():
+                unseen[1] += linux.failing(words, REFUSE=at)[0] == plain
+            tally.check(f"{words}, done without", unseen[0], unseen[1])
+    tally.check("as many allocations as on Linux, but for the first word", len(further), 1)
+    tally.part(f"{made.name}, allocations refused")
+
+
+def fails_itself(rigged, words, **failures):
+    """A run of a program that has in it what makes it fail."""
+    os.environ["P21_FAILS_ITSELF"] = "1"
+    try:
+        found, counts = rigged.failing(words, **failures)
+    finally:
+        del os.environ["P21_FAILS_ITSELF"]
+    return found, counts
+
+
+# --- The library ---
+
+
+def library(made, tally, here):
+    """The C programs of bindings over the library."""
+    folder, bindings = OUT / made.name, TESTS / "bindings"
+    over = [f"-I{ROOT / 'include'}", folder / ("p21.lib" if made.name == WINDOWS else "libp21.so")]
+    shutil.copy(folder / made.system.library, made.folder / ("p21.dll" if made.name == WINDOWS else "libp21.so.0"))
+    paths = {} if made.name == WINDOWS else {"QEMU_SET_ENV": f"LD_LIBRARY_PATH={made.folder}"}
+    environment = {**os.environ, **paths}
+    threads = "x86_64-w64-mingw32-gcc-posix" if made.name == WINDOWS else made.system.compiler
+    examples = ROOT / "examples"
+    runs = {
+        "calls": ([*over], made.system.compiler, [examples], b"version 0.1.0"),
+        "layout": ([*over], made.system.compiler, [examples, "0.1.0"], b"all stands where the header has it"),
+        "threads": ([*over, "-pthread", "-static-libgcc"], threads, [examples], b"each thread finds what it must"),
+    }
+    if made.name == WINDOWS:
+        runs["threads"][0].append("-static")
+    for name, (words, compiler, given, wanted) in runs.items():
+        program = made.compiled(name, bindings / f"{name}.c", *words, compiler=compiler)
+        status, output, error = answer([*program, *given], env=environment, cwd=made.folder)
+        tally.check(f"{name}.c: {output.decode()[-500:]}{error.decode()[-500:]}", (status, wanted in output.splitlines()), (0, True))
+    tally.part(f"{made.name}, the library")
+
+
+# --- The tools ---
+
+
+def tools(made, tally, here):
+    """The tools as on Windows, with the program for Windows: what they print is what they print on Linux."""
+    shelf = here / "shelf"
+    shelf.mkdir()
+    shutil.copy(ROOT / PRODUCT, shelf / "listing.exp")
+    broken = (ROOT / "examples" / "refused" / "Count.step").read_bytes()
+    (here / "ünïcode name.step").write_bytes(broken)
+    canonical = answer([os.environ["P21"], "canon", PRODUCT, "examples/product.step"], cwd=ROOT)[1]
+    (here / "renamed.step").write_bytes(re.sub(rb"#(\d+)", lambda it: b"#%d" % (int(it[1]) + 1000), canonical))
+    copies = here / "copies"
+    copies.mkdir()
+    as_windows = {**os.environ, "P21": str(made.program), "PYTHONDONTWRITEBYTECODE": "1", "TMPDIR": str(copies)}
+    for tool, *rest in [*TOOLS, *BY_A_PIPE]:
+        given = [word.format(here=here) for word in rest]
+        more = {"cwd": ROOT, "input": broken if "-" in given else b""}
+        wanted = answer([ROOT / "tools" / tool, *given], **more)
+        found = answer([sys.executable, TESTS / "platforms" / "as_windows.py", tool, *given], env=as_windows, **more)
+        tally.check(f"{tool} {rest}", found, wanted)
+    tally.check("no copy is left", [path.name for path in copies.iterdir() if not path.name.startswith("wine")], [])
+    tally.part(f"{made.name}, the tools")
+
+
+PARTS = {
+    WINDOWS: (files, versions, scripts, names, bytes_as_they_are, closed_pipes, of_windows, starters, refusals, library, tools),
+    ARM: (files, versions, scripts, names, bytes_as_they_are, closed_pipes, refusals, library),
+}
+
+
+def tried(name, tally):
+    """All parts for a system, in a folder of their own."""
+    subprocess.run([ROOT / "tools" / "build-for", "--library", name], check=True, stdout=subprocess.DEVNULL)
+    with tempfile.TemporaryDirectory(prefix="platforms-") as folder:
+        made = Made(name, pathlib.Path(folder))
+        here = made.folder / "here"
+        here.mkdir()
+        (here / "demo.exp").write_text(DEMO)
+        with contextlib.ExitStack() as stack:
+            stack.callback(made.runner.end)
+            for part in PARTS[name]:
+                part(made, tally, *([here] if part.__code__.co_argcount == 3 else []))
+
+
+def main():
+    """Tries what is made for each system."""
+    asked = sys.argv[1:] or [WINDOWS, ARM]
+    needs.wanted("rt", "qemu-aarch64", *(systems.SYSTEMS[name].compiler for name in (WINDOWS, ARM)))
+    if not (shutil.which("wine64") or os.path.exists("/usr/lib/wine/wine64")):
+        needs.skipped("there is no wine64")
+    os.environ["P21"] = str(pathlib.Path(os.environ.get("P21", ROOT / "crates" / "p21" / "out" / "p21")).resolve())
+    tally = Tally()
+    for name in asked:
+        tried(name, tally)
+    tally.end()
+
+
+if __name__ == "__main__":
+    main()
