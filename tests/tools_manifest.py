@@ -350,6 +350,11 @@ def based(tests):
         line = f"p21-table: {name} doesn't stand below {elsewhere}"
         tests.expect(f"to write {name}", ["--base", str(elsewhere), "--manifest", "{here}/out.json", SCHEMA, name], 2, [], line)
     tests.expect("no folder", ["--base", outside, "--verify", str(manifest), SCHEMA], 2, [], f"p21-table: {outside} is no folder")
+    (tests.here / "closed" / "base").mkdir(parents=True)
+    (tests.here / "closed").chmod(0)
+    line = "p21-table: {here}/closed/base is no folder: it may not be read"
+    tests.expect("a folder that may not be entered", ["--base", "{here}/closed/base", *given[2:]], 2, [], line, before=AS_OTHERS)
+    (tests.here / "closed").chmod(0o755)
     manifest.write_text(whole)
     (tests.here / "same").mkdir()
     shutil.copy(ROOT / "examples" / "product.step", tests.here / "same" / "a.step")

@@ -298,6 +298,13 @@ def why_not_plain(path: str) -> Optional[str]:
     return FOLDER if stat.S_ISDIR(mode) else None if stat.S_ISREG(mode) else NOT_PLAIN
 
 
+def check_folder(path: str, what: str) -> None:
+    """Says where a path leads to no folder, or to one that may not be entered."""
+    reason = why_not_plain(path)
+    if reason != FOLDER:
+        raise Trouble(f"{path} is no {what}" + (f": {reason}" if reason == FORBIDDEN else ""))
+
+
 def plain(path: str) -> BinaryIO:
     """A plain file, open for reading. Whatever else a path leads to isn't opened, and isn't waited for."""
     descriptor = -1

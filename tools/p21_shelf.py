@@ -172,9 +172,7 @@ class Shelf:
         self.found: Dict[Optional[str], Served] = {}
         self.lacking: Set[str] = set()
         self.listings: Dict[str, pathlib.Path] = {}
-        reason = reading.why_not_plain(folder)
-        if reason != reading.FOLDER:
-            raise reading.Trouble(f"{folder} is no folder of schemas" + (f": {reason}" if reason == reading.FORBIDDEN else ""))
+        reading.check_folder(folder, "folder of schemas")
         for path in sorted(path for path in self.folder.iterdir() if path.suffix.lower() == ".exp"):
             self.keep(heading_of(path, text_of(path))[1].text, path)
         self.own = set(self.listings)

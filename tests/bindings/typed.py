@@ -26,6 +26,11 @@ def checked(schema: p21.Schema, paths: List[Path]) -> Dict[str, int]:
     return found
 
 
+def by_path(path: Path) -> int:
+    """How many instances a file has, under a schema that is given by its path."""
+    return p21.check(path.with_suffix(".exp"), path).instances + p21.check(str(path.with_suffix(".exp")), path).instances
+
+
 def compared(schema: p21.Schema, first: bytes, second: Path) -> bool:
     """Whether bytes and a file that is mapped into memory mean the same."""
     with open(second, "rb") as file, mmap.mmap(file.fileno(), 0, access=mmap.ACCESS_READ) as data:
