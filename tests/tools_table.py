@@ -268,12 +268,18 @@ def unanswered(tests):
 
 
 def changing(tests):
-    """A listing that changes while files are checked by it: what it says then is said by no hash of it."""
+    """A listing that changes while files are checked by it, and a file that changes while it is checked: it isn't known of which
+    text an answer would be."""
     shutil.copy(ROOT / SCHEMA, tests.here / "changing.exp")
     program = tests.rigged("rigged", f"case $1 in canon) echo '-- later' >> {tests.here}/changing.exp ;; esac")
     output, _, status = tests.run(["--format", "json", "{here}/changing.exp", "examples/product.step"], program=program)
     line = f"{tests.here}/changing.exp changed while it was in use: begin again"
     tests.judge("a listing that changes", (line, None, 3), (*map(json.loads(output).get, ("answer", "sha256")), status))
+    shutil.copy(ROOT / "examples" / "product.step", tests.here / "changing.step")
+    program = tests.rigged("rigged", f"case $1 in canon) echo >> {tests.here}/changing.step ;; esac")
+    output, _, status = tests.run(["--format", "json", SCHEMA, "{here}/changing.step"], program=program)
+    line = "it changed while it was read"
+    tests.judge("a file that changes", (line, None, 3), (*map(json.loads(output).get, ("answer", "sha256")), status))
 
 
 def folders(tests):
