@@ -87,13 +87,16 @@ BY_A_PIPE = [["p21-where", PRODUCT, "-"], ["p21-table", PRODUCT, "-"], ["p21-whe
 
 
 class Wine:
-    """Wine with a folder of its own, in which what it starts is kept running until the end."""
+    """Wine with a folder of its own. Its services are kept running until the end by a command line that waits: they are started with
+    a run otherwise, and what they say, were they to fail, would stand in its answer."""
 
     def __init__(self, folder):
         self.command = shutil.which("wine64") or "/usr/lib/wine/wine64"
         self.environment = {"WINEPREFIX": str(folder / "wine"), "WINEDEBUG": "-all", "WINEDLLOVERRIDES": "mscoree=;mshtml=", "HOME": str(folder)}
         # The first run fills the folder, and says so.
         subprocess.run([*self.front(), "cmd", "/c", "exit"], stdin=subprocess.DEVNULL, capture_output=True, check=True)
+        quiet = {"stdout": subprocess.DEVNULL, "stderr": subprocess.DEVNULL}
+        self.waiting = subprocess.Popen([*self.front(), "cmd"], stdin=subprocess.PIPE, **quiet)
 
     def front(self):
         """The words in front of a program."""
@@ -101,6 +104,8 @@ class Wine:
 
     def end(self):
         """Ends what runs in the folder."""
+        self.waiting.stdin.close()
+        self.waiting.wait()
         server = shutil.which("wineserver") or "/usr/lib/wine/wineserver"
         subprocess.run([server, "-k"], env={**os.environ, **self.environment}, check=False)
 
@@ -283,8 +288,9 @@ def bytes_as_they_are(made, tally, here):
 
 def closed_pipes(made, tally, here):
     """A reader that goes away is a write fault, and nothing else is said."""
-    for words in (["canon", "demo.exp", "large"], ["check", "--all", "demo.exp", "refused"]):
-        (here / "refused").write_text(file_of("".join(f"#{name}=POINT($,1.);\n" for name in range(1, 50_000))))
+    (here / "many").write_text(file_of("".join(f"#{name}=POINT($,1.,1.);\n" for name in range(1, 50_000))))
+    (here / "refused").write_text(file_of("".join(f"#{name}=POINT($,1.);\n" for name in range(1, 50_000))))
+    for words in (["canon", "demo.exp", "many"], ["check", "--all", "demo.exp", "refused"]):
         found = []
         for program in (made.program, os.environ["P21"]):
             run = subprocess.Popen([program, *words], cwd=here, stdout=subprocess.PIPE, stderr=subprocess.PIPE)
@@ -301,7 +307,8 @@ def closed_pipes(made, tally, here):
 def of_windows(made, tally, here):
     """What Windows alone has: names of its own, a file that another program has open for writing, and a word that is no text."""
     accepted = (0, b"accepted, instances 1, canonical bytes 171\n", b"")
-    path = here / "with some spaces.step"
+    path = here / "open elsewhere.step"
+    path.write_text(file_of("#2 = POINT($, 1.0, 10.E-1);\n"))
     own = f"Z:{path}".replace("/", "\\")
     for name in (own, f"\\\\?\\{own}", own.replace("\\", "/")):
         tally.check(name, answer([made.program, "check", "demo.exp", name], cwd=here), accepted)
@@ -312,7 +319,23 @@ def of_windows(made, tally, here):
     tally.check("a file that is open for writing", answer([*starting, "held", path, words], cwd=here), accepted)
     found = answer([*starting, "half", program], cwd=here)
     tally.check("a word that is no text", found, (2, b"", b"error: an argument is not UTF-8\n"))
+    tally.check("a console", "cannot open ünïcode – 模型" in on_console([made.program, "param", "ünïcode – 模型"], here), True)
     tally.part(f"{made.name}, what Windows alone has")
+
+
+def on_console(words, here):
+    """What a console shows of a program."""
+    terminal, end = os.openpty()
+    run = subprocess.Popen(words, cwd=here, stdin=end, stdout=end, stderr=end, env={**os.environ, "TERM": "xterm"})
+    os.close(end)
+    said = b""
+    # Linux answers with an error where the other end is closed.
+    with contextlib.suppress(OSError):
+        while part := os.read(terminal, 4096):
+            said += part
+    run.wait()
+    os.close(terminal)
+    return said.decode("utf-8", "replace")
 
 
 def starters(made, tally, here):
