@@ -264,7 +264,7 @@ def look_into(folder: pathlib.Path, found: Below) -> List[pathlib.Path]:
     """Puts all that stands in a folder where it belongs, but for the folders in it, which are answered."""
     try:
         with os.scandir(folder) as entries:
-            listed = [(folder / entry.name, entry.is_dir(), entry.is_symlink()) for entry in entries]
+            listed = [(folder / entry.name, os.path.isdir(entry.path), entry.is_symlink()) for entry in entries]
     except OSError as error:
         found.unread[str(folder)] = reason_of(error)
         return []
