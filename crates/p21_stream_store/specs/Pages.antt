@@ -17,4 +17,4 @@ rooms (page ∷ pages) = vec_capacity page + rooms pages
 
 -- a table that has so many names may have room for so many
 abbrev pub most_names : ℕ → ℕ
-most_names count = max 262144 (12 * count)
+most_names count = max 1048576 (12 * count)

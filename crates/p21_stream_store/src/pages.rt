@@ -9,7 +9,7 @@ use std::alloc::Global;
 /// So many names stand in a page.
 const PAGE: usize = 4_096;
 /// A table may have room for so many names, however few it has.
-const ROOM: usize = 262_144;
+const ROOM: usize = 1_048_576;
 /// For each name that it has it may have room for so many, where these are more.
 const ROOM_FOR_EACH: usize = 12;
 /// A table leads to so many pages, however few names it has.
