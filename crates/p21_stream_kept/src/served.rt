@@ -1,5 +1,5 @@
 //! The needs of instances, and the instances that serve them.
-ghost use Rattle.std.specs.Prelude.{◌≡◌, ◌≤◌, IsTrue, drop, false, length, take, true};
+ghost use Rattle.std.specs.Prelude.{◌≡◌, ◌+◌, ◌/◌, ◌<◌, ◌≤◌, [], IsTrue, drop, false, length, min, take, true, vec_capacity, vec_len};
 ghost use Rattle.p21_spec_laws.specs.Keeping.{IsServedBy, IsServedByNone};
 ghost use Rattle.p21_mapping_values.specs.TypedView.{need_view};
 ghost use Rattle.p21_stream_kept.specs.Inside.{AreStored, references_of, stored_in};
@@ -90,7 +90,8 @@ pub(crate) fn learn_waiting(
     Ok(())
 }
 
-/// Drops the references from an index on that an instance serves by now. Those that are left stay in their order.
+/// Drops the references from an index on that an instance serves by now. Those that are left stay in their order; where none is, the
+/// room for more than 2,048 is given back.
 pub(crate) fn drop_served(
     schema: &Schema,
     stored: &Stored,
@@ -100,7 +101,8 @@ pub(crate) fn drop_served(
 )
     requires stored { AreStored stored.now }
     requires from { from ≤ length waiting.old.items }
-    ensures { DropsBehind schema.now (stored_in stored.now) (references_of (take from waiting.old.items)) (references_of (drop from waiting.old.items)) (references_of waiting.new.items) }
+    ensures short { waiting.new.items ≡ [] → vec_capacity waiting.new ≤ 2048 }
+    ensures drops { DropsBehind schema.now (stored_in stored.now) (references_of (take from waiting.old.items)) (references_of (drop from waiting.old.items)) (references_of waiting.new.items) }
 {
     let mut left = from;
     for index in from..waiting.len() {
@@ -118,9 +120,13 @@ pub(crate) fn drop_served(
 const ROOM_OF_REFERENCES: usize = 2048;
 
 /// Gives back room where there is much, and less than half of it is used. Half as much again as is used stays, so that the next
-/// references that wait don't ask for it anew.
+/// references that wait don't ask for it anew. Where the library finds no smaller room for some, they keep what they have.
 fn give_back(waiting: &mut Vec<Reference>)
-    ensures { waiting.new.items ≡ waiting.old.items }
+    ensures items { waiting.new.items ≡ waiting.old.items }
+    ensures given_back { 2048 < vec_capacity waiting.old → waiting.old.items ≡ [] → vec_capacity waiting.new ≡ 0 }
+    ensures kept { vec_capacity waiting.old ≤ 2048 → waiting.new ≡ waiting.old }
+    ensures used { vec_capacity waiting.old / 2 ≤ vec_len waiting.old → waiting.new ≡ waiting.old }
+    ensures further { min (vec_len waiting.old + vec_len waiting.old / 2) (vec_capacity waiting.old) ≤ vec_capacity waiting.new }
 {
     let used = waiting.len();
     if waiting.capacity() > ROOM_OF_REFERENCES && waiting.capacity() / 2 > used {

@@ -1,5 +1,5 @@
 //! References that wait for the instances that serve them.
-ghost use Rattle.std.specs.Prelude.{◌≡◌, ◌<◌, ◌≤◌, ◌+◌, ◌-◌, ◌^◌, [], drop, length, max, min, take, OnOk};
+ghost use Rattle.std.specs.Prelude.{◌≡◌, ◌<◌, ◌≤◌, ◌+◌, ◌-◌, ◌^◌, [], drop, length, max, min, take, vec_capacity, vec_len, IsOk, OnErr, OnOk};
 ghost use Rattle.p21_mapping.specs.Checked.{needs_view};
 ghost use Rattle.p21_stream_kept.specs.Inside.{AreStored, HasLooked, references_of, stored_in};
 ghost use Rattle.p21_stream_kept.specs.Served.{DropsBehind, DropsServed, with_needs};
@@ -50,7 +50,7 @@ impl Waiting {
         &self.references
     }
 
-    /// Adds the needs of an instance, whatever serves them.
+    /// Adds the needs of an instance, whatever serves them. Where there is room for them, nothing is asked for.
     ///
     /// # Errors
     ///
@@ -59,6 +59,7 @@ impl Waiting {
     pub(crate) fn add(&mut self, found: &FoundInstance<'_>) -> Result<(), NoMemory>
         requires { HasLooked self.old }
         ensures ok { OnOk result (references_of self.new.references.items ≡ with_needs found.now.name (needs_view found.now.needs.now) (references_of self.old.references.items)) }
+        ensures full { OnErr result (vec_capacity self.old.references < vec_len self.old.references + length found.now.needs.now) }
         ensures looked { HasLooked self.new }
         ensures due { self.new.due ≡ self.old.due }
     {
@@ -68,7 +69,7 @@ impl Waiting {
     /// Looks at the references that have come since the last look, where they are 1,024 or more, and drops those that an instance
     /// serves by now. Where more references of the file have come than are due, it looks at all, and as many more may come then as
     /// were left, and 1,024 at least. So for each that comes at most three are looked at, and in between what was left grows
-    /// twofold, or by 1,024.
+    /// twofold, or by 1,024. Without a look nothing is asked for; a look at all that leaves none gives back the room for more than 2,048.
     ///
     /// # Errors
     ///
@@ -85,6 +86,8 @@ impl Waiting {
         ensures early { come ≤ self.old.due → length self.old.references.items < self.old.looked + 1024 → self.new.references.items ≡ self.old.references.items }
         ensures together { come ≤ self.old.due → self.old.looked + 1024 ≤ length self.old.references.items → DropsBehind schema.now (stored_in stored.now) (references_of (take self.old.looked self.old.references.items)) (references_of (drop self.old.looked self.old.references.items)) (references_of self.new.references.items) }
         ensures left { self.old.due < come → DropsServed schema.now (stored_in stored.now) (references_of self.old.references.items) (references_of self.new.references.items) }
+        ensures quiet { come ≤ self.old.due → length self.old.references.items < self.old.looked + 1024 → IsOk result }
+        ensures short { self.old.due < come → self.new.references.items ≡ [] → vec_capacity self.new.references ≤ 2048 }
         ensures next { self.old.due < come → self.new.due ≡ min (come + max 1024 (length self.new.references.items)) (2 ^ 64 - 1) }
         ensures looked { HasLooked self.new }
         ensures ahead { come ≤ self.new.due }
@@ -116,6 +119,7 @@ impl Waiting {
         requires stored { AreStored stored.now }
         requires from { from ≤ length self.old.references.items }
         ensures drops { DropsBehind schema.now (stored_in stored.now) (references_of (take from self.old.references.items)) (references_of (drop from self.old.references.items)) (references_of self.new.references.items) }
+        ensures short { self.new.references.items ≡ [] → vec_capacity self.new.references ≤ 2048 }
         ensures looked { self.new.looked ≡ length self.new.references.items }
         ensures due { self.new.due ≡ self.old.due }
     {
@@ -134,6 +138,7 @@ impl Waiting {
 #[inline(always)]
 fn add_needs(found: &FoundInstance<'_>, references: &mut Vec<Reference>) -> Result<(), NoMemory>
     ensures ok { OnOk result (references_of references.new.items ≡ with_needs found.now.name (needs_view found.now.needs.now) (references_of references.old.items)) }
+    ensures full { OnErr result (vec_capacity references.old < vec_len references.old + length found.now.needs.now) }
     ensures more { length references.old.items ≤ length references.new.items }
 {
     references.reserve(found.needs.len())?;

@@ -1,6 +1,6 @@
 //! The memberships of names, a byte for each, so that most references take one look.
-ghost use Rattle.std.specs.Prelude.{◌≡◌, ◌≤◌, ◌*◌, ℕ, IfOk, MatchBool, OnErr, Some};
-ghost use Rattle.p21_stream_store.specs.Pages.{most_names};
+ghost use Rattle.std.specs.Prelude.{◌≡◌, ◌≤◌, ◌*◌, ℕ, IfOk, IsOk, MatchBool, OnErr, Some};
+ghost use Rattle.p21_stream_store.specs.Pages.{HasPage, most_names};
 ghost use Rattle.p21_stream_store.specs.Positions.{Changes, IsSame, position_marked};
 ghost use Rattle.p21_stream_store.specs.Tables.{GrowsWithin, KeepsRoom};
 
@@ -62,14 +62,15 @@ fn note_in_new_page(
     Ok(note_membership(noted, name, membership))
 }
 
-/// Makes a place to note the membership of a name, where there is none and may be one more. Nothing is noted by it. So many names
-/// have come.
+/// Makes a place to note the membership of a name, where there is none and may be one more. Nothing is noted by it, and where the
+/// place is there, nothing is asked for. So many names have come.
 ///
 /// # Errors
 ///
 /// `NoMemory`.
 pub fn make_place(noted: &mut Pages<u8>, name: u64, count: usize) -> Result<(), NoMemory>
     ensures same { IsSame (position_marked noted.old) (position_marked noted.new) }
+    ensures there { HasPage noted.old.pages.items name → IsOk result × (noted.new ≡ noted.old) }
     ensures room { GrowsWithin (most_names count) noted.old noted.new }
 {
     let Ok(_) = noted.make_page(name, count, 0) else {

@@ -1,6 +1,6 @@
 //! Tables from names to numbers, by pages.
-ghost use Rattle.std.specs.Prelude.{◌≡◌, ◌≢◌, ◌+◌, ◌*◌, ◌/◌, ◌<◌, ◌≤◌, ◌^◌, ℕ, false, length, max, slice_index_or, vec_capacity, vec_len, IfSome, IsNone, MatchBool, OnErr, OnOk};
-ghost use Rattle.p21_stream_store.specs.Pages.{most_names, number_in, rooms};
+ghost use Rattle.std.specs.Prelude.{◌≡◌, ◌≢◌, ◌↔◌, ◌+◌, ◌*◌, ◌/◌, ◌<◌, ◌≤◌, ◌^◌, ℕ, false, length, max, min, slice_index_or, vec_capacity, vec_len, IfSome, IsNone, IsTrue, MatchBool, Ok, OnErr, OnOk};
+ghost use Rattle.p21_stream_store.specs.Pages.{HasPage, most_names, number_in, page_at, rooms};
 
 use crate::room::{reach, wider_count};
 use p21_values::NoMemory;
@@ -79,20 +79,24 @@ impl<T: Copy + Drop> Pages<T> {
     }
 
     /// Makes the page of a name, if it isn't there and there may be one more in a table of so many names; says whether it did. No
-    /// number changes.
+    /// number changes, and where the page is there, nothing does.
     ///
     /// # Errors
     ///
     /// `NoMemory`.
     pub fn make_page(&mut self, name: u64, count: usize, none: T) -> Result<bool, NoMemory>
         ensures same { (other : ℕ) → number_in none self.new.pages.items other ≡ number_in none self.old.pages.items other }
+        ensures there { HasPage self.old.pages.items name → (result ≡ Ok false) × (self.new ≡ self.old) }
         ensures room { rooms self.new.pages.items ≤ max (rooms self.old.pages.items) (most_names count) }
         ensures directory { vec_capacity self.new.pages ≤ max (vec_capacity self.old.pages) (max 4096 (most_names count / 256)) }
     {
-        let most = ROOM.max(count.saturating_mul(ROOM_FOR_EACH));
         let number = name as usize / PAGE;
+        if self.has(number) {
+            return Ok(false);
+        }
+        let most = ROOM.max(count.saturating_mul(ROOM_FOR_EACH));
         let pages = PAGES.max(most / NAMES_FOR_A_PAGE);
-        if number >= pages || self.made >= most / PAGE || self.has(number) {
+        if number >= pages || self.made >= most / PAGE {
             return Ok(false);
         }
         let Ok(()) = add_pages(&mut self.pages, self.alloc, number, pages) else {
@@ -106,7 +110,9 @@ impl<T: Copy + Drop> Pages<T> {
     }
 
     /// Whether the page of this number is there.
-    fn has(&self, number: usize) -> bool {
+    fn has(&self, number: usize) -> bool
+        ensures { IsTrue result ↔ (0 < length (page_at self.now.pages.items number)) }
+    {
         number < self.pages.len() && self.pages[number].len() > 0
     }
 }
@@ -145,7 +151,7 @@ fn next_in(page: &[u32], from: usize) -> Option<(usize, u32)>
     None
 }
 
-/// Adds pages that aren't there yet until there is one of this number, and further ones, so that a list grows twofold.
+/// Adds pages that aren't there yet until there is one of this number, and further ones, so that a list grows twofold, up to the most.
 fn add_pages<T: Drop>(
     pages: &mut Vec<Vec<T>>,
     alloc: Global,
@@ -154,6 +160,7 @@ fn add_pages<T: Drop>(
 ) -> Result<(), NoMemory>
     requires { number < most }
     ensures reached { OnOk result (number < length pages.new.items) }
+    ensures twofold { length pages.old.items ≤ number → OnOk result (min most (2 * length pages.old.items) ≤ length pages.new.items) }
     ensures same { (none : T) → (other : ℕ) → number_in none pages.new.items other ≡ number_in none pages.old.items other }
     ensures room { rooms pages.new.items ≡ rooms pages.old.items }
     ensures directory { vec_capacity pages.new ≤ max (vec_capacity pages.old) most }

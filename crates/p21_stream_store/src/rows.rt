@@ -1,5 +1,5 @@
 //! Numbers one behind the other, each in a width that holds it.
-ghost use Rattle.std.specs.Prelude.{◌≡◌, ◌<◌, ◌≤◌, ◌-◌, ◌^◌, ◌+◌, ℕ, List, [], ◌∷◌, ◌++◌, length, map, min, slice_get, vec_capacity, vec_len, OnOk, Some, false, true};
+ghost use Rattle.std.specs.Prelude.{◌≡◌, ◌<◌, ◌≤◌, ◌-◌, ◌^◌, ◌+◌, ℕ, List, [], ◌∷◌, ◌++◌, length, map, min, slice_get, vec_capacity, vec_len, OnErr, OnOk, Some, false, true};
 
 use crate::room::make_room;
 use crate::widths::Width;
@@ -36,14 +36,15 @@ pub trait Row: Drop {
         requires { place < length (numbers self.now) }
         ensures { slice_get (numbers self.now) place ≡ Some result };
 
-    /// Makes room for one number more, whatever its width.
+    /// Makes room for one number more, whatever its width. Where there is room, nothing is asked for.
     ///
     /// # Errors
     ///
     /// `NoMemory`. No number changes.
     fn make_place(&mut self) -> Result<(), NoMemory>
         ensures same { numbers self.new ≡ numbers self.old }
-        ensures ok { OnOk result (0 < room self.new) };
+        ensures ok { OnOk result (0 < room self.new) }
+        ensures full { OnErr result (room self.old ≡ 0) };
 
     /// Adds a number, for which there is room.
     fn put(&mut self, number: usize)

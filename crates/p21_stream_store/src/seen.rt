@@ -1,7 +1,7 @@
 //! Which names have come, a bit for each.
-ghost use Rattle.std.specs.Prelude.{◌≡◌, ◌≢◌, ◌<◌, ◌≤◌, ℕ, length, slice_index_or, vec_capacity, OnOk, false};
+ghost use Rattle.std.specs.Prelude.{◌≡◌, ◌≢◌, ◌<◌, ◌≤◌, ℕ, length, slice_index_or, vec_capacity, IsOk, OnOk, false};
 ghost use Rattle.std.specs.Int.{bit_at};
-ghost use Rattle.p21_stream_store.specs.Seen.{MayHaveCome};
+ghost use Rattle.p21_stream_store.specs.Seen.{HasBit, MayHaveCome};
 
 use crate::room::reach;
 use p21_values::NoMemory;
@@ -12,6 +12,7 @@ const NAMES_WITH_A_BIT: u64 = 8_388_608;
 const WORD: u64 = 64;
 
 /// Whether a name may have come: it has no bit, or its bit is set.
+#[inline]
 pub fn may_have_come(words: &[u64], name: u64) -> bool
     ensures { result ≡ false → MayHaveCome words.now name → ⊥ }
 {
@@ -25,10 +26,17 @@ pub fn may_have_come(words: &[u64], name: u64) -> bool
     (words[index] >> (name % WORD)) & 1 == 1
 }
 
-/// Sets the bit of a name, if it has one. All others stay.
+/// Sets the bit of a name, if it has one. All others stay. Where the bit is there, or the name has none, nothing is asked for.
+///
+/// # Errors
+///
+/// `NoMemory`, which changes no bit.
+#[inline]
 pub fn note(words: &mut Vec<u64>, name: u64) -> Result<(), NoMemory>
     ensures noted { OnOk result (MayHaveCome words.new.items name) }
     ensures others { (other : ℕ) → MayHaveCome words.old.items other → MayHaveCome words.new.items other }
+    ensures there { HasBit words.old.items name → IsOk result }
+    ensures large { 8388608 ≤ name → IsOk result × (words.new ≡ words.old) }
     ensures room { (m : ℕ) → vec_capacity words.old ≤ m → 131072 ≤ m → vec_capacity words.new ≤ m }
 {
     if name >= NAMES_WITH_A_BIT {
@@ -43,16 +51,22 @@ pub fn note(words: &mut Vec<u64>, name: u64) -> Result<(), NoMemory>
 }
 
 /// Makes a word of this number, and those in front of it, where there is none yet. No bit changes.
+#[inline]
 fn make_word(words: &mut Vec<u64>, index: usize) -> Result<(), NoMemory>
     requires { index < 131072 }
     ensures made { OnOk result (index < length words.new.items) }
+    ensures there { index < length words.old.items → IsOk result × (words.new ≡ words.old) }
     ensures same { (other : ℕ) → slice_index_or words.new.items other 0 ≡ slice_index_or words.old.items other 0 }
     ensures room { (m : ℕ) → vec_capacity words.old ≤ m → 131072 ≤ m → vec_capacity words.new ≤ m }
 {
+    if index < words.len() {
+        return Ok(());
+    }
     reach(words, index, (NAMES_WITH_A_BIT / WORD) as usize, 0)
 }
 
 /// Sets a bit of a word.
+#[inline]
 fn set_bit(words: &mut Vec<u64>, index: usize, bit: u64)
     requires word { index < length words.old.items }
     requires bit { bit < 64 }

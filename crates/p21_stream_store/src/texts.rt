@@ -1,5 +1,5 @@
 //! Texts by number. They lie in blocks that don't move when more come.
-ghost use Rattle.std.specs.Prelude.{◌≡◌, ◌+◌, ◌*◌, ◌<◌, ◌≤◌, ◌^◌, ℕ, [], ◌∷◌, ◌++◌, length, slice_get, max, vec_capacity, vec_len, IfOk, IsTrue, OnOk, Some, true};
+ghost use Rattle.std.specs.Prelude.{◌≡◌, ◌+◌, ◌*◌, ◌<◌, ◌≤◌, ◌^◌, ℕ, [], ◌∷◌, ◌++◌, length, slice_get, max, vec_capacity, vec_len, IfOk, IsTrue, OnErr, OnOk, Some, true};
 ghost use Rattle.p21_stream_store.specs.Blocks.{AreFirsts, block_texts, first_at};
 ghost use Rattle.p21_stream_store.specs.Texts.{AreStartsFrom, texts_of};
 
@@ -12,7 +12,8 @@ use std::mem;
 /// The bytes of a block, apart from those of a text that is longer and has a block of its own. So 16 bits hold each start.
 const BLOCK: usize = 65_536;
 
-/// Makes room for a text of this size and where it starts, in a block that takes it. The first one makes room for a whole block.
+/// Makes room for a text of this size and where it starts, in a block that takes it. The first one makes room for a whole block, and
+/// where there is room for a further one, nothing is asked for.
 ///
 /// # Errors
 ///
@@ -22,12 +23,22 @@ fn make_place(starts: &mut Vec<u16>, bytes: &mut Vec<u8>, size: usize) -> Result
     ensures bytes { bytes.new.items ≡ bytes.old.items }
     ensures place { OnOk result (vec_len starts.new < vec_capacity starts.new) }
     ensures room { OnOk result (vec_len bytes.new + size ≤ vec_capacity bytes.new) }
+    ensures full { 0 < vec_len starts.old → vec_len bytes.old + size ≤ vec_capacity bytes.old → OnErr result (vec_capacity starts.old ≤ vec_len starts.old) }
+    ensures kept_starts { vec_len starts.old < vec_capacity starts.old → vec_capacity starts.new ≡ vec_capacity starts.old }
+    ensures kept_bytes { 0 < vec_len starts.old → vec_len bytes.old + size ≤ vec_capacity bytes.old → vec_capacity bytes.new ≡ vec_capacity bytes.old }
     ensures most_starts { (m : ℕ) → vec_capacity starts.old ≤ m → 32 ≤ m → 2 * vec_len starts.old ≤ m → vec_capacity starts.new ≤ m }
     ensures most_bytes { vec_capacity bytes.new ≤ max (vec_capacity bytes.old) (vec_len bytes.old + max 65536 size) }
 {
-    let least = if starts.is_empty() { BLOCK } else { 0 };
-    bytes.reserve_exact(least.max(size))?;
+    bytes.reserve_exact(least_room(starts.len()).max(size))?;
     make_room(starts)
+}
+
+/// Behind so many texts of a block, room for so many bytes is made at least: behind none for a whole block.
+fn least_room(starts: usize) -> usize
+    ensures most { result ≤ 65536 }
+    ensures none { 0 < starts → result ≡ 0 }
+{
+    if starts == 0 { BLOCK } else { 0 }
 }
 
 /// Whether a block of so many texts and bytes takes a text of this size: 16 bits hold its start, and the block gets no larger by it

@@ -26,13 +26,13 @@ loop-index-preserved c =
       ],
     )
 
-pub returns : goal.returns
-returns c =
+pub returns-clause-drops : goal.returns-clause-drops
+returns-clause-drops c =
     let s = c.args.schema.now in
     let stored = stored_in c.args.stored.now in
     let front : List Reference = references_of (take c.args.from c.args.waiting.now.items) in
     let old : List Reference = references_of (drop c.args.from c.args.waiting.now.items) in
     let now : List held.Reference = c.loop-index.waiting.items in
     let Drops : List held.Reference → Type 0 = λ left. DropsBehind s stored front old (references_of left) in
-    subst Drops (sym (c.give_back.ensures ∙ c.truncate.ensures.items))
+    subst Drops (sym (c.give_back.ensures.items ∙ c.truncate.ensures.items))
     (looked-all s stored front old now c.loop-index.left c.loop-index.index c.loop-index.invariant.1 (omega (arith, c.loop-index-test.false, c.len-index-end.ensures, c.loop-index.invariant.0)))
