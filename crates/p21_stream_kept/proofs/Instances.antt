@@ -1,9 +1,9 @@
 -- One more instance, by what is kept.
-use Rattle.std.proofs.Common.{◌≡◌, ◌+◌, ◌⊎◌, ◌∙◌, ℕ, suc, List, [], ◌∷◌, ◌++◌, length, map, true, Option, Some, None, Ok, Err, refl, sym, ap, subst}
+use Rattle.std.proofs.Common.{◌≡◌, ◌+◌, ◌⊎◌, ◌∙◌, ℕ, suc, List, [], ◌∷◌, ◌++◌, length, map, Option, Some, None, Ok, Err, refl, sym, ap, subst}
 use Rattle.std.specs.List.{AllByRecursion as Each}
 use Rattle.std.specs.List.Sorted.{IsPermutation}
-use Rattle.std.specs.Prelude.{◌≢◌, ◌↔◌, Bool, Contains, IfSome, IsNone, IsTrue, is_some}
-use Rattle.p21_spec_basics.proofs.Members.{Contains-mapped, Contains-unmapped}
+use Rattle.std.specs.Prelude.{◌≢◌, ◌↔◌, Bool, Contains, IsTrue}
+use Rattle.p21_spec_basics.proofs.Members.{Contains-unmapped}
 use Rattle.p21_spec_basics.specs.Limits.{Limits}
 use Rattle.p21_spec_laws.specs.CompleteFile.{Entry}
 use Rattle.p21_spec_laws.specs.Taken.{names_among}
@@ -40,15 +40,6 @@ pub stored-names : (memberships : List Membership) (instances : List store.Store
 stored-names memberships [] = refl
 stored-names memberships (x ∷ xs) =
     ap (λ (n : ℕ). n ∷ map (λ (y : StoredEntry). y.name) (stored_of memberships xs)) (with-name _ x) ∙ ap (λ (ns : List ℕ). x.name ∷ ns) (stored-names memberships xs)
-
--- what is found by a name has it; where nothing is found, none has it
-pub named-found : (instances : List store.StoredInstance) (n : ℕ) (found : Option ℕ) → IfSome found (λ membership. (text : List ℕ) × Contains instances (record { name = n; membership = membership; text = text })) → is_some found ≡ true → Contains (instance_names instances) n
-named-found instances n (Some membership) (text, among) there = Contains-mapped (λ (y : store.StoredInstance). y.name) instances (record { name = n; membership = membership; text = text }) among
-named-found instances n None among there = cc
-
-pub named-none : (instances : List store.StoredInstance) (n : ℕ) (found : Option ℕ) → (IsNone found → Contains (instance_names instances) n → ⊥) → Contains (instance_names instances) n → is_some found ≡ true
-named-none instances n (Some membership) none among = refl
-named-none instances n None none among = absurd (none refl among)
 
 -- ---- steps
 

@@ -43,6 +43,18 @@ impl KeptInstances {
         }
     }
 
+    /// Whether an instance has this name.
+    #[inline(always)]
+    pub(crate) fn has_name(&self, name: u64) -> bool
+        ensures { IsTrue result ↔ Contains (instance_names (instances_of self.now)) name }
+    {
+        match self {
+            KeptInstances::WithLines(instances) => instances.has_name(name),
+            KeptInstances::Counted(names) => names.has_name(name),
+            KeptInstances::Beside(later) => later.names.has_name(name),
+        }
+    }
+
     /// Adds an instance whose name no instance has yet, with the number of its membership, and with its line where lines are kept;
     /// where an earlier file stands beside, the line is held against its lines.
     ///

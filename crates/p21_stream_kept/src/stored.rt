@@ -36,7 +36,7 @@ impl Stored {
     pub(crate) fn has_name(&self, name: Name) -> bool
         ensures { IsTrue result ↔ Contains (instance_names (instances_of self.now.instances)) name }
     {
-        self.instances.membership_of(name.0).is_some()
+        self.instances.has_name(name.0)
     }
 
     /// Adds an instance of a data section, by what is found of it, with its line where lines are kept. It has a name that none has

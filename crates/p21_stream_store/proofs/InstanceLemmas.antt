@@ -1,11 +1,12 @@
 -- Instances among those that are stored.
-use Rattle.std.proofs.Common.{◌≡◌, ◌<◌, ℕ, zero, suc, List, [], ◌∷◌, ◌++◌, length, get_or, Some, refl, sym, ap, subst, ◌∙◌, arith}
+use Rattle.std.proofs.Common.{◌≡◌, ◌<◌, ℕ, zero, suc, List, [], ◌∷◌, ◌++◌, length, get_or, true, Option, None, Some, refl, sym, ap, subst, ◌∙◌, arith}
 use Rattle.std.proofs.lemmas.List.{length-append}
 use Rattle.std.proofs.lemmas.List.Sorted.{IsPermutation-sym, IsPermutation-to_front}
 use Rattle.std.proofs.lemmas.Option.{get_or_from_slice_get, slice_get-get_or, slice_get_within}
 use Rattle.std.specs.List.{Contains, slice_get}
 use Rattle.std.specs.List.Sorted.{IsPermutation}
-use Rattle.p21_spec_basics.proofs.Members.{Contains-found}
+use Rattle.std.specs.Prelude.{IfSome, IsNone, is_some}
+use Rattle.p21_spec_basics.proofs.Members.{Contains-found, Contains-mapped}
 use Rattle.p21_stream_store.specs.StoredInstance.{StoredInstance, instance_names, stored_instances, name_at}
 
 -- the instance of a name, and of a membership with a text
@@ -85,3 +86,14 @@ module _ (names new_names : List ℕ) (lines new_lines : List (ℕ × List ℕ))
   one_added old is =
       let new : stored_instances new_names new_lines ≡ old ++ kept n l ∷ [] = rw (names_are, lines_are) (kept-more names lines n l same ∙ ap (λ (x : List StoredInstance). x ++ kept n l ∷ []) is) in
       subst (λ (x : List StoredInstance). IsPermutation (kept n l ∷ old) x) (sym new) (IsPermutation-sym _ _ (IsPermutation-to_front old (kept n l)))
+
+-- ---- names that are found
+
+-- what is found by a name has it; where nothing is found, none has it
+pub named-found : (instances : List StoredInstance) (n : ℕ) (found : Option ℕ) → IfSome found (λ membership. (text : List ℕ) × Contains instances (record { name = n; membership = membership; text = text })) → is_some found ≡ true → Contains (instance_names instances) n
+named-found instances n (Some membership) (text, among) there = Contains-mapped (λ (y : StoredInstance). y.name) instances (record { name = n; membership = membership; text = text }) among
+named-found instances n None among there = cc
+
+pub named-none : (instances : List StoredInstance) (n : ℕ) (found : Option ℕ) → (IsNone found → Contains (instance_names instances) n → ⊥) → Contains (instance_names instances) n → is_some found ≡ true
+named-none instances n (Some membership) none among = refl
+named-none instances n None none among = absurd (none refl among)

@@ -3,13 +3,14 @@ use Rattle.std.proofs.Common.{◌≡◌, ◌+◌, ◌*◌, ◌<◌, ◌≤◌, �
 use Rattle.std.proofs.lemmas.Bool.Decides.{leb_tells}
 use Rattle.std.proofs.lemmas.List.{get_or_past, map-append}
 use Rattle.std.proofs.lemmas.List.Elements.{Contains-append_cases, Contains-append_left, Contains-append_right}
-use Rattle.std.proofs.lemmas.List.Sorted.{IsPermutation-append_left, IsPermutation-append_right, IsPermutation-cons, IsPermutation-middle, IsPermutation-refl, IsPermutation-sym, IsPermutation-trans, length_permutation}
+use Rattle.std.proofs.lemmas.List.Sorted.{Contains-permutation, IsPermutation-append_left, IsPermutation-append_right, IsPermutation-cons, IsPermutation-map, IsPermutation-middle, IsPermutation-refl, IsPermutation-sym, IsPermutation-trans, length_permutation}
 use Rattle.std.specs.List.{Contains, range_with_len}
 use Rattle.std.specs.List.Sorted.{IsPermutation}
 use Rattle.p21_spec_basics.proofs.Members.{Contains-cases, Contains-first, Contains-later, Contains-mapped, Contains-none}
 use Rattle.p21_stream_store.proofs.PageLemmas.{none_behind}
-use Rattle.p21_stream_store.specs.NamedMemberships.{marks_of, noted_from, noted_in, without_text}
+use Rattle.p21_stream_store.specs.NamedMemberships.{AreSeen, marks_of, noted_from, noted_in, without_text}
 use Rattle.p21_stream_store.specs.Positions.{Changes, IsSame, position_marked, position_of_mark}
+use Rattle.p21_stream_store.specs.Seen.{MayHaveCome}
 use Rattle.p21_stream_store.specs.StoredInstance.{StoredInstance, instance_names}
 use Rattle.p21_stream_store.specs.Tables.{number_of}
 use Rattle.p21_stream_store.specs.declared.pages.Pages.{Pages}
@@ -208,3 +209,23 @@ module _ (table : Pages ℕ) (others all : List StoredInstance) (all_are : noted
   pub other-refused : {T E : Type 0} (new : Pages ℕ) (more_others : List StoredInstance) → IsSame (position_marked table) (position_marked new) → (r : Result T E) → OnErr r (more_others ≡ others) → OnErr r (noted_in new ++ more_others ≡ all)
   other-refused new more_others same (Ok value) is = tt
   other-refused new more_others same (Err fault) is = ap (λ (xs : List StoredInstance). noted_in new ++ xs) is ∙ all-stay new same
+
+-- ---- names that have come
+
+-- the names of these instances are seen in words, and what was seen there is seen in further ones
+module _ (words new : List ℕ) (old : List StoredInstance) (seen : AreSeen words old) (stay : (other : ℕ) → MayHaveCome words other → MayHaveCome new other) where
+  pub seen-same : (all : List StoredInstance) → all ≡ old → AreSeen new all
+  seen-same all same name among = stay name (seen name (subst (λ (xs : List StoredInstance). Contains (instance_names xs) name) same among))
+
+  -- one more is seen too
+  pub seen-more : (x : StoredInstance) (all : List StoredInstance) → MayHaveCome new x.name → IsPermutation (x ∷ old) all → AreSeen new all
+  seen-more x all noted permuted name among =
+      let names = IsPermutation-sym _ _ (IsPermutation-map (λ (y : StoredInstance). y.name) _ _ permuted) in
+      elim (Contains-cases x.name (instance_names old) name (Contains-permutation _ _ name names among)) [
+        | inl here ↦ subst (MayHaveCome new) here noted
+        | inr before ↦ stay name (seen name before)
+      ]
+
+  pub seen-either : {T E : Type 0} (x : StoredInstance) (all : List StoredInstance) → MayHaveCome new x.name → (r : Result T E) → OnOk r (IsPermutation (x ∷ old) all) → OnErr r (all ≡ old) → AreSeen new all
+  seen-either x all noted (Ok value) permuted same = seen-more x all noted permuted
+  seen-either x all noted (Err fault) permuted same = seen-same all same

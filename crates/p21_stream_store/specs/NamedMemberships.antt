@@ -1,9 +1,10 @@
 -- Instances without texts, by the memberships that are noted of their names.
-use Rattle.std.specs.Prelude.{◌*◌, ℕ, zero, suc, List, [], ◌∷◌, length, map}
+use Rattle.std.specs.Prelude.{◌*◌, ℕ, zero, suc, List, [], ◌∷◌, length, map, Contains}
 use Rattle.std.specs.List.{range_with_len}
+use Rattle.p21_stream_store.specs.Seen.{MayHaveCome}
 use Rattle.p21_stream_store.specs.Tables.{number_of}
 use Rattle.p21_stream_store.specs.declared.pages.Pages.{Pages}
-use Rattle.p21_stream_store.specs.StoredInstance.{StoredInstance}
+use Rattle.p21_stream_store.specs.StoredInstance.{StoredInstance, instance_names}
 
 -- an instance of a name without a text
 abbrev pub without_text : ℕ → ℕ → StoredInstance
@@ -22,3 +23,7 @@ marks_of table = map (number_of 0 table) (range_with_len 0 (4096 * length table.
 -- the instances whose memberships are noted in a table
 abbrev pub noted_in : Pages ℕ → List StoredInstance
 noted_in table = noted_from 0 (marks_of table)
+
+-- the bit of the name of each instance is set, if it has one
+abbrev pub AreSeen : List ℕ → List StoredInstance → Type 0
+AreSeen words stored = (name : ℕ) → Contains (instance_names stored) name → MayHaveCome words name

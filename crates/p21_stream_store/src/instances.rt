@@ -1,5 +1,5 @@
 //! The instances that a session has taken.
-ghost use Rattle.std.specs.Prelude.{◌≡◌, ◌<◌, ◌≤◌, ◌^◌, ℕ, List, [], ◌∷◌, length, slice_get, Contains, IfOk, IfSome, IsNone, IsPermutation, OnErr, OnOk, Some};
+ghost use Rattle.std.specs.Prelude.{◌≡◌, ◌↔◌, ◌<◌, ◌≤◌, ◌^◌, ℕ, List, [], ◌∷◌, length, slice_get, Contains, IfOk, IfSome, IsNone, IsPermutation, IsTrue, OnErr, OnOk, Some};
 ghost use Rattle.std.specs.List.{range_with_len};
 ghost use Rattle.std.specs.List.Sorted.{IsNonDecreasingBy};
 ghost use Rattle.p21_stream_store.specs.StoredInstance.{StoredInstance, stored_instance, instance_names, name_at};
@@ -113,6 +113,17 @@ impl Instances {
             return None;
         }
         self.lines.membership_of(name)
+    }
+
+    /// Whether an instance has this name. That none has is mostly said by its bit, without a look at what is noted.
+    #[inline]
+    pub fn has_name(&self, name: u64) -> bool
+        ensures { IsTrue result ↔ Contains (instance_names self.now) name }
+    {
+        if !self.lines.may_have(name) {
+            return false;
+        }
+        self.membership_of(name).is_some()
     }
 
     /// The name and the number of the membership of the first instance whose name is this one or above it, if there is one.

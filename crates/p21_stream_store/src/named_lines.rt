@@ -1,5 +1,5 @@
 //! Lines of instances by name.
-ghost use Rattle.std.specs.Prelude.{◌≡◌, ◌+◌, ◌<◌, ◌^◌, ℕ, List, [], ◌∷◌, length, slice_get, Contains, IfSome, IsNone, IsPermutation, OnErr, OnOk, Some};
+ghost use Rattle.std.specs.Prelude.{◌≡◌, ◌+◌, ◌<◌, ◌^◌, ℕ, List, [], ◌∷◌, length, slice_get, Contains, IfSome, IsNone, IsPermutation, OnErr, OnOk, Some, false};
 ghost use Rattle.p21_stream_store.specs.StoredInstance.{StoredInstance, instance_names};
 
 use crate::name_table::NameTable;
@@ -95,13 +95,21 @@ impl NamedLines {
         }
     }
 
+    /// Whether an instance may have this name: none has it where its bit isn't set.
+    #[inline]
+    pub(crate) fn may_have(&self, name: u64) -> bool
+        ensures { result ≡ false → Contains (instance_names self.now) name → ⊥ }
+    {
+        may_have_come(&self.seen, name)
+    }
+
     /// The number of the membership of the instance of this name, if there is one.
     #[inline]
     pub fn membership_of(&self, name: u64) -> Option<usize>
         ensures some { IfSome result (λ membership. (text : List ℕ) × Contains self.now (record { name = name; membership = membership; text = text })) }
         ensures none { IsNone result → Contains (instance_names self.now) name → ⊥ }
     {
-        if !may_have_come(&self.seen, name) {
+        if !self.may_have(name) {
             return None;
         }
         self.membership_found(name)

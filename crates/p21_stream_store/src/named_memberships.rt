@@ -1,5 +1,5 @@
 //! Memberships of instances by name, where no lines are kept.
-ghost use Rattle.std.specs.Prelude.{◌≡◌, ◌≤◌, ◌+◌, ◌*◌, ℕ, List, [], ◌∷◌, length, Contains, IfOk, IfSome, IsNone, IsPermutation, MatchBool, OnErr, OnOk, Some};
+ghost use Rattle.std.specs.Prelude.{◌≡◌, ◌↔◌, ◌≤◌, ◌+◌, ◌*◌, ℕ, List, [], ◌∷◌, length, Contains, IfOk, IfSome, IsNone, IsPermutation, IsTrue, MatchBool, OnErr, OnOk, Some};
 ghost use Rattle.p21_stream_store.specs.Pages.{most_names};
 ghost use Rattle.p21_stream_store.specs.Positions.{Changes, IsSame, position_marked};
 ghost use Rattle.p21_stream_store.specs.StoredInstance.{StoredInstance, instance_names};
@@ -8,6 +8,7 @@ ghost use Rattle.p21_stream_store.specs.Tables.{GrowsWithin};
 use crate::named_lines::NamedLines;
 use crate::noted::{note, noted_membership};
 use crate::pages::Pages;
+use crate::seen::{self, may_have_come};
 use p21_values::NoMemory;
 use std::alloc::Global;
 use std::marker::Model;
@@ -20,6 +21,8 @@ pub struct NamedMemberships {
     // So many names are noted; in 32 bits, so that a sum of counts stays in 64.
     count: u32,
     others: NamedLines,
+    // A bit for each small name that has come.
+    seen: Vec<u64>,
 }
 
 // Written out: crates above call it, where they would prove a derived one field by field.
@@ -29,20 +32,21 @@ impl Drop for NamedMemberships {
             noted: _,
             count: _,
             others: _,
+            seen: _,
         } = self;
     }
 }
 
 impl Model for NamedMemberships {
     ghost use Rattle.std.specs.Prelude.{◌≡◌, ◌++◌, List, length};
-    ghost use Rattle.p21_stream_store.specs.NamedMemberships.{noted_in};
+    ghost use Rattle.p21_stream_store.specs.NamedMemberships.{AreSeen, noted_in};
     ghost use Rattle.p21_stream_store.specs.StoredInstance.{StoredInstance};
 
     ghost Value = { List StoredInstance };
 
     ghost view = { λ a. noted_in a.noted ++ a.others };
 
-    ghost invariant = { λ a. a.count ≡ length (noted_in a.noted) };
+    ghost invariant = { λ a. (a.count ≡ length (noted_in a.noted)) × AreSeen a.seen.items (noted_in a.noted ++ a.others) };
 }
 
 impl NamedMemberships {
@@ -54,6 +58,7 @@ impl NamedMemberships {
             noted: Pages::new(alloc),
             count: 0,
             others: NamedLines::new(alloc),
+            seen: Vec::new(alloc),
         }
     }
 
@@ -75,6 +80,17 @@ impl NamedMemberships {
         self.others.membership_of(name)
     }
 
+    /// Whether an instance has this name. That none has is mostly said by its bit, without a look at what is noted.
+    #[inline]
+    pub fn has_name(&self, name: u64) -> bool
+        ensures { IsTrue result ↔ Contains (instance_names self.now) name }
+    {
+        if !may_have_come(&self.seen, name) {
+            return false;
+        }
+        self.membership_of(name).is_some()
+    }
+
     /// Adds a name that isn't there yet, with the number of its membership.
     ///
     /// # Errors
@@ -85,6 +101,9 @@ impl NamedMemberships {
         ensures ok { OnOk result (IsPermutation (record { name = name; membership = membership; text = [] } ∷ self.old) self.new) }
         ensures err { OnErr result (self.new ≡ self.old) }
     {
+        let Ok(()) = seen::note(&mut self.seen, name) else {
+            return Err(NoMemory);
+        };
         let all = self.len();
         match count_noted(&mut self.noted, &mut self.count, name, membership, all) {
             Ok(true) => Ok(()),

@@ -1,9 +1,0 @@
-use Rattle.std.proofs.Common.{ℕ, List, subst}
-use Rattle.p21_stream_store.proofs.InstanceLemmas.{among_names}
-use Rattle.p21_stream_store.specs.Seen.{MayHaveCome}
-use Rattle.p21_stream_store.proofs.named_lines.NamedLines.membership_of.Goals as goal
-
-pub returns-then-not-may_have_come-clause-none : goal.returns-then-not-may_have_come-clause-none
-returns-then-not-may_have_come-clause-none c e there =
-    subst (λ (words : List ℕ). MayHaveCome words c.args.name → ⊥) c.deref.ensures.value (c.may_have_come.ensures c.if-not-may_have_come.true)
-    (c.self.invariant.seen c.args.name (among_names _ _ _ c.self.view_is c.self.invariant.texts c.args.name there))
