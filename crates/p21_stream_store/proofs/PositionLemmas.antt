@@ -1,5 +1,5 @@
 -- Names in the order in which they came, and where their positions are stored.
-use Rattle.std.proofs.Common.{◌≡◌, ◌≢◌, ◌⊎◌, ◌+◌, ◌<◌, ◌≤◌, ◌^◌, ℕ, zero, suc, List, [], ◌∷◌, ◌++◌, length, Option, Some, None, inl, inr, IfSome, IsNone, refl, sym, ap, subst, ◌∙◌, arith}
+use Rattle.std.proofs.Common.{◌≡◌, ◌≢◌, ◌⊎◌, ◌+◌, ◌*◌, ◌<◌, ◌≤◌, ◌^◌, ℕ, zero, suc, List, [], ◌∷◌, ◌++◌, length, Option, Some, None, inl, inr, IfSome, IsNone, refl, sym, ap, subst, ◌∙◌, arith}
 use Rattle.std.proofs.lemmas.Bool.Decides.{eqb_tells}
 use Rattle.std.proofs.lemmas.List.{length-append}
 use Rattle.std.proofs.lemmas.Option.{get_or_from_slice_get, slice_get-get_or, slice_get_within}
@@ -9,7 +9,8 @@ use Rattle.std.specs.Option.{option_map}
 use Rattle.std.specs.Ordering.{nat_cmp}
 use Rattle.p21_stream_store.specs.Numbering.{AreOnce}
 use Rattle.p21_stream_store.specs.Positions.{ArePositionsOf, Changes, IsSame, NamesOf, NamesOf-prop, or_else, position_beside, position_in, position_of_mark}
-use Rattle.p21_stream_store.specs.Runs.{place_in}
+use Rattle.p21_stream_store.proofs.RunLemmas.{run_got, run_place}
+use Rattle.p21_stream_store.specs.Runs.{numbers_by, place_in}
 use Rattle.p21_stream_store.specs.Tables.{number_of}
 use Rattle.p21_stream_store.specs.declared.pages.Pages.{Pages}
 
@@ -55,6 +56,32 @@ as_before names find new are same = record { found = λ name place e. are.found 
 -- there is one list of names that are found
 pub names_are : (find : ℕ → Option ℕ) (count : ℕ) (there : NamesOf find count) (names : List ℕ) → count ≡ length names → ArePositionsOf names find → there.0 ≡ names
 names_are find count there names size are = ap (λ (list : NamesOf find count). list.0) (NamesOf-prop find count there (names, (size, are)))
+
+-- where the run has as many names as there are, it has them all
+pub run_is_all : (run names : List ℕ) (marks : Pages ℕ) (tree : BTreeMap ℕ ℕ) (first step : ℕ) → 0 < step → run ≡ numbers_by first step (length run) → length run ≡ length names → ArePositionsOf names (position_in run marks tree) → ArePositionsOf run (position_in run marks tree)
+run_is_all run names marks tree first step some is many are = record { found = found; kept = kept; fits = are.fits } where
+  got : (i : ℕ) → i < length run → slice_get run i ≡ Some (first + i * step)
+  got i within = ap (λ (l : List ℕ). slice_get l i) is ∙ run_got first step (length run) i within
+
+  there : (i : ℕ) → i < length run → position_in run marks tree (first + i * step) ≡ Some i
+  there i within =
+      ap (λ (place : Option ℕ). or_else place (position_beside marks tree (first + i * step))) (ap (λ (l : List ℕ). place_in l (first + i * step)) is ∙ run_place first step (length run) i some within)
+
+  kept : (name place : ℕ) → slice_get run place ≡ Some name → position_in run marks tree name ≡ Some place
+  kept name place at =
+      let within = slice_get_within run place name at in
+      let here = got place within in
+      let same : name ≡ first + place * step = cc in
+      ap (position_in run marks tree) same ∙ there place within
+
+  found : (name place : ℕ) → position_in run marks tree name ≡ Some place → slice_get run place ≡ Some name
+  found name place at =
+      let named = are.found name place at in
+      let low = slice_get_within names place name named in
+      let within : place < length run = omega (arith, low, many) in
+      let here = are.found _ place (there place within) in
+      let same : first + place * step ≡ name = cc in
+      got place within ∙ ap (λ (n : ℕ). Some n) same
 
 -- one more name is found
 one_more : (names : List ℕ) (find new : ℕ → Option ℕ) (x : ℕ) → x < 2 ^ 64 → ArePositionsOf names find → (Contains names x → ⊥) → Changes find x (Some (length names)) new → ArePositionsOf (names ++ x ∷ []) new

@@ -2,7 +2,7 @@
 use Rattle.std.proofs.Common.{◌≡◌, ◌+◌, ◌*◌, ◌/◌, ◌-◌, ◌<◌, ◌≤◌, ℕ, zero, suc, List, [], ◌∷◌, ◌++◌, length, Option, Some, None, inl, inr, refl, ap, ◌∙◌, arith}
 use Rattle.std.proofs.lemmas.Bool.Decides.{eqb_tells}
 use Rattle.std.proofs.Math.Nat.{mul-div_left, mul-le-mul_right}
-use Rattle.std.specs.List.{slice_get}
+use Rattle.std.specs.List.{range_with_len, slice_get}
 use Rattle.std.specs.Option.{option_map}
 use Rattle.p21_stream_store.specs.Runs.{numbers_by, place_in}
 
@@ -14,6 +14,11 @@ pub run_got : (first step count i : ℕ) → i < count → slice_get (numbers_by
 run_got first step zero i h = absurd (omega (arith, h))
 run_got first step (suc count) zero h = ap (λ (n : ℕ). Some n) (let e : first ≡ first + 0 * step = omega arith in e)
 run_got first step (suc count) (suc i) h = run_got (first + step) step count i (omega (arith, h)) ∙ ap (λ (n : ℕ). Some n) (let e : first + step + i * step ≡ first + suc i * step = omega arith in e)
+
+-- a run by ones is a range
+pub run_by_ones : (first count : ℕ) → numbers_by first 1 count ≡ range_with_len first count
+run_by_ones first zero = refl
+run_by_ones first (suc count) = ap (λ (ns : List ℕ). first ∷ ns) (run_by_ones (first + 1) count)
 
 pub run_more : (first step count : ℕ) → numbers_by first step (count + 1) ≡ numbers_by first step count ++ (first + count * step) ∷ []
 run_more first step zero = ap (λ (n : ℕ). n ∷ []) (let e : first ≡ first + 0 * step = omega arith in e)

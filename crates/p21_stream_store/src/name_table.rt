@@ -1,10 +1,11 @@
 //! Names found by name.
-ghost use Rattle.std.specs.Prelude.{◌≡◌, ◌+◌, ◌<◌, ◌≤◌, ◌^◌, ℕ, [], ◌∷◌, ◌++◌, length, slice_get, Contains, IfSome, IsNone, MatchBool, None, OnErr, OnOk, Some};
+ghost use Rattle.std.specs.Prelude.{◌≡◌, ◌+◌, ◌<◌, ◌≤◌, ◌^◌, ℕ, [], ◌∷◌, ◌++◌, length, slice_get, Contains, IfSome, IsNone, MatchBool, None, OnErr, OnOk, Some, true};
 ghost use Rattle.std.specs.BTreeMap.{get};
 ghost use Rattle.std.specs.Ordering.{nat_cmp};
 ghost use Rattle.p21_stream_store.specs.Numbering.{AreOnce};
 ghost use Rattle.p21_stream_store.specs.Pages.{most_names};
 ghost use Rattle.p21_stream_store.specs.Positions.{Changes, IsSame, NamesOf, NamesOf-prop, position_beside, position_in, position_marked};
+ghost use Rattle.p21_stream_store.specs.Runs.{numbers_by};
 ghost use Rattle.p21_stream_store.specs.Tables.{GrowsWithin, KeepsRoom};
 
 use crate::pages::Pages;
@@ -62,6 +63,15 @@ impl NameTable {
         ensures small { result + 2 ^ 32 < 2 ^ 63 }
     {
         self.count
+    }
+
+    /// Whether each name rises by one step above the one that came before it.
+    pub fn are_run(&self) -> bool
+        ensures rising { result ≡ true → (first : ℕ) × (step : ℕ) × (0 < step) × (self.now ≡ numbers_by first step (length self.now)) }
+        ensures few { result ≡ true → length self.now < 2 ^ 32 }
+    {
+        self.run.rises();
+        self.run.len() == self.count
     }
 
     /// The position of a name.
@@ -188,6 +198,9 @@ fn first_from(others: &BTreeMap<u64, usize>, least: u64) -> Option<(u64, usize)>
     ensures between { IfSome result (λ found. (other : ℕ) → least ≤ other → other < found.0 → get nat_cmp others.now other ≡ None) }
     ensures none { IsNone result → (other : ℕ) → least ≤ other → get nat_cmp others.now other ≡ None }
 {
+    if others.is_empty() {
+        return None;
+    }
     match others.range(least..).next() {
         Some((name, place)) => Some((*name, *place)),
         None => None,

@@ -1,4 +1,5 @@
 //! Numbers of any size, in as few bytes as hold them.
+ghost use Rattle.std.specs.List.{range_with_len};
 ghost use Rattle.std.specs.Prelude.{◌≡◌, ◌+◌, ◌<◌, ◌≤◌, ◌^◌, [], ◌∷◌, ◌++◌, length, slice_get, OnErr, OnOk, Some};
 
 use crate::rows::{Layer, Row};
@@ -34,6 +35,17 @@ impl Numbers {
     {
         Numbers {
             run: Run::new(),
+            behind: Widths::new(alloc),
+        }
+    }
+
+    /// The numbers below this, in their order. They take no memory.
+    pub fn below(alloc: Global, count: usize) -> Numbers
+        requires { count < 2 ^ 32 }
+        ensures { result ≡ range_with_len 0 count }
+    {
+        Numbers {
+            run: Run::below(count),
             behind: Widths::new(alloc),
         }
     }

@@ -1,6 +1,7 @@
 //! Numbers that rise by equal steps.
 ghost use Rattle.std.specs.Prelude.{◌≡◌, ◌+◌, ◌*◌, ◌/◌, ◌<◌, ◌≤◌, ◌^◌, ℕ, [], ◌∷◌, ◌++◌, length, slice_get, IfSome, IsNone, MatchBool, None, Some};
-ghost use Rattle.p21_stream_store.specs.Runs.{place_in};
+ghost use Rattle.std.specs.List.{range_with_len};
+ghost use Rattle.p21_stream_store.specs.Runs.{numbers_by, place_in};
 
 use std::marker::Model;
 
@@ -34,6 +35,25 @@ impl Run {
             step: 1,
             count: 0,
         }
+    }
+
+    /// So many numbers from 0 on, by ones.
+    pub fn below(count: usize) -> Run
+        requires { count < 2 ^ 32 }
+        ensures { result ≡ range_with_len 0 count }
+    {
+        Run {
+            first: 0,
+            step: 1,
+            count: count as u32,
+        }
+    }
+
+    /// The numbers rise by equal steps. It does nothing.
+    pub fn rises(&self)
+        ensures { (first : ℕ) × (step : ℕ) × (0 < step) × (self.now ≡ numbers_by first step (length self.now)) }
+    {
+        let _step = self.step;
     }
 
     /// How many numbers there are.
@@ -75,6 +95,12 @@ impl Run {
         ensures between { IfSome result (λ found. (other : ℕ) → least ≤ other → other < found.0 → place_in self.now other ≡ None) }
         ensures none { IsNone result → (other : ℕ) → least ≤ other → place_in self.now other ≡ None }
     {
+        // Behind the last number no step is counted, which would cost a division.
+        let steps = self.count.saturating_sub(1) as usize;
+        let last = self.first + steps * self.step;
+        if least as usize > last {
+            return None;
+        }
         let from = self.first.max(least as usize);
         let place = steps_to(from - self.first, self.step);
         if place >= self.count as usize {

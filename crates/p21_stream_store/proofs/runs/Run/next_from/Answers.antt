@@ -23,3 +23,9 @@ returns-clause-between c other from before = ap (λ (l : List ℕ). place_in l o
     let fewest = c.steps_to-place.ensures.fewest k (omega (arith, is, from, c.max-from.ensures)) in
     let steps = mul-le-mul_right c.self.inside.step fewest in
     omega (arith, is, before, steps))
+
+pub returns-then-least-last-clause-none : goal.returns-then-least-last-clause-none
+returns-then-least-last-clause-none c e other from = ap (λ (l : List ℕ). place_in l other) (sym c.self.view_is) ∙ not_in_run c.self.inside.first c.self.inside.step c.self.inside.count other (λ k h is.
+    let below = below_last c.self.inside.step c.self.inside.count k h in
+    let steps = ap (λ (n : ℕ). n * c.self.inside.step) c.saturating_sub-steps.ensures in
+    omega (arith, below, steps, is, from, c.if-least-last.true))
