@@ -30,7 +30,7 @@ use Rattle.p21_stream.proofs.Within.{source-within, statements-within}
 use Rattle.p21_stream.specs.Held.{SessionHeld, limits_of as session_limits, schema_of}
 use Rattle.p21_stream.specs.Histories.{CountGives, Stands, WholeGives}
 use Rattle.p21_stream.specs.Feeding.{IsFedWhole, taken_history}
-use Rattle.p21_stream.specs.Pieces.{CountsEnd, EndsServed, EndsWhole}
+use Rattle.p21_stream.specs.Ending.{CountsEnd, EndsServed, EndsWhole}
 use Rattle.p21_stream.specs.ReaderInput.{IsCountedInput, IsWholeInput}
 use Rattle.p21_stream.specs.Session.{IsLive}
 use Rattle.p21_stream.specs.declared.counting.Counted.{Counted}

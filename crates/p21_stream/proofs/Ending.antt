@@ -31,7 +31,7 @@ use Rattle.p21_stream.proofs.Instances.{are-instances}
 use Rattle.p21_stream.proofs.Within.{source-within, statements-within}
 use Rattle.p21_stream.specs.Held.{SessionHeld}
 use Rattle.p21_stream.specs.Histories.{FinishGives, Stands}
-use Rattle.p21_stream.specs.Pieces.{EndGives, IsBetweenPieces}
+use Rattle.p21_stream.specs.Ending.{EndGives, IsBetweenPieces}
 use Rattle.p21_stream.specs.Session.{IsLive}
 
 -- a whole file whose references are served is accepted, and its lines are its canonical file

@@ -20,7 +20,7 @@ use Rattle.p21_stream_statements.specs.StatementReader as statements
 use Rattle.p21_stream_statements.specs.StatementReader.{IsSeenAt, StatementHistory, bytes_looked_at}
 use Rattle.p21_stream_kept.specs.Steps as kept_steps
 use Rattle.p21_stream.specs.Laws.{DeadByStatement, DeadByStep, HeldWhileLive, LiveAtStart, LiveByPiece, LiveByStatement, LiveByToken}
-use Rattle.p21_stream.specs.Session.{IsDeadWithin}
+use Rattle.p21_stream.specs.Walk.{IsDeadWithin}
 
 pub live-at_start : LiveAtStart
 live-at_start s limits held reads are = record { reads = reads; limits_are = are; keeps = keeps-at_start s limits with_lines }

@@ -1,5 +1,5 @@
 pub mod Going
-pub mod Pieces
+pub mod Walking
 pub mod Within
 pub mod PieceFeeding
 pub mod Ending
@@ -12,7 +12,7 @@ pub mod Canonicals
 pub mod Claiming
 pub mod Feeding
 pub mod Texts
-pub mod SurveySteps
+pub mod Keepers
 pub mod SurveyFeeding
 pub mod SurveyEnding
 pub mod RefusedNames

@@ -4,14 +4,13 @@ use Rattle.std.proofs.lemmas.List.{append-nil, length-take-le, take-append-drop,
 use Rattle.std.specs.List.{slice_range}
 use Rattle.p21_spec_basics.proofs.Members.{Each-back, Each-front, some_is}
 use Rattle.p21_spec_basics.specs.Limits.{Limits}
-use Rattle.p21_spec_laws.specs.Keeping.{Kept}
 use Rattle.p21_spec_laws.specs.Needs.{MeansWithNeeds}
 use Rattle.p21_spec_exchange.proofs.FirstBytes.{spelling_begins}
 use Rattle.p21_spec_exchange.specs.Laying.{Laid, LaidAs, Lexeme, tokens_in}
 use Rattle.p21_spec_exchange.specs.Pending.{BeginsWithNoSeparator}
 use Rattle.p21_spec_exchange.specs.Record.{Record, record_tokens}
 use Rattle.p21_spec_exchange.specs.Separator.{IsSeparator, blank}
-use Rattle.p21_spec_exchange.specs.Statement.{instance, statement_tokens}
+use Rattle.p21_spec_exchange.specs.Statement.{Statement, instance, statement_tokens}
 use Rattle.p21_spec_exchange.specs.Token.{IsFollowed, Token, equals, name, semicolon}
 use Rattle.p21_express_graph.specs.Rising.{IsOwnRising}
 use Rattle.p21_spec_file.proofs.OneMeaning.{rising-one}
@@ -20,18 +19,14 @@ use Rattle.p21_spec_file.specs.Reference as meant
 use Rattle.p21_mapping_values.specs.TypedView.{need_view}
 use Rattle.p21_mapping_values.specs.declared.need.Need.{Need}
 use Rattle.p21_spec_schema.specs.Schema.{Schema}
-use Rattle.p21_spec_schema.specs.WellFormed.{IsWellFormed}
 use Rattle.p21_stream_statements.specs.declared.fault.Fault.{Fault}
 use Rattle.p21_stream_statements.specs.declared.refusal.Refusal.{Refusal}
 use Rattle.p21_stream_statements.specs.StatementReader as statements
 use Rattle.p21_stream_statements.specs.StatementReader.{StatementHistory, limits_of}
 use Rattle.p21_stream_statements.specs.PassingOver.{GivesPassed, PassesInstances, instance_tokens, with_instances}
-use Rattle.p21_stream_kept.specs.Steps.{FoundGives}
-use Rattle.p21_stream_kept.specs.Taking.{FollowsFound}
-use Rattle.p21_stream.proofs.Going.{dead-behind}
-use Rattle.p21_stream.proofs.Pieces.{follows-behind}
+use Rattle.p21_stream.proofs.Walking.{ends-behind, follows-behind}
 use Rattle.p21_stream.specs.Passing.{IsFoundIn}
-use Rattle.p21_stream.specs.Pieces.{EndsNoToken, IsUnderWay, NeedsNoMemory, StepGives}
+use Rattle.p21_stream.specs.Walk.{EndsNoToken, FollowsFound, IsUnderWay, NeedsNoMemory, StepGives, TakesFound}
 use Rattle.p21_tokens.specs.Histories.{AreSeparators}
 use Rattle.p21_transcribe.specs.Gaps.{PassesSeparators}
 use Rattle.p21_transcribe_instance.specs.Instance.{HasEntities, TakesInstance}
@@ -52,8 +47,8 @@ number_sign-separates bytes rest behind passes begins are =
     none (inr same) = omega (arith, same)
 
 -- where bytes are no separators alone, memory may be asked for
-pub begun-quiet : (s : Schema) (limits : Limits) (held : statements.Held) (kept : Kept) (piece : List ℕ) (result : Result (Option ℕ) Refusal) → (AreSeparators piece → ⊥) → NeedsNoMemory s limits held kept piece result
-begun-quiet s limits held kept piece result begun reading live at pending are = absurd (begun are)
+pub begun-quiet : {K : Type 0} (keeps : List Statement → K → Type 0) (limits : Limits) (held : statements.Held) (kept : K) (piece : List ℕ) (result : Result (Option ℕ) Refusal) → (AreSeparators piece → ⊥) → NeedsNoMemory keeps limits held kept piece result
+begun-quiet keeps limits held kept piece result begun reading live at pending are = absurd (begun are)
 
 -- ---- the bytes of an instance
 
@@ -151,7 +146,7 @@ found-some s n (suc count) entities piece text needs found = omega arith
 
 -- ---- an instance that is passed over
 
-module _ (s : Schema) (limits : Limits) (held next : statements.Held) (kept : Kept) (piece : List ℕ) (count n : ℕ) (entities text : List ℕ) (needs : List meant.Need) (found : IsFoundIn s n entities (take count piece) text needs) (within : count ≤ length piece) where
+module _ {K : Type 0} (s : Schema) (limits : Limits) (keeps left : List Statement → K → Type 0) (held next : statements.Held) (kept : K) (piece : List ℕ) (count n : ℕ) (entities text : List ℕ) (needs : List meant.Need) (found : IsFoundIn s n entities (take count piece) text needs) (within : count ≤ length piece) where
   abbrev one : List (ℕ × Record)
   one = (n, found.record_) ∷ []
 
@@ -164,26 +159,26 @@ module _ (s : Schema) (limits : Limits) (held next : statements.Held) (kept : Ke
       let bytes : AreSeparators (take count piece ++ drop count piece) = subst AreSeparators (sym (take-append-drop count piece)) are in
       tokens-no_separators (take count piece) laid.lexemes (name n) (equals ∷ ((record_tokens found.record_ ++ (semicolon ∷ [])) ++ [])) laid.tokens_are laid.laid (Each-front (λ byte. IsSeparator (blank byte)) (take count piece) (drop count piece) bytes)
 
-  pub passed-quiet : (result : Result (Option ℕ) Refusal) → NeedsNoMemory s limits held kept piece result
+  pub passed-quiet : (result : Result (Option ℕ) Refusal) → NeedsNoMemory keeps limits held kept piece result
   passed-quiet result reading live at pending are = absurd (none-separate are)
 
-  pub passed-none : (many : ℕ) → EndsNoToken s limits held kept piece (Ok (Some many))
+  pub passed-none : (many : ℕ) → EndsNoToken keeps limits held kept piece (Ok (Some many))
   passed-none many reading live at pending are = none-separate are
 
   module _ (gives : GivesPassed held count next) (same : limits_of next ≡ limits_of held) where
     goes : (reading : StatementHistory) (live : statements.IsLive held reading) → PassesInstances reading (length live.history.given) (take count piece) one next
     goes reading live = gives reading live (take count piece) one (length-take-le count piece within) found.are
 
-    pub passed-follows : IsUnderWay s limits held kept piece → FollowsFound s limits kept n entities needs text
+    pub passed-follows : IsUnderWay keeps limits held kept piece → FollowsFound s keeps kept n entities needs text
     passed-follows way =
         let on = goes way.reading way.live.reads in
         record {
           record_ = found.record_;
           found = found.found;
-          follows = follows-behind s limits next kept way.reading (behind way.reading) (instance n found.record_) way.live.keeps on.live refl (ap (λ p. p.1) (same ∙ way.live.limits_are)) way.counted;
+          follows = follows-behind s limits keeps left next kept way.reading (behind way.reading) (instance n found.record_) way.live.keeps on.live refl (ap (λ p. p.1) (same ∙ way.live.limits_are)) way.counted;
         }
 
-    pub passed-on : (after : Kept) → FoundGives s limits kept n entities needs text (Ok tt) after → StepGives s limits held kept piece (Ok (Some count)) next after
+    pub passed-on : (after : K) → TakesFound s limits keeps left kept n entities needs text (Ok tt) after → StepGives s limits keeps left held kept piece (Ok (Some count)) next after
     passed-on after takes reading live at =
         let on = goes reading live.reads in
         let more = on.more in
@@ -196,13 +191,7 @@ module _ (s : Schema) (limits : Limits) (held next : statements.Held) (kept : Ke
           more = omega (arith, more, some);
         }
 
-    pub passed-offends : IsWellFormed s → (after : Kept) (refusal : Refusal) (fault : Fault) → refusal.fault ≡ fault → FoundGives s limits kept n entities needs text (Err fault) after → StepGives s limits held kept piece (Err refusal) next after
-    passed-offends formed after refusal fault is takes other reading live at =
+    pub passed-ends : (after : K) (refusal : Refusal) (fault : Fault) → refusal.fault ≡ fault → TakesFound s limits keeps left kept n entities needs text (Err fault) after → StepGives s limits keeps left held kept piece (Err refusal) next after
+    passed-ends after refusal fault is takes other reading live at =
         let on = goes reading live.reads in
-        dead-behind s formed limits next kept after reading (behind reading) piece count (instance n found.record_) fault live.keeps on.live refl refl tt within (takes found.record_ found.found) (λ none. other (is ∙ none))
-
--- ---- where none is
-
--- all is as before
-pub as-before : (P : statements.Held → Kept → Type 0) (held next : statements.Held) (kept after : Kept) → next ≡ held → after ≡ kept → P next after → P held kept
-as-before P held next kept after statements_are kept_is given = subst (λ (k : Kept). P held k) kept_is (subst (λ (h : statements.Held). P h after) statements_are given)
+        ends-behind s limits keeps left held next kept after reading (behind reading) piece count (instance n found.record_) live at on.live refl refl tt within (takes found.record_ found.found (λ none. other (is ∙ none)) reading.given live.keeps)

@@ -15,11 +15,12 @@ use Rattle.p21_stream_kept.specs.Steps.{StepKeepsBound}
 use Rattle.p21_stream.proofs.Checking.{checks-statements}
 use Rattle.p21_stream.proofs.Going.{held-while_live}
 use Rattle.p21_stream.proofs.Within.{references-within}
-use Rattle.p21_stream.specs.Bounds.{IsBounded, IsNothing}
+use Rattle.p21_stream.specs.Bounds.{IsBounded, IsNothing, IsNothingLeft}
 use Rattle.p21_stream.specs.Held.{SessionHeld}
 use Rattle.p21_stream.specs.Histories.{FeedChecks, FeedGives, FeedNeedsNoMemory, HoldsFor, Stands, nothing_taken}
-use Rattle.p21_stream.specs.Pieces.{IsUnderWay, NeedsNoMemory, ReadGives}
 use Rattle.p21_stream.specs.Session.{IsLive}
+use Rattle.p21_stream.specs.Walk.{IsUnderWay, NeedsNoMemory, ReadGives}
+use Rattle.p21_stream.specs.declared.keeper.Stop.TheVariants.{Refused}
 
 -- a fault is want of memory, or it is another one
 memory-or_other : (fault : Fault) → (fault ≡ NoMemory) ⊎ (fault ≢ NoMemory)
@@ -61,18 +62,18 @@ module _ (s : Schema) (limits : Limits) (held : statements.Held) (kept : Kept) (
 -- ---- a piece that is read
 
 -- no byte was seen, so any may come first
-pub under-way : (s : Schema) (limits : Limits) (held : statements.Held) (kept : Kept) (was : Option Refusal) (piece : List ℕ) → IsBounded (record { schema = s; limits = limits; statements = held; kept = kept; refused = was }) → was ≡ None → IsUnderWay s limits held kept piece
+pub under-way : (s : Schema) (limits : Limits) (held : statements.Held) (kept : Kept) (was : Option Refusal) (piece : List ℕ) → IsBounded (record { schema = s; limits = limits; statements = held; kept = kept; refused = was }) → was ≡ None → IsUnderWay (Keeps s limits) limits held kept piece
 under-way s limits held kept was piece bounded open_ =
     let (reading, none, live) = bounded.reads open_ in
     record { reading = reading; live = live; seen_at = subst (λ (o : Option ℕ). statements.IsSeenAt o piece 0) (sym none) tt; counted = bounded.counted }
 
-module _ (s : Schema) (limits : Limits) (held next : statements.Held) (kept after : Kept) (piece : List ℕ) (was now : Option Refusal) (open_ : was ≡ None) (same : now ≡ was) (gives : ReadGives s limits held kept piece (Ok tt) next after) where
-  pub fed-whole : FeedGives (record { schema = s; limits = limits; statements = held; kept = kept; refused = was }) piece (Ok tt) (record { schema = s; limits = limits; statements = next; kept = after; refused = now })
+module _ (s : Schema) (limits : Limits) (held next : statements.Held) (kept after : Kept) (piece : List ℕ) (was : Option Refusal) (open_ : was ≡ None) (gives : ReadGives s limits (Keeps s limits) (IsNothingLeft s limits) held kept piece (Ok tt) next after) where
+  pub fed-whole : FeedGives (record { schema = s; limits = limits; statements = held; kept = kept; refused = was }) piece (Ok tt) (record { schema = s; limits = limits; statements = next; kept = after; refused = was })
   unfolding Stands
   fed-whole history stands =
       let none : history.refusal ≡ None = sym stands.0 ∙ open_ in
       let going = stands.1 none in
-      (none, (same ∙ stands.0, (λ _. gives (record { taken = history.taken; seen = None; given = going.0 }) going.1 tt), λ refusal is. absurd (none-some refusal history.refusal (sym none) is)))
+      (none, (stands.0, (λ _. gives (record { taken = history.taken; seen = None; given = going.0 }) going.1 tt), λ refusal is. absurd (none-some refusal history.refusal (sym none) is)))
 
   pub fed-checks : FeedChecks (record { schema = s; limits = limits; statements = held; kept = kept; refused = was }) piece (Ok tt)
   unfolding Stands
@@ -81,7 +82,7 @@ module _ (s : Schema) (limits : Limits) (held next : statements.Held) (kept afte
       let whole = gives (record { taken = history.taken; seen = None; given = going.0 }) going.1 tt in
       checks-statements s limits next after (record { taken = history.taken ++ piece; seen = None; given = whole.0 }) whole.1
 
-  pub bounded-whole : StepKeepsBound limits kept after → statements.limits_of next ≡ statements.limits_of held → IsBounded (record { schema = s; limits = limits; statements = held; kept = kept; refused = was }) → IsBounded (record { schema = s; limits = limits; statements = next; kept = after; refused = now })
+  pub bounded-whole : StepKeepsBound limits kept after → statements.limits_of next ≡ statements.limits_of held → IsBounded (record { schema = s; limits = limits; statements = held; kept = kept; refused = was }) → IsBounded (record { schema = s; limits = limits; statements = next; kept = after; refused = was })
   bounded-whole bound limits_same bounded =
       let way = under-way s limits held kept was piece bounded open_ in
       let whole = gives way.reading way.live way.seen_at in
@@ -92,7 +93,7 @@ module _ (s : Schema) (limits : Limits) (held next : statements.Held) (kept afte
         kept_within = bound bounded.kept_within;
         needs_within = references-within s limits next after end whole.1;
         reads = λ _. (end, refl, whole.1);
-        of_bytes = λ r is. bounded.of_bytes r (sym same ∙ is);
+        of_bytes = bounded.of_bytes;
       }
 
 -- ---- a piece that is refused
@@ -102,7 +103,7 @@ pub fed-again : (held : SessionHeld) (piece : List ℕ) (refusal : Refusal) → 
 unfolding Stands
 fed-again held piece refusal was history stands none = absurd (none-some refusal held.refused (sym (stands.0 ∙ none)) was)
 
-pub fed-refused : (s : Schema) (limits : Limits) (held next : statements.Held) (kept after end : Kept) (piece : List ℕ) (was : Option Refusal) (refusal : Refusal) → ReadGives s limits held kept piece (Err refusal) next after
+pub fed-refused : (s : Schema) (limits : Limits) (held next : statements.Held) (kept after end : Kept) (piece : List ℕ) (was : Option Refusal) (refusal : Refusal) → ReadGives s limits (Keeps s limits) (IsNothingLeft s limits) held kept piece (Err (Refused refusal)) next after
     → FeedGives (record { schema = s; limits = limits; statements = held; kept = kept; refused = was }) piece (Err refusal) (record { schema = s; limits = limits; statements = next; kept = end; refused = Some refusal })
 unfolding Stands
 fed-refused s limits held next kept after end piece was refusal gives history stands none =
@@ -114,7 +115,7 @@ fed-refused s limits held next kept after end piece was refusal gives history st
         dead = λ other. absurd (other memory);
         stands = (refl, (λ clash. absurd (none-some refusal None refl (sym clash))), λ r is other. absurd (other (ap (λ (o : Option Refusal). elim o [ None ↦ NoMemory | Some x ↦ x.fault ]) (sym is) ∙ memory)));
       }
-      | inr other ↦ (let d = gives other (record { taken = history.taken; seen = None; given = going.0 }) going.1 tt in record {
+      | inr other ↦ (let d = (gives other (record { taken = history.taken; seen = None; given = going.0 }) going.1 tt).0 in record {
         count = d.upto;
         within = d.within;
         dead = λ _. d.dead;
@@ -138,7 +139,7 @@ bounded-refused s limits held next kept end was refusal nothing same of bounded 
 
 -- ---- separators
 
-pub fed-quiet : (s : Schema) (limits : Limits) (held : statements.Held) (kept : Kept) (piece : List ℕ) (was : Option Refusal) (refusal : Refusal) → NeedsNoMemory {Answer = Unit {0}} s limits held kept piece (Err refusal)
+pub fed-quiet : (s : Schema) (limits : Limits) (held : statements.Held) (kept : Kept) (piece : List ℕ) (was : Option Refusal) (refusal : Refusal) → NeedsNoMemory {Answer = Unit {0}} (Keeps s limits) limits held kept piece (Err refusal)
     → FeedNeedsNoMemory (record { schema = s; limits = limits; statements = held; kept = kept; refused = was }) piece (Err refusal)
 unfolding Stands
 fed-quiet s limits held kept piece was refusal needs history stands none pending are = let going = stands.1 none in needs (record { taken = history.taken; seen = None; given = going.0 }) going.1 tt pending are

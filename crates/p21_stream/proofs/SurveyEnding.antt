@@ -50,7 +50,7 @@ use Rattle.p21_stream.proofs.Checking.{records-mean}
 use Rattle.p21_stream.proofs.Ending.{end-accepted, tokens-laid, whole-kept}
 use Rattle.p21_stream.proofs.Feeding.{refused-by}
 use Rattle.p21_stream.specs.Checked.{IsMeaningful}
-use Rattle.p21_stream.specs.Pieces.{IsBetweenPieces}
+use Rattle.p21_stream.specs.Ending.{IsBetweenPieces}
 use Rattle.p21_stream.specs.Session as session
 use Rattle.p21_stream.specs.ReaderInput.{IsRefused, RefusesRead, read_failures}
 use Rattle.p21_stream.specs.Survey.{EndsByRead, EndsList, IsAnswered, IsOfReference, IsRefusedFirst, ListsAtMost, ListsRecords, SurveysInput}
@@ -61,9 +61,10 @@ use Rattle.p21_stream.specs.declared.listing.Extent.TheVariants as extent
 use Rattle.p21_stream.specs.declared.listing.Refusals.{Refusals}
 use Rattle.p21_stream.specs.declared.listing.Surveyed.{Surveyed}
 use Rattle.p21_stream.specs.declared.listing.Surveyed.TheVariants as survey
+use Rattle.p21_stream.specs.declared.keeper.Stop.{Stop}
+use Rattle.p21_stream.specs.declared.keeper.Stop.TheVariants.{Most, Refused}
 use Rattle.p21_stream.specs.declared.surveying.Surveying.{Surveying}
-use Rattle.p21_stream.specs.declared.surveying.Stop.{Stop}
-use Rattle.p21_stream.specs.declared.surveying.Stop.TheVariants.{Most, Refused}
+use Rattle.p21_stream.specs.declared.walk.Walk.{Walk}
 
 -- ---- the records
 
@@ -261,53 +262,53 @@ stopped-most refusals extent_is s limits most old new some (enough, (bytes, cons
 -- ---- at the end of the bytes
 
 -- what is sifted of all bytes
-pub sifted-whole : (s : Schema) (limits : Limits) (held : statements.Held) (sieve : Sieve) (bytes : List ℕ) (given : List Statement) → IsLive s limits held sieve (record { taken = bytes; seen = None; given = given }) → HasSifted s limits bytes sieve.refusals.items
-sifted-whole s limits held sieve bytes given live = record {
+pub sifted-whole : (s : Schema) (limits : Limits) (held : statements.Held) (surveying : Surveying) (bytes : List ℕ) (given : List Statement) → IsLive s limits held surveying (record { taken = bytes; seen = None; given = given }) → HasSifted s limits bytes surveying.sieve.refusals.items
+sifted-whole s limits held surveying bytes given live = record {
   given = given;
   taken = subst (λ (l : List ℕ). AreStatementsTaken l given) (append-nil bytes) (taken-looked held (record { taken = bytes; seen = None; given = given }) live.reads);
-  passed = live.sifts.passed;
-  sifted = live.sifts.sifted;
-  kept = sieve.kept;
-  keeps = live.sifts.keeps;
+  passed = live.keeps.sifts.passed;
+  sifted = live.keeps.sifts.sifted;
+  kept = surveying.sieve.kept;
+  keeps = live.keeps.sifts.keeps;
 }
 
 -- a read fails
-pub read-stops : (s : Schema) (limits : Limits) (most : ℕ) (old new : Option (List ℕ)) (surveying : Surveying) (refusal : Refusal) → refusal.fault ≡ Read → KeepsBytes old new → StopsMore s limits most old new surveying surveying (Refused refusal)
-read-stops s limits most old new surveying refusal is kept start size from =
+pub read-stops : (s : Schema) (limits : Limits) (old new : Option (List ℕ)) (walk : Walk Surveying) (refusal : Refusal) → refusal.fault ≡ Read → KeepsBytes old new → StopsMore s limits old new walk walk (Refused refusal)
+read-stops s limits old new walk refusal is kept start size from =
     let (given, live) = from.taken in (
       subst (λ (f : Fault). RefusesRead s limits start new f) (sym is) tt,
-      λ other. (from.bytes, Consumes-kept start old new from.bytes from.consumed kept, sifted-whole s limits surveying.statements surveying.sieve from.bytes given live),
+      λ other. (from.bytes, Consumes-kept start old new from.bytes from.consumed kept, sifted-whole s limits walk.statements walk.kept from.bytes given live),
     )
 
 -- the statement reader refuses the end
-pub finish-refused : (s : Schema) (surveying : Surveying) (fault : Fault) (refusal : Refusal) (found : Surveyed) → refusal.fault ≡ fault → IsOfBytes fault → fault ≢ NoMemory → statements.FinishGives surveying.statements (Err fault) → EndsWith surveying.sieve.refusals.items refusal found → FinishGives s surveying found
-finish-refused s surveying fault refusal found is of other gives ends limits old new whole =
+pub finish-refused : (s : Schema) (walk : Walk Surveying) (fault : Fault) (refusal : Refusal) (found : Surveyed) → refusal.fault ≡ fault → IsOfBytes fault → fault ≢ NoMemory → statements.FinishGives walk.statements (Err fault) → EndsWith walk.kept.sieve.refusals.items refusal found → FinishGives s walk found
+finish-refused s walk fault refusal found is of other gives ends limits old new whole =
     let (given, live) = whole.taken in
     let refuses : RefusesRead s limits old new fault = refused-by s limits old new fault of (λ some. record {
       bytes = whole.bytes;
       consumed = whole.read.consumed;
       refused = inr (whole.read.at_end, gives some (record { taken = whole.bytes; seen = None; given = given }) live.reads refl s limits);
     }) in
-    ended-surveys s limits old new whole.bytes surveying.sieve.refusals.items refusal found whole.read.consumed (sifted-whole s limits surveying.statements surveying.sieve whole.bytes given live) (subst (λ (f : Fault). RefusesRead s limits old new f) (sym is) refuses) ends
+    ended-surveys s limits old new whole.bytes walk.kept.sieve.refusals.items refusal found whole.read.consumed (sifted-whole s limits walk.statements walk.kept whole.bytes given live) (subst (λ (f : Fault). RefusesRead s limits old new f) (sym is) refuses) ends
 
-pub finish-ended : {E : Type 0} (s : Schema) (surveying : Surveying) (fault : Fault) (refusal : Refusal) (result : Result Surveyed E) → refusal.fault ≡ fault → IsOfBytes fault → statements.FinishGives surveying.statements (Err fault) → IfOk result (EndsWith surveying.sieve.refusals.items refusal) → OnOk result (refusal.fault ≢ NoMemory) → IfOk result (FinishGives s surveying)
-finish-ended s surveying fault refusal (Ok found) is of gives ends other = finish-refused s surveying fault refusal found is of (λ none. other (is ∙ none)) gives ends
-finish-ended s surveying fault refusal (Err none) is of gives ends other = tt
+pub finish-ended : {E : Type 0} (s : Schema) (walk : Walk Surveying) (fault : Fault) (refusal : Refusal) (result : Result Surveyed E) → refusal.fault ≡ fault → IsOfBytes fault → statements.FinishGives walk.statements (Err fault) → IfOk result (EndsWith walk.kept.sieve.refusals.items refusal) → OnOk result (refusal.fault ≢ NoMemory) → IfOk result (FinishGives s walk)
+finish-ended s walk fault refusal (Ok found) is of gives ends other = finish-refused s walk fault refusal found is of (λ none. other (is ∙ none)) gives ends
+finish-ended s walk fault refusal (Err none) is of gives ends other = tt
 
 none-left : (old added : List Refusal) → old ++ added ≡ [] → (old ≡ []) × (added ≡ [])
 none-left [] added is = (refl, is)
 none-left (r ∷ rs) added is = cc
 
 -- where nothing is refused all statements are kept
-kept-all : (s : Schema) (limits : Limits) (held : statements.Held) (sieve : Sieve) (reading : StatementHistory) → IsLive s limits held sieve reading → sieve.refusals.items ≡ [] → session.IsLive s limits held sieve.kept reading
-kept-all s limits held sieve reading live none = record {
+kept-all : (s : Schema) (limits : Limits) (held : statements.Held) (surveying : Surveying) (reading : StatementHistory) → IsLive s limits held surveying reading → surveying.sieve.refusals.items ≡ [] → session.IsLive s limits held surveying.sieve.kept reading
+kept-all s limits held surveying reading live none = record {
   reads = live.reads;
   limits_are = live.limits_are;
-  keeps = subst (λ (sts : List Statement). Keeps s limits sts sieve.kept) (all-passed s reading.given live.sifts.passed sieve.refusals.items live.sifts.sifted none) live.sifts.keeps;
+  keeps = subst (λ (sts : List Statement). Keeps s limits sts surveying.sieve.kept) (all-passed s reading.given live.keeps.sifts.passed surveying.sieve.refusals.items live.keeps.sifts.sifted none) live.keeps.sifts.keeps;
 }
 
-pub kept-between : (s : Schema) (limits : Limits) (held : statements.Held) (sieve : Sieve) (bytes : List ℕ) (given : List Statement) → IsLive s limits held sieve (record { taken = bytes; seen = None; given = given }) → sieve.refusals.items ≡ [] → IsBetweenPieces s held sieve.kept
-kept-between s limits held sieve bytes given live none = record { limits = limits; reading = record { taken = bytes; seen = None; given = given }; live = kept-all s limits held sieve (record { taken = bytes; seen = None; given = given }) live none; none_seen = refl }
+pub kept-between : (s : Schema) (limits : Limits) (held : statements.Held) (surveying : Surveying) (bytes : List ℕ) (given : List Statement) → IsLive s limits held surveying (record { taken = bytes; seen = None; given = given }) → surveying.sieve.refusals.items ≡ [] → IsBetweenPieces s held surveying.sieve.kept
+kept-between s limits held surveying bytes given live none = record { limits = limits; reading = record { taken = bytes; seen = None; given = given }; live = kept-all s limits held surveying (record { taken = bytes; seen = None; given = given }) live none; none_seen = refl }
 
 -- each reference that waits is served, where none is listed
 pub all-served : (s : Schema) (limits : Limits) (given : List Statement) (sieve : Sieve) (most : ℕ) (new : List Refusal) → Sifts s limits given sieve → 0 < most → unserved.ListsUnserved s sieve.kept sieve.names most sieve.refusals.items new → new ≡ [] → Each (λ (r : Reference). IsServedBy s sieve.kept.stored r.1) sieve.kept.waiting
@@ -322,10 +323,10 @@ all-served s limits given sieve most new sifts some lists none =
     served r no_old no_added (inr (inr (refusal, among, of))) = absurd (Contains-none refusal (subst (λ (rs : List Refusal). Contains rs refusal) no_added among))
 
 -- what is kept then is that of a file
-pub finish-kept : (s : Schema) (surveying : Surveying) (most : ℕ) (new : List Refusal) (kept : Kept) → (limits : Limits) × IsLiveBetween s limits surveying → statements.FinishGives surveying.statements (Ok tt) → unserved.ListsUnserved s surveying.sieve.kept surveying.sieve.names most surveying.sieve.refusals.items new → new ≡ [] → kept ≡ surveying.sieve.kept → IsKeptOfFile kept
-finish-kept s surveying most new kept (limits, (bytes, (given, live))) ends lists none is =
-    let no_old = (none-left surveying.sieve.refusals.items lists.added (sym lists.new_is ∙ none)).0 in
-    subst IsKeptOfFile (sym is) (whole-kept s surveying.statements surveying.sieve.kept ends (kept-between s limits surveying.statements surveying.sieve bytes given live no_old) live.sifts.lines)
+pub finish-kept : (s : Schema) (walk : Walk Surveying) (most : ℕ) (new : List Refusal) (kept : Kept) → (limits : Limits) × IsLiveBetween s limits walk → statements.FinishGives walk.statements (Ok tt) → unserved.ListsUnserved s walk.kept.sieve.kept walk.kept.sieve.names most walk.kept.sieve.refusals.items new → new ≡ [] → kept ≡ walk.kept.sieve.kept → IsKeptOfFile kept
+finish-kept s walk most new kept (limits, (bytes, (given, live))) ends lists none is =
+    let no_old = (none-left walk.kept.sieve.refusals.items lists.added (sym lists.new_is ∙ none)).0 in
+    subst IsKeptOfFile (sym is) (whole-kept s walk.statements walk.kept.sieve.kept ends (kept-between s limits walk.statements walk.kept bytes given live no_old) live.keeps.sifts.lines)
 
 -- there is one, or there is none
 pub some-listed : (list : List Refusal) → ¬ (length list ≡ 0) → (first : Refusal) × (others : List Refusal) × (list ≡ first ∷ others)
@@ -337,16 +338,16 @@ none-listed [] none = refl
 none-listed (r ∷ rs) none = cc
 
 -- so the file is accepted
-pub finish-accepted : (s : Schema) → IsWellFormed s → (surveying : Surveying) (most : ℕ) (new : List Refusal) (output : Output) → 0 < most → statements.FinishGives surveying.statements (Ok tt) → unserved.ListsUnserved s surveying.sieve.kept surveying.sieve.names most surveying.sieve.refusals.items new → new ≡ []
-    → ((s : Schema) (limits : Limits) (given : List Statement) → Keeps s limits given surveying.sieve.kept → IsFileOfKept surveying.sieve.kept output) → FinishGives s surveying (survey.Accepted output)
-finish-accepted s formed surveying most new output some ends lists none end limits old now whole =
+pub finish-accepted : (s : Schema) → IsWellFormed s → (walk : Walk Surveying) (most : ℕ) (new : List Refusal) (output : Output) → 0 < most → statements.FinishGives walk.statements (Ok tt) → unserved.ListsUnserved s walk.kept.sieve.kept walk.kept.sieve.names most walk.kept.sieve.refusals.items new → new ≡ []
+    → ((s : Schema) (limits : Limits) (given : List Statement) → Keeps s limits given walk.kept.sieve.kept → IsFileOfKept walk.kept.sieve.kept output) → FinishGives s walk (survey.Accepted output)
+finish-accepted s formed walk most new output some ends lists none end limits old now whole =
     let (given, live) = whole.taken in
-    let sieve = surveying.sieve in
+    let sieve = walk.kept.sieve in
     let no_old = (none-left sieve.refusals.items lists.added (sym lists.new_is ∙ none)).0 in
     record {
       bytes = whole.bytes;
       read = whole.read;
-      accepted = end-accepted s formed surveying.statements sieve.kept output ends (all-served s limits given sieve most new live.sifts some lists none) live.sifts.lines end limits whole.bytes given (kept-all s limits surveying.statements sieve (record { taken = whole.bytes; seen = None; given = given }) live no_old);
+      accepted = end-accepted s formed walk.statements sieve.kept output ends (all-served s limits given sieve most new live.keeps.sifts some lists none) live.keeps.sifts.lines end limits whole.bytes given (kept-all s limits walk.statements walk.kept (record { taken = whole.bytes; seen = None; given = given }) live no_old);
     }
 
 -- ---- references
@@ -385,18 +386,18 @@ answered-by s limits given sieve sifts added r among (inr (inr (refusal, listed,
 
 -- ---- some are refused
 
-first-refused : (s : Schema) → IsWellFormed s → (limits : Limits) (old new : Option (List ℕ)) (surveying : Surveying) (bytes : List ℕ) (given : List Statement) → IsLive s limits surveying.statements surveying.sieve (record { taken = bytes; seen = None; given = given }) → Consumes old new bytes → IsAtEnd new → statements.FinishGives surveying.statements (Ok tt)
-    → (refusals added list : List Refusal) → surveying.sieve.refusals.items ≡ refusals → list ≡ refusals ++ added → Each (λ (refusal : Refusal). (r : Reference) × Contains surveying.sieve.kept.waiting r × IsRefusalOf s surveying.sieve.kept surveying.sieve.names r refusal) added
+first-refused : (s : Schema) → IsWellFormed s → (limits : Limits) (old new : Option (List ℕ)) (walk : Walk Surveying) (bytes : List ℕ) (given : List Statement) → IsLive s limits walk.statements walk.kept (record { taken = bytes; seen = None; given = given }) → Consumes old new bytes → IsAtEnd new → statements.FinishGives walk.statements (Ok tt)
+    → (refusals added list : List Refusal) → walk.kept.sieve.refusals.items ≡ refusals → list ≡ refusals ++ added → Each (λ (refusal : Refusal). (r : Reference) × Contains walk.kept.sieve.kept.waiting r × IsRefusalOf s walk.kept.sieve.kept walk.kept.sieve.names r refusal) added
     → (first : Refusal) (others : List Refusal) → list ≡ first ∷ others → RefusesRead s limits old new first.fault
-first-refused s formed limits old new surveying bytes given live consumed at_end ends (r ∷ rs) added list are list_is right first others is =
-    let has = sifted-whole s limits surveying.statements surveying.sieve bytes given live in
+first-refused s formed limits old new walk bytes given live consumed at_end ends (r ∷ rs) added list are list_is right first others is =
+    let has = sifted-whole s limits walk.statements walk.kept bytes given live in
     let same : r ≡ first = let both : r ∷ (rs ++ added) ≡ first ∷ others = sym list_is ∙ is in cc in
-    subst (λ (x : Refusal). RefusesRead s limits old new x.fault) same (first-of_instances s limits old new bytes surveying.sieve.refusals.items consumed has r rs are)
-first-refused s formed limits old new surveying bytes given live consumed at_end ends [] [] list are list_is right first others is = let clash : [] ≡ first ∷ others = sym list_is ∙ is in cc
-first-refused s formed limits old new surveying bytes given live consumed at_end ends [] (x ∷ xs) list are list_is ((r, waits, (fault, refused, x_is)), more) first others is =
-    let kept = surveying.sieve.kept in
+    subst (λ (x : Refusal). RefusesRead s limits old new x.fault) same (first-of_instances s limits old new bytes walk.kept.sieve.refusals.items consumed has r rs are)
+first-refused s formed limits old new walk bytes given live consumed at_end ends [] [] list are list_is right first others is = let clash : [] ≡ first ∷ others = sym list_is ∙ is in cc
+first-refused s formed limits old new walk bytes given live consumed at_end ends [] (x ∷ xs) list are list_is ((r, waits, (fault, refused, x_is)), more) first others is =
+    let kept = walk.kept.sieve.kept in
     let w = ends (record { taken = bytes; seen = None; given = given }) live.reads refl in
-    let keeps = (kept-all s limits surveying.statements surveying.sieve (record { taken = bytes; seen = None; given = given }) live are).keeps in
+    let keeps = (kept-all s limits walk.statements walk.kept (record { taken = bytes; seen = None; given = given }) live are).keeps in
     let none : ¬ IsAccepted s limits bytes = keeps-unserved s formed limits bytes given kept keeps w.whole.structure w.whole.statements_are (tokens-laid bytes given w) r waits (serves-none s kept.stored r fault refused.refused) in
     let same : x ≡ first = let both : x ∷ xs ≡ first ∷ others = sym list_is ∙ is in cc in
     let refuses = need-of_file s kept.stored r fault limits old new refused.refused (record { bytes = bytes; consumed = consumed; refused = inr (at_end, none) }) in
@@ -409,27 +410,27 @@ ends-by s bytes records lists added extent.Most size most enough right all tree 
 ends-by s bytes records lists added extent.Part size most none right all tree = absurd none
 
 -- the list of a file that was read whole
-pub finish-listed : (s : Schema) → IsWellFormed s → (surveying : Surveying) (most : ℕ) (refusals : Refusals) → statements.FinishGives surveying.statements (Ok tt) → unserved.ListsUnserved s surveying.sieve.kept surveying.sieve.names most surveying.sieve.refusals.items refusals.list.items → IsExtent refusals.extent (length refusals.list.items) most
-    → (first : Refusal) (others : List Refusal) → refusals.list.items ≡ first ∷ others → FinishGives s surveying (survey.Refused refusals)
+pub finish-listed : (s : Schema) → IsWellFormed s → (walk : Walk Surveying) (most : ℕ) (refusals : Refusals) → statements.FinishGives walk.statements (Ok tt) → unserved.ListsUnserved s walk.kept.sieve.kept walk.kept.sieve.names most walk.kept.sieve.refusals.items refusals.list.items → IsExtent refusals.extent (length refusals.list.items) most
+    → (first : Refusal) (others : List Refusal) → refusals.list.items ≡ first ∷ others → FinishGives s walk (survey.Refused refusals)
 unfolding records-listed sifted-whole
-finish-listed s formed surveying most refusals ends lists extent_is first others is limits old new whole =
+finish-listed s formed walk most refusals ends lists extent_is first others is limits old new whole =
     let (given, live) = whole.taken in
-    let sieve = surveying.sieve in
+    let sieve = walk.kept.sieve in
     let reading : StatementHistory = record { taken = whole.bytes; seen = None; given = given } in
-    let has = sifted-whole s limits surveying.statements sieve whole.bytes given live in
+    let has = sifted-whole s limits walk.statements walk.kept whole.bytes given live in
     let w = ends reading live.reads refl in
     let records = sieve.refusals.items in
-    let entries : List Entry = entries_in live.sifts.keeps.groups in
-    let waits = live.sifts.keeps.waits in
+    let entries : List Entry = entries_in live.keeps.sifts.keeps.groups in
+    let waits = live.keeps.sifts.keeps.waits in
     let right : Each (λ (refusal : Refusal). (r : Reference) × IsOfReference s entries records r refusal) lists.added =
     Each-weaker (λ (refusal : Refusal). (r : Reference) × Contains sieve.kept.waiting r × IsRefusalOf s sieve.kept sieve.names r refusal) (λ (refusal : Refusal). (r : Reference) × IsOfReference s entries records r refusal)
-    (λ refusal (r, among, of). (r, of-reference s limits given sieve live.sifts r refusal (Each-member (Contains (references_in entries)) sieve.kept.waiting r waits.are_needs among) of)) lists.added lists.right in
+    (λ refusal (r, among, of). (r, of-reference s limits given sieve live.keeps.sifts r refusal (Each-member (Contains (references_in entries)) sieve.kept.waiting r waits.are_needs among) of)) lists.added lists.right in
     let answers : length refusals.list.items < most → Each (IsAnswered s entries records lists.added) (references_in entries) =
     λ fewer. Each-of_members (IsAnswered s entries records lists.added) (references_in entries) (λ r among. elim (Each-member (λ (x : Reference). Contains sieve.kept.waiting x ⊎ IsServed s (entity_sets_in entries) x.1) (references_in entries) r waits.others_served among) [
-      | inl waiting ↦ answered-by s limits given sieve live.sifts lists.added r among (Each-member (unserved.IsAnswered s sieve.kept sieve.names lists.added) sieve.kept.waiting r (lists.all fewer) waiting)
+      | inl waiting ↦ answered-by s limits given sieve live.keeps.sifts lists.added r among (Each-member (unserved.IsAnswered s sieve.kept sieve.names lists.added) sieve.kept.waiting r (lists.all fewer) waiting)
       | inr served ↦ inl served
     ]) in (
-      (first, others, is, first-refused s formed limits old new surveying whole.bytes given live whole.read.consumed whole.read.at_end ends records lists.added refusals.list.items refl lists.new_is lists.right first others is),
+      (first, others, is, first-refused s formed limits old new walk whole.bytes given live whole.read.consumed whole.read.at_end ends records lists.added refusals.list.items refl lists.new_is lists.right first others is),
       record {
         bytes = whole.bytes;
         consumed = whole.read.consumed;

@@ -11,7 +11,8 @@ use Rattle.p21_stream_statements.specs.declared.fault.Fault.TheVariants.{NoMemor
 use Rattle.p21_stream_statements.specs.StatementReader as statements
 use Rattle.p21_stream_statements.specs.StatementReader.{HasOpenStatement, IsSeenAt, StatementHistory, limits_of, nothing_read}
 use Rattle.p21_stream_kept.specs.Steps as kept_steps
-use Rattle.p21_stream.specs.Session.{TakesOneToken, IsDeadWithin, IsLive}
+use Rattle.p21_stream.specs.Session.{TakesOneToken, IsLive}
+use Rattle.p21_stream.specs.Walk.{IsDeadWithin}
 
 -- a session that has taken nothing is live
 abbrev pub LiveAtStart : Type 0

@@ -1,9 +1,10 @@
 -- Pieces and histories of a session; what the calls on whole files answer, what they read and write, and what is claimed of them.
+pub mod Walk
 pub mod Session
 pub mod Laws
 pub mod Held
 pub mod Histories
-pub mod Pieces
+pub mod Ending
 pub mod Bounds
 pub mod Checked
 pub mod Canonical
@@ -14,6 +15,7 @@ pub mod Claim
 pub mod Feeding
 pub mod ReaderInput
 pub mod Surveying
+pub mod SurveyKeeping
 pub mod SurveyReading
 pub mod Survey
 pub mod Sifting

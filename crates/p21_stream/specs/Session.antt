@@ -1,17 +1,15 @@
 -- What a session knows of the bytes that it has taken, where it has refused none.
-use Rattle.std.specs.Prelude.{◌≡◌, ◌≤◌, ◌+◌, ℕ, List, ◌++◌, length, take}
+use Rattle.std.specs.Prelude.{◌≡◌, ◌+◌, ℕ, List, ◌++◌, length, take}
 use Rattle.p21_spec_basics.specs.Limits.{Limits}
 use Rattle.p21_spec_laws.specs.Keeping.{Keeps, Kept}
-use Rattle.p21_spec_file.specs.Accepted.{IsDead}
 use Rattle.p21_spec_schema.specs.Schema.{Schema}
 use Rattle.p21_stream_statements.specs.StatementReader as statements
-use Rattle.p21_stream_statements.specs.StatementReader.{IsSeenAt, StatementHistory, limits_of}
+use Rattle.p21_stream_statements.specs.StatementReader.{IsSeenAt, StatementHistory}
+use Rattle.p21_stream.specs.Walk as walk
 
 -- the statement reader stands for a history, within the limits, and the store keeps its statements
-pub record IsLive (s : Schema) (limits : Limits) (held : statements.Held) (kept : Kept) (reading : StatementHistory) : Type 0 where
-  pub reads : statements.IsLive held reading
-  pub limits_are : limits_of held ≡ (limits.record_source, limits.file_source)
-  pub keeps : Keeps s limits reading.given kept
+abbrev pub IsLive : Schema → Limits → statements.Held → Kept → StatementHistory → Type 0
+IsLive s limits held kept reading = walk.IsLive (Keeps s limits) limits held kept reading
 
 -- a history of so many tokens goes on behind so many bytes of a piece, with one more token
 pub record TakesOneToken (s : Schema) (limits : Limits) (old : StatementHistory) (tokens : ℕ) (piece : List ℕ) (count : ℕ) (held : statements.Held) (kept : Kept) : Type 0 where
@@ -20,9 +18,3 @@ pub record TakesOneToken (s : Schema) (limits : Limits) (old : StatementHistory)
   pub taken_are : reading.taken ≡ old.taken ++ take count piece
   pub seen_at : IsSeenAt reading.seen piece count
   pub one_more : length live.reads.history.given ≡ tokens + 1
-
--- nothing that is accepted begins with the bytes taken and some of the piece
-pub record IsDeadWithin (s : Schema) (limits : Limits) (old : StatementHistory) (piece : List ℕ) : Type 0 where
-  pub upto : ℕ
-  pub within : upto ≤ length piece
-  pub dead : IsDead s limits (old.taken ++ take upto piece)

@@ -14,33 +14,34 @@ use Rattle.p21_stream.specs.declared.listing.Extent.TheVariants as extent
 use Rattle.p21_stream.specs.declared.listing.Extent.TheVariants.{Part, Whole}
 use Rattle.p21_stream.specs.declared.listing.Surveyed.{Surveyed}
 use Rattle.p21_stream.specs.declared.listing.Surveyed.TheVariants as survey
-use Rattle.p21_stream.specs.declared.surveying.Stop.{Stop}
-use Rattle.p21_stream.specs.declared.surveying.Stop.TheVariants.{Most, Refused}
+use Rattle.p21_stream.specs.declared.keeper.Stop.{Stop}
+use Rattle.p21_stream.specs.declared.keeper.Stop.TheVariants.{Most, Refused}
 use Rattle.p21_stream.specs.declared.surveying.Surveying.{Surveying}
+use Rattle.p21_stream.specs.declared.walk.Walk.{Walk}
 
 -- these bytes are taken, with whatever statements
-abbrev pub HasTaken : Schema → Limits → Surveying → List ℕ → Type 0
-HasTaken s limits surveying bytes = (given : List Statement) × IsLive s limits surveying.statements surveying.sieve (record { taken = bytes; seen = None; given = given })
+abbrev pub HasTaken : Schema → Limits → Walk Surveying → List ℕ → Type 0
+HasTaken s limits walk bytes = (given : List Statement) × IsLive s limits walk.statements walk.kept (record { taken = bytes; seen = None; given = given })
 
 -- some bytes are taken
-abbrev pub IsLiveBetween : Schema → Limits → Surveying → Type 0
-IsLiveBetween s limits surveying = (bytes : List ℕ) × HasTaken s limits surveying bytes
+abbrev pub IsLiveBetween : Schema → Limits → Walk Surveying → Type 0
+IsLiveBetween s limits walk = (bytes : List ℕ) × HasTaken s limits walk bytes
 
 -- the reader gave so many bytes, and they are taken
-pub record IsSurveyedFrom (s : Schema) (limits : Limits) (start now : Option (List ℕ)) (surveying : Surveying) (size : ℕ) : Type 0 where
+pub record IsSurveyedFrom (s : Schema) (limits : Limits) (start now : Option (List ℕ)) (walk : Walk Surveying) (size : ℕ) : Type 0 where
   pub bytes : List ℕ
   pub consumed : Consumes start now bytes
   pub size_is : length bytes ≡ size
-  pub taken : HasTaken s limits surveying bytes
+  pub taken : HasTaken s limits walk bytes
 
 -- it gave all of its bytes
-pub record IsSurveyedWhole (s : Schema) (limits : Limits) (start now : Option (List ℕ)) (surveying : Surveying) : Type 0 where
+pub record IsSurveyedWhole (s : Schema) (limits : Limits) (start now : Option (List ℕ)) (walk : Walk Surveying) : Type 0 where
   pub bytes : List ℕ
   pub read : IsReadWhole start now bytes
-  pub taken : HasTaken s limits surveying bytes
+  pub taken : HasTaken s limits walk bytes
 
 -- so many bytes more, none at the end of the reader alone
-pub record SurveysMore (s : Schema) (limits : Limits) (old new : Option (List ℕ)) (before after : Surveying) (count : ℕ) : Type 0 where
+pub record SurveysMore (s : Schema) (limits : Limits) (old new : Option (List ℕ)) (before after : Walk Surveying) (count : ℕ) : Type 0 where
   pub along : (start : Option (List ℕ)) (size : ℕ) → IsSurveyedFrom s limits start old before size → IsSurveyedFrom s limits start new after (size + count)
   pub ended : count ≡ 0 → IsAtEnd new
 
@@ -54,13 +55,13 @@ StopsSurvey s limits most start now refusals (Refused refusal) = RefusesRead s l
 StopsSurvey s limits most start now refusals Most = (most ≤ length refusals) × HasSiftedFrom s limits start now refusals
 
 -- the same, wherever the reader began
-abbrev pub StopsMore : Schema → Limits → ℕ → Option (List ℕ) → Option (List ℕ) → Surveying → Surveying → Stop → Type 0
-StopsMore s limits most old new before after stop = (start : Option (List ℕ)) (size : ℕ) → IsSurveyedFrom s limits start old before size → StopsSurvey s limits most start new after.sieve.refusals.items stop
+abbrev pub StopsMore : Schema → Limits → Option (List ℕ) → Option (List ℕ) → Walk Surveying → Walk Surveying → Stop → Type 0
+StopsMore s limits old new before after stop = (start : Option (List ℕ)) (size : ℕ) → IsSurveyedFrom s limits start old before size → StopsSurvey s limits before.kept.most start new after.kept.sieve.refusals.items stop
 
 -- what a piece gives, whichever reader gave it
-abbrev pub PieceGives : Schema → Limits → ℕ → Surveying → List ℕ → Result (Unit {0}) Stop → Surveying → Type 0
-PieceGives s limits most before piece (Ok done) after = (bytes : List ℕ) → HasTaken s limits before bytes → HasTaken s limits after (bytes ++ piece)
-PieceGives s limits most before piece (Err stop) after = (old new : Option (List ℕ)) → Consumes old new piece → StopsMore s limits most old new before after stop
+abbrev pub PieceGives : Schema → Limits → Walk Surveying → List ℕ → Result (Unit {0}) Stop → Walk Surveying → Type 0
+PieceGives s limits before piece (Ok done) after = (bytes : List ℕ) → HasTaken s limits before bytes → HasTaken s limits after (bytes ++ piece)
+PieceGives s limits before piece (Err stop) after = (old new : Option (List ℕ)) → Consumes old new piece → StopsMore s limits old new before after stop
 
 -- the failures of a reader behind a stop: one more where a read failed
 abbrev pub stop_failures : ℕ → Stop → ℕ
@@ -68,8 +69,8 @@ stop_failures count (Refused refusal) = read_failures count refusal.fault
 stop_failures count Most = count
 
 -- what the end of the bytes gives, whatever reader gave them
-abbrev pub FinishGives : Schema → Surveying → Surveyed → Type 0
-FinishGives s surveying found = (limits : Limits) (old new : Option (List ℕ)) → IsSurveyedWhole s limits old new surveying → SurveysInput s limits old new found
+abbrev pub FinishGives : Schema → Walk Surveying → Surveyed → Type 0
+FinishGives s walk found = (limits : Limits) (old new : Option (List ℕ)) → IsSurveyedWhole s limits old new walk → SurveysInput s limits old new found
 
 -- what is found where the reading stopped
 abbrev pub StoppedGives : List Refusal → Stop → Surveyed → Type 0

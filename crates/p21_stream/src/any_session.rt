@@ -11,7 +11,8 @@ ghost use Rattle.p21_stream.specs.Inside.{held_of};
 
 use crate::counting::Counted;
 use crate::held::Held;
-use crate::progress::{Progress, refused};
+use crate::progress::Progress;
+use crate::walk::refused;
 use p21_express_tables::Schema;
 use p21_stream_kept::Kept;
 use p21_stream_output::Accepted;
@@ -53,7 +54,7 @@ impl<'s> Model for AnySession<'s> {
 
     ghost view = { λ a. held_in a.schema.now a.limits a.progress };
 
-    ghost invariant = { λ a. IsBounded (held_in a.schema.now a.limits a.progress) × IsPlanOf a.schema.now a.progress.plan × AreExternalSets a.schema.now a.progress.sets };
+    ghost invariant = { λ a. IsBounded (held_in a.schema.now a.limits a.progress) × IsPlanOf a.schema.now a.progress.walk.plan × AreExternalSets a.schema.now a.progress.walk.sets };
 }
 
 impl<'s> AnySession<'s> {
@@ -138,10 +139,10 @@ impl<'s> AnySession<'s> {
         ensures needs { result.needs ≤ (limits_of self.now).file_source }
     {
         Held {
-            pending: self.progress.statements.pending(),
-            depth: self.progress.statements.depth(),
-            kept: self.progress.kept.size(),
-            needs: self.progress.kept.references(),
+            pending: self.progress.walk.statements.pending(),
+            depth: self.progress.walk.statements.depth(),
+            kept: self.progress.walk.kept.size(),
+            needs: self.progress.walk.kept.references(),
         }
     }
 
@@ -205,6 +206,6 @@ impl<'s> AnySession<'s> {
     pub(crate) fn refusal(&self, fault: Fault) -> Refusal
         ensures fault { result.fault ≡ fault }
     {
-        refused(fault, None, self.progress.statement)
+        refused(fault, None, self.progress.walk.statement)
     }
 }

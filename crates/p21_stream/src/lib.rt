@@ -8,6 +8,7 @@ mod claim;
 mod comparing;
 mod counting;
 mod held;
+mod keeper;
 mod laws;
 mod listing;
 mod passing;
@@ -19,6 +20,7 @@ mod sieve;
 mod surveying;
 mod text;
 mod unserved;
+mod walk;
 mod writing;
 
 pub use claim::headline;

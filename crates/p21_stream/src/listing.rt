@@ -7,13 +7,15 @@ ghost use Rattle.p21_stream.specs.Feeding.{TakesAtMost};
 ghost use Rattle.p21_stream.specs.ReaderInput.{ConsumesAtMost};
 ghost use Rattle.p21_stream.specs.Survey.{EndsByRead, ListsAtMost, SurveysInput, asked_for};
 ghost use Rattle.p21_stream.specs.SurveyReading.{EndsWith, FinishGives, IsExtent, IsLiveBetween, IsSurveyedFrom, IsSurveyedWhole, PieceGives, StoppedGives, StopsByRead, StopsMore, StopsSurvey, SurveysMore, stop_failures};
-ghost use Rattle.p21_stream.specs.Surveying.{StopsByBytes, StopsWithin};
+ghost use Rattle.p21_stream.specs.Surveying.{StopsWithin};
+ghost use Rattle.p21_stream.specs.Walk.{StopsByBytes};
 ghost use Rattle.p21_transcribe_instance.specs.ExternalSet.{AreExternalSets};
 ghost use Rattle.p21_transcribe_instance.specs.Steps.{IsPlanOf};
 
-use crate::progress::refused;
+use crate::keeper::Stop;
 use crate::read::PIECE;
-use crate::surveying::{Stop, Surveying};
+use crate::surveying::Surveying;
+use crate::walk::{Walk, refused};
 use p21_express_tables::Schema;
 use p21_stream_io::{Watched, read_piece};
 use p21_stream_output::Accepted;
@@ -77,11 +79,21 @@ pub fn survey<R: Read>(
 {
     schema.well_formed();
     let most = at_least_one(most);
-    let mut surveying = Surveying::new(alloc, limits);
-    match read_all(&mut surveying, schema, limits, most, reader) {
-        Ok(()) => finish(surveying, schema, most),
-        Err(stop) => stopped(surveying.refusals(), most, stop),
+    let surveying = Surveying::new(alloc, most);
+    let mut walk = Walk::new(alloc, limits, surveying);
+    match read_all(&mut walk, schema, limits, reader) {
+        Ok(()) => finish(walk, schema),
+        Err(stop) => stopped(refusals_of(walk), most, stop),
     }
+}
+
+/// The refusals that are listed.
+fn refusals_of(walk: Walk<Surveying>) -> Vec<Refusal>
+    ensures { result ≡ walk.kept.sieve.refusals }
+{
+    let Walk { kept, .. } = walk;
+    let Surveying { sieve, .. } = kept;
+    sieve.into_refusals()
 }
 
 /// The number, or one for none.
@@ -94,22 +106,22 @@ fn at_least_one(most: u64) -> u64
 
 /// Surveys all that a reader has.
 fn read_all<R: Read>(
-    surveying: &mut Surveying,
+    walk: &mut Walk<Surveying>,
     schema: &Schema,
     limits: Limits,
-    most: u64,
     reader: &mut Watched<R>,
 ) -> Result<(), Stop>
     requires formed { IsWellFormed schema.now }
-    requires new { IsSurveyedFrom schema.now limits (R.remaining reader.old.inner) (R.remaining reader.old.inner) surveying.old 0 }
+    requires new { IsSurveyedFrom schema.now limits (R.remaining reader.old.inner) (R.remaining reader.old.inner) walk.old 0 }
     requires counted { limits.file_source < 2 ^ 64 }
-    requires plan { IsPlanOf schema.now surveying.old.plan }
-    requires sets { AreExternalSets schema.now surveying.old.sets }
-    requires fewer { length surveying.old.sieve.refusals.items < most }
-    ensures ok { OnOk result (IsSurveyedWhole schema.now limits (R.remaining reader.old.inner) (R.remaining reader.new.inner) surveying.new) }
-    ensures err { IfErr result (StopsSurvey schema.now limits most (R.remaining reader.old.inner) (R.remaining reader.new.inner) surveying.new.sieve.refusals.items) }
-    ensures fewer { OnOk result (length surveying.new.sieve.refusals.items < most) }
-    ensures stops { IfErr result (StopsWithin most surveying.new.sieve.refusals.items) }
+    requires plan { IsPlanOf schema.now walk.old.plan }
+    requires sets { AreExternalSets schema.now walk.old.sets }
+    requires fewer { length walk.old.kept.sieve.refusals.items < walk.old.kept.most }
+    ensures ok { OnOk result (IsSurveyedWhole schema.now limits (R.remaining reader.old.inner) (R.remaining reader.new.inner) walk.new) }
+    ensures err { IfErr result (StopsSurvey schema.now limits walk.old.kept.most (R.remaining reader.old.inner) (R.remaining reader.new.inner) walk.new.kept.sieve.refusals.items) }
+    ensures fewer { OnOk result (length walk.new.kept.sieve.refusals.items < walk.new.kept.most) }
+    ensures stops { IfErr result (StopsWithin walk.old.kept.most walk.new.kept.sieve.refusals.items) }
+    ensures most { walk.new.kept.most ≡ walk.old.kept.most }
     ensures consumed { ConsumesAtMost limits (R.remaining reader.old.inner) (R.remaining reader.new.inner) }
 
     ensures moved { reader.new.moved ≤ reader.old.moved + (limits.file_source + 1) }
@@ -119,7 +131,7 @@ fn read_all<R: Read>(
     let mut piece = [0; PIECE];
     let mut left = limits.file_source();
     loop {
-        let count = match read_more(surveying, schema, limits, most, reader, &mut piece, left) {
+        let count = match read_more(walk, schema, limits, reader, &mut piece, left) {
             Ok(count) => count,
             Err(stop) => return Err(stop),
         };
@@ -130,13 +142,12 @@ fn read_all<R: Read>(
     }
 }
 
-/// Surveys what a reader gives at once, and says how many bytes: 0 at the end alone. Its seven arguments are what `read_all` has in
+/// Surveys what a reader gives at once, and says how many bytes: 0 at the end alone. Its six arguments are what `read_all` has in
 /// its loop, of which this is a round.
 fn read_more<R: Read>(
-    surveying: &mut Surveying,
+    walk: &mut Walk<Surveying>,
     schema: &Schema,
     limits: Limits,
-    most: u64,
     reader: &mut Watched<R>,
     piece: &mut [u8],
     left: u64,
@@ -144,17 +155,18 @@ fn read_more<R: Read>(
     requires formed { IsWellFormed schema.now }
     requires room { 0 < length piece.old }
     requires counted { limits.file_source < 2 ^ 64 }
-    requires live { IsLiveBetween schema.now limits surveying.old }
-    requires plan { IsPlanOf schema.now surveying.old.plan }
-    requires sets { AreExternalSets schema.now surveying.old.sets }
-    requires fewer { length surveying.old.sieve.refusals.items < most }
-    ensures ok { IfOk result (SurveysMore schema.now limits (R.remaining reader.old.inner) (R.remaining reader.new.inner) surveying.old surveying.new) }
-    ensures err { IfErr result (StopsMore schema.now limits most (R.remaining reader.old.inner) (R.remaining reader.new.inner) surveying.old surveying.new) }
-    ensures fewer { OnOk result (length surveying.new.sieve.refusals.items < most) }
-    ensures stops { IfErr result (StopsWithin most surveying.new.sieve.refusals.items) }
+    requires live { IsLiveBetween schema.now limits walk.old }
+    requires plan { IsPlanOf schema.now walk.old.plan }
+    requires sets { AreExternalSets schema.now walk.old.sets }
+    requires fewer { length walk.old.kept.sieve.refusals.items < walk.old.kept.most }
+    ensures ok { IfOk result (SurveysMore schema.now limits (R.remaining reader.old.inner) (R.remaining reader.new.inner) walk.old walk.new) }
+    ensures err { IfErr result (StopsMore schema.now limits (R.remaining reader.old.inner) (R.remaining reader.new.inner) walk.old walk.new) }
+    ensures fewer { OnOk result (length walk.new.kept.sieve.refusals.items < walk.new.kept.most) }
+    ensures stops { IfErr result (StopsWithin walk.old.kept.most walk.new.kept.sieve.refusals.items) }
+    ensures most { walk.new.kept.most ≡ walk.old.kept.most }
     ensures consumed { TakesAtMost (left + 1) (R.remaining reader.old.inner) (R.remaining reader.new.inner) }
-    ensures plan { IsPlanOf schema.now surveying.new.plan }
-    ensures sets { AreExternalSets schema.now surveying.new.sets }
+    ensures plan { IsPlanOf schema.now walk.new.plan }
+    ensures sets { AreExternalSets schema.now walk.new.sets }
 
     ensures moved { IfOk result (λ count. reader.new.moved ≤ reader.old.moved + count) }
     ensures moved_once { reader.new.moved ≤ reader.old.moved + 1 }
@@ -164,11 +176,11 @@ fn read_more<R: Read>(
     let count = match read_piece(reader, piece, left) {
         Ok(count) => count,
         Err(_) => {
-            let refusal = refused(Fault::Read, None, surveying.statement);
+            let refusal = refused(Fault::Read, None, walk.statement);
             return Err(Stop::Refused(refusal));
         }
     };
-    match take_piece(surveying, schema, limits, most, &piece[..count]) {
+    match take_piece(walk, schema, limits, &piece[..count]) {
         Ok(()) => Ok(count as u64),
         Err(stop) => Err(stop),
     }
@@ -176,46 +188,47 @@ fn read_more<R: Read>(
 
 /// Surveys a piece. It stands by itself since the prover knows of a parameter, and of no part of one, that it holds bytes.
 fn take_piece(
-    surveying: &mut Surveying,
+    walk: &mut Walk<Surveying>,
     schema: &Schema,
     limits: Limits,
-    most: u64,
     piece: &[u8],
 ) -> Result<(), Stop>
     requires formed { IsWellFormed schema.now }
     requires counted { limits.file_source < 2 ^ 64 }
-    requires live { IsLiveBetween schema.now limits surveying.old }
-    requires plan { IsPlanOf schema.now surveying.old.plan }
-    requires sets { AreExternalSets schema.now surveying.old.sets }
-    requires fewer { length surveying.old.sieve.refusals.items < most }
-    ensures gives { PieceGives schema.now limits most surveying.old piece.now result surveying.new }
-    ensures fewer { OnOk result (length surveying.new.sieve.refusals.items < most) }
-    ensures stops { IfErr result (StopsWithin most surveying.new.sieve.refusals.items) }
+    requires live { IsLiveBetween schema.now limits walk.old }
+    requires plan { IsPlanOf schema.now walk.old.plan }
+    requires sets { AreExternalSets schema.now walk.old.sets }
+    requires fewer { length walk.old.kept.sieve.refusals.items < walk.old.kept.most }
+    ensures gives { PieceGives schema.now limits walk.old piece.now result walk.new }
+    ensures fewer { OnOk result (length walk.new.kept.sieve.refusals.items < walk.new.kept.most) }
+    ensures stops { IfErr result (StopsWithin walk.old.kept.most walk.new.kept.sieve.refusals.items) }
+    ensures most { walk.new.kept.most ≡ walk.old.kept.most }
     ensures kind { IfErr result StopsByBytes }
-    ensures plan { IsPlanOf schema.now surveying.new.plan }
-    ensures sets { AreExternalSets schema.now surveying.new.sets }
+    ensures plan { IsPlanOf schema.now walk.new.plan }
+    ensures sets { AreExternalSets schema.now walk.new.sets }
 {
-    match surveying.read(schema, limits, most, piece) {
+    match walk.read(schema, limits, piece) {
         Ok(()) => Ok(()),
         Err(stop) => Err(stop),
     }
 }
 
 /// The end of the bytes.
-fn finish(surveying: Surveying, schema: &Schema, most: u64) -> Result<Surveyed, NoMemory>
-    requires live { (limits : MeantLimits) × IsLiveBetween schema.now limits surveying }
-    requires fewer { length surveying.sieve.refusals.items < most }
-    ensures gives { IfOk result (FinishGives schema.now surveying) }
-    ensures counted { IfOk result (ListsAtMost most) }
+fn finish(walk: Walk<Surveying>, schema: &Schema) -> Result<Surveyed, NoMemory>
+    requires live { (limits : MeantLimits) × IsLiveBetween schema.now limits walk }
+    requires fewer { length walk.kept.sieve.refusals.items < walk.kept.most }
+    ensures gives { IfOk result (FinishGives schema.now walk) }
+    ensures counted { IfOk result (ListsAtMost walk.kept.most) }
     ensures unread { IfOk result (λ found. ¬ EndsByRead found) }
 {
     schema.well_formed();
-    let Surveying {
+    let Walk {
         statements,
-        mut sieve,
+        kept,
         statement,
         ..
-    } = surveying;
+    } = walk;
+    let Surveying { mut sieve, most } = kept;
     match statements.finish() {
         Ok(()) => {}
         Err(fault) => return ended(sieve.into_refusals(), refused(fault, None, statement)),

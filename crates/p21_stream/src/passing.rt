@@ -1,18 +1,18 @@
 //! Instances that stand whole at the beginning of a piece, taken straight from their bytes (ISO 10303-21, data sections).
-ghost use Rattle.std.specs.Prelude.{◌≡◌, ◌≤◌, ◌<◌, [], length, IfErr, IfOk, IfSome, IsTrue};
+ghost use Rattle.std.specs.Prelude.{◌≡◌, ◌≢◌, ◌≤◌, ◌<◌, [], length, IfErr, IfOk, IfSome, IsTrue};
 ghost use Rattle.p21_mapping_values.specs.TypedView.{ids_view};
 ghost use Rattle.p21_spec_schema.specs.Schema.{Schema as Meant};
 ghost use Rattle.p21_stream_statements.specs.Source.{IsOfBytes};
 ghost use Rattle.p21_stream_statements.specs.StatementReader.{limits_of};
-ghost use Rattle.p21_stream_kept.specs.Steps.{StepKeepsBound};
-ghost use Rattle.p21_stream.specs.Passing.{FindsInstance, PassGives, some_count};
-ghost use Rattle.p21_stream.specs.Pieces.{EndsNoToken, IsUnderWay, NeedsNoMemory, TakesWithinPiece};
+ghost use Rattle.p21_stream.specs.Passing.{FindsInstance, some_count};
+ghost use Rattle.p21_stream.specs.Walk.{EndsNoToken, IsUnderWay, NeedsNoMemory, PassGives, TakesWithinPiece};
 ghost use Rattle.p21_tokens.specs.Histories.{AreSeparators};
 ghost use Rattle.p21_transcribe_instance.specs.Instance.{HasEntities};
 ghost use Rattle.p21_transcribe_instance.specs.Steps.{IsPlanOf};
 ghost use Rattle.p21_transcribe_instance.specs.ExternalSet.{AreExternalSets};
 
-use crate::progress::{Progress, refused};
+use crate::keeper::Keeper;
+use crate::walk::{Walk, refused};
 use p21_express_graph::EntityId;
 use p21_express_tables::Schema;
 use p21_stream_kept::FoundInstance;
@@ -32,7 +32,7 @@ pub(crate) struct Passing {
     pub(crate) count: usize,
 }
 
-impl Progress {
+impl<K: Keeper> Walk<K> {
     /// Takes the instances at the beginning of a piece straight from their bytes, one behind the other, and says how many these
     /// bytes are. Where none is taken so, as much is read and kept as before.
     ///
@@ -45,18 +45,17 @@ impl Progress {
         limits: Limits,
         piece: &[u8],
     ) -> Result<Option<usize>, Refusal>
-        requires way { IsUnderWay schema.now limits self.old.statements self.old.kept piece.now }
+        requires way { IsUnderWay (K.keeps schema.now limits) limits self.old.statements self.old.kept piece.now }
         requires plan { IsPlanOf schema.now self.old.plan }
         requires sets { AreExternalSets schema.now self.old.sets }
         ensures takes { TakesWithinPiece piece.now result }
-        ensures gives { PassGives schema.now limits self.old.statements self.old.kept piece.now result self.new.statements self.new.kept }
-        ensures no_memory { NeedsNoMemory schema.now limits self.old.statements self.old.kept piece.now result }
+        ensures gives { PassGives schema.now limits (K.keeps schema.now limits) (K.left schema.now limits) self.old.statements self.old.kept piece.now result self.new.statements self.new.kept }
+        ensures no_memory { NeedsNoMemory (K.keeps schema.now limits) limits self.old.statements self.old.kept piece.now result }
+        ensures no_token { EndsNoToken (K.keeps schema.now limits) limits self.old.statements self.old.kept piece.now result }
         ensures kind { IfErr result (λ refusal. IsOfBytes refusal.fault) }
-        ensures no_token { EndsNoToken schema.now limits self.old.statements self.old.kept piece.now result }
-        ensures bound { StepKeepsBound limits self.old.kept self.new.kept }
-        ensures lines { self.new.kept.lines ≡ self.old.kept.lines }
+        ensures open { IfErr result (λ refusal. refusal.fault ≢ Fault.NoMemory → K.is_full self.new.kept → ⊥) }
+        ensures stays { K.stays limits self.old.kept self.new.kept }
         ensures limits { limits_of self.new.statements ≡ limits_of self.old.statements }
-        ensures refused { self.new.refused ≡ self.old.refused }
         ensures plan { IsPlanOf schema.now self.new.plan }
         ensures sets { AreExternalSets schema.now self.new.sets }
     {
@@ -89,22 +88,24 @@ impl Progress {
         limits: Limits,
         piece: &[u8],
     ) -> Result<Option<usize>, Refusal>
-        requires way { IsUnderWay schema.now limits self.old.statements self.old.kept piece.now }
+        requires way { IsUnderWay (K.keeps schema.now limits) limits self.old.statements self.old.kept piece.now }
         requires plan { IsPlanOf schema.now self.old.plan }
         requires sets { AreExternalSets schema.now self.old.sets }
         ensures takes { TakesWithinPiece piece.now result }
         ensures some { IfOk result (λ passed. IfSome passed (λ count. 0 < count)) }
-        ensures gives { PassGives schema.now limits self.old.statements self.old.kept piece.now result self.new.statements self.new.kept }
-        ensures no_memory { NeedsNoMemory schema.now limits self.old.statements self.old.kept piece.now result }
+        ensures gives { PassGives schema.now limits (K.keeps schema.now limits) (K.left schema.now limits) self.old.statements self.old.kept piece.now result self.new.statements self.new.kept }
+        ensures no_memory { NeedsNoMemory (K.keeps schema.now limits) limits self.old.statements self.old.kept piece.now result }
+        ensures no_token { EndsNoToken (K.keeps schema.now limits) limits self.old.statements self.old.kept piece.now result }
         ensures kind { IfErr result (λ refusal. IsOfBytes refusal.fault) }
-        ensures no_token { EndsNoToken schema.now limits self.old.statements self.old.kept piece.now result }
-        ensures bound { StepKeepsBound limits self.old.kept self.new.kept }
-        ensures lines { self.new.kept.lines ≡ self.old.kept.lines }
+        ensures open { IfErr result (λ refusal. refusal.fault ≢ Fault.NoMemory → K.is_full self.new.kept → ⊥) }
+        ensures stays { K.stays limits self.old.kept self.new.kept }
         ensures limits { limits_of self.new.statements ≡ limits_of self.old.statements }
-        ensures refused { self.new.refused ≡ self.old.refused }
         ensures plan { IsPlanOf schema.now self.new.plan }
         ensures sets { AreExternalSets schema.now self.new.sets }
     {
+        if self.kept.has_enough() {
+            return Ok(None);
+        }
         schema.well_formed();
         let Some(found) = find(
             schema,

@@ -6,7 +6,8 @@ ghost use Rattle.p21_stream.specs.Inside.{held_of};
 ghost use Rattle.std.specs.Arc.{arc_value};
 
 use crate::held::Held;
-use crate::progress::{Progress, refused};
+use crate::progress::Progress;
+use crate::walk::refused;
 use p21_express_tables::Schema;
 use p21_stream_kept::Kept;
 use p21_stream_output::Accepted;
@@ -59,7 +60,7 @@ impl Model for SharedSession {
 
     ghost view = { λ a. held_in (arc_value a.schema) a.limits a.progress };
 
-    ghost invariant = { λ a. IsBounded (held_in (arc_value a.schema) a.limits a.progress) × IsPlanOf (arc_value a.schema) a.progress.plan × AreExternalSets (arc_value a.schema) a.progress.sets × KeepsLines with_lines a.progress.refused a.progress.kept };
+    ghost invariant = { λ a. IsBounded (held_in (arc_value a.schema) a.limits a.progress) × IsPlanOf (arc_value a.schema) a.progress.walk.plan × AreExternalSets (arc_value a.schema) a.progress.walk.sets × KeepsLines with_lines a.progress.refused a.progress.walk.kept };
 }
 
 impl SharedSession {
@@ -105,10 +106,10 @@ impl SharedSession {
         ensures needs { result.needs ≤ (limits_of self.now).file_source }
     {
         Held {
-            pending: self.progress.statements.pending(),
-            depth: self.progress.statements.depth(),
-            kept: self.progress.kept.size(),
-            needs: self.progress.kept.references(),
+            pending: self.progress.walk.statements.pending(),
+            depth: self.progress.walk.statements.depth(),
+            kept: self.progress.walk.kept.size(),
+            needs: self.progress.walk.kept.references(),
         }
     }
 
@@ -135,6 +136,6 @@ impl SharedSession {
     pub fn refusal(&self, fault: Fault) -> Refusal
         ensures fault { result.fault ≡ fault }
     {
-        refused(fault, None, self.progress.statement)
+        refused(fault, None, self.progress.walk.statement)
     }
 }

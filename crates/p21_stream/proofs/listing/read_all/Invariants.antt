@@ -6,10 +6,11 @@ use Rattle.p21_stream.proofs.listing.read_all.Given as goal
 
 abbrev pub invariant-loop-count : goal.invariant-loop-count
 invariant-loop-count g l = record {
-  surveyed : InLoop l.schema l.limits (g.R.Read.remaining l.initial.reader.inner) (g.R.Read.remaining l.reader.inner) l.surveying l.limits.file_source l.left;
-  plan : IsPlanOf l.schema l.surveying.plan;
-  sets : AreExternalSets l.schema l.surveying.sets;
-  fewer : length l.surveying.sieve.refusals.items < l.most;
+  surveyed : InLoop l.schema l.limits (g.R.Read.remaining l.initial.reader.inner) (g.R.Read.remaining l.reader.inner) l.walk l.limits.file_source l.left;
+  plan : IsPlanOf l.schema l.walk.plan;
+  sets : AreExternalSets l.schema l.walk.sets;
+  fewer : length l.walk.kept.sieve.refusals.items < l.walk.kept.most;
+  most : l.walk.kept.most ≡ l.initial.walk.kept.most;
   moved : l.reader.moved + l.left ≤ l.initial.reader.moved + l.limits.file_source;
   failures : l.reader.failures ≡ l.initial.reader.failures;
 }

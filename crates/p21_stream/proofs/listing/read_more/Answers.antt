@@ -5,7 +5,7 @@ use Rattle.p21_stream.proofs.SurveyFeeding.{surveyed-more}
 use Rattle.p21_stream.proofs.listing.read_more.Goals as goal
 
 pub returns-in-Err-clause-err : goal.returns-in-Err-clause-err
-returns-in-Err-clause-err g c = read-stops c.args.schema.now c.args.limits c.args.most _ _ c.args.surveying.now c.refused-refusal.result c.refused-refusal.ensures c.in-Err.ensures.bytes
+returns-in-Err-clause-err g c = read-stops c.args.schema.now c.args.limits _ _ c.args.walk.now c.refused-refusal.result c.refused-refusal.ensures c.in-Err.ensures.bytes
 
 pub returns-in-Err-take_piece-clause-err : goal.returns-in-Err-take_piece-clause-err
 returns-in-Err-take_piece-clause-err g c = c.in-Err-take_piece.ensures.gives _ _ c.in-Ok.ensures.bytes.0
@@ -13,7 +13,7 @@ returns-in-Err-take_piece-clause-err g c = c.in-Err-take_piece.ensures.gives _ _
 pub returns-in-Ok-take_piece-clause-ok : goal.returns-in-Ok-take_piece-clause-ok
 returns-in-Ok-take_piece-clause-ok g c = record {
   along = λ start size from.
-      surveyed-more c.args.schema.now c.args.limits c.args.most start _ _ c.args.surveying.now c.take_piece.new.surveying _ size c.in-Ok.count c.in-Ok.ensures.bytes.0 (length-take-le c.in-Ok.count c.read_piece.new.piece c.in-Ok.ensures.count.0) c.in-Ok-take_piece.ensures.gives from;
+      surveyed-more c.args.schema.now c.args.limits start _ _ c.args.walk.now c.take_piece.new.walk _ size c.in-Ok.count c.in-Ok.ensures.bytes.0 (length-take-le c.in-Ok.count c.read_piece.new.piece c.in-Ok.ensures.count.0) c.in-Ok-take_piece.ensures.gives from;
   ended = λ none. c.in-Ok.ensures.bytes.1 none (search rules);
 }
 

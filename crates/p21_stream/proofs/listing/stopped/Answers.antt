@@ -5,7 +5,7 @@ use Rattle.p21_stream.specs.SurveyReading.{StoppedGives, StopsByRead}
 use Rattle.p21_stream.specs.declared.listing.Extent.TheVariants as extent
 use Rattle.p21_stream.specs.declared.listing.Refusals.{Refusals}
 use Rattle.p21_stream.specs.declared.listing.Surveyed.TheVariants as surveyed
-use Rattle.p21_stream.specs.declared.surveying.Stop.{Stop}
+use Rattle.p21_stream.specs.declared.keeper.Stop.{Stop}
 use Rattle.p21_stream.specs.Surveying.{StopsWithin}
 use Rattle.p21_stream.proofs.listing.stopped.Goals as goal
 

@@ -1,4 +1,4 @@
-use Rattle.std.proofs.Common.{◌≡◌, ◌∙◌, ℕ, List, IfOk, ap, arith, length, subst, sym}
+use Rattle.std.proofs.Common.{◌≡◌, ◌∙◌, ℕ, List, [], IfOk, ap, arith, length, subst, sym}
 use Rattle.std.proofs.lemmas.Result.{IfOk-weaker}
 use Rattle.p21_stream_io.specs.Watch.{one_call_more}
 use Rattle.p21_stream_statements.specs.declared.refusal.Refusal.{Refusal}
@@ -7,34 +7,51 @@ use Rattle.p21_stream.proofs.SurveyFeeding.{surveyed-none}
 use Rattle.p21_stream.specs.Survey.{EndsByRead, ListsAtMost}
 use Rattle.p21_stream.specs.SurveyReading.{StopsByRead, StoppedGives, StopsSurvey}
 use Rattle.p21_stream.specs.Surveying.{StopsWithin}
+use Rattle.p21_stream.specs.Sifting.{HaveNames}
 use Rattle.p21_stream.specs.declared.listing.Surveyed.{Surveyed}
+use Rattle.p21_stream.specs.declared.sieve.Sieve.{Sieve}
+use Rattle.p21_stream.specs.declared.surveying.Surveying.{Surveying}
+use Rattle.p21_transcribe_instance.specs.ExternalSet.{AreExternalSets}
 use Rattle.p21_stream.proofs.listing.survey.Goals as goal
 
 pub read_all-requires-clause-new : goal.read_all-requires-clause-new
 read_all-requires-clause-new g c =
-    surveyed-none c.args.schema.now c.args.limits (g.R.Read.remaining c.args.reader.now.inner) c.new-surveying.result c.new-surveying.ensures.live c.new-surveying.ensures.limits c.new-surveying.ensures.kept c.new-surveying.ensures.refusals c.new-surveying.ensures.names
+    let sieve = ap (λ (k : Surveying). k.sieve) c.new-walk.ensures.kept in
+    surveyed-none c.args.schema.now c.args.limits (g.R.Read.remaining c.args.reader.now.inner) c.new-walk.result c.new-walk.ensures.live c.new-walk.ensures.limits (ap (λ (k : Sieve). k.kept) sieve ∙ c.new-surveying.ensures.kept) (ap (λ (k : Sieve). k.refusals.items) sieve ∙ c.new-surveying.ensures.refusals)
+    (subst (λ (k : Sieve). HaveNames k.names []) (sym sieve) c.new-surveying.ensures.names)
 
 pub read_all-requires-clause-plan : goal.read_all-requires-clause-plan
-read_all-requires-clause-plan g c = c.new-surveying.ensures.plan c.args.schema.now
+read_all-requires-clause-plan g c = c.new-walk.ensures.plan c.args.schema.now
+
+pub read_all-requires-clause-sets : goal.read_all-requires-clause-sets
+read_all-requires-clause-sets g c = subst (AreExternalSets c.args.schema.now) (sym c.new-walk.ensures.sets) tt
 
 pub returns-in-Err-clause-surveys : goal.returns-in-Err-clause-surveys
 returns-in-Err-clause-surveys g c =
     let old = g.R.Read.remaining c.args.reader.now.inner in
     let new = g.R.Read.remaining c.read_all.new.reader.inner in
-    let stops = subst (λ (rs : List Refusal). StopsSurvey c.args.schema.now c.args.limits c.at_least_one-most.result old new rs c.in-Err.stop) (sym (ap (λ v. v.items) c.refusals.ensures)) c.in-Err.ensures.err in
-    IfOk-weaker _ _ _ (λ (found : Surveyed) (gives : StoppedGives c.refusals.result.items c.in-Err.stop found). gives c.args.schema.now c.args.limits c.at_least_one-most.result old new c.at_least_one-most.ensures.some stops) c.stopped.ensures.gives
+    let most = ap (λ (k : Surveying). k.most) c.new-walk.ensures.kept ∙ c.new-surveying.ensures.most in
+    let stops = subst (λ (n : ℕ). StopsSurvey c.args.schema.now c.args.limits n old new c.refusals_of.result.items c.in-Err.stop) most
+    (subst (λ (rs : List Refusal). StopsSurvey c.args.schema.now c.args.limits c.new-walk.result.kept.most old new rs c.in-Err.stop) (sym (ap (λ v. v.items) c.refusals_of.ensures)) c.in-Err.ensures.err) in
+    IfOk-weaker _ _ _ (λ (found : Surveyed) (gives : StoppedGives c.refusals_of.result.items c.in-Err.stop found). gives c.args.schema.now c.args.limits c.at_least_one-most.result old new c.at_least_one-most.ensures.some stops) c.stopped.ensures.gives
 
 pub read_all-requires-clause-fewer : goal.read_all-requires-clause-fewer
 read_all-requires-clause-fewer g c =
-    let none = ap length c.new-surveying.ensures.refusals in
+    let none = ap (λ (k : Surveying). length k.sieve.refusals.items) c.new-walk.ensures.kept ∙ ap length c.new-surveying.ensures.refusals in
+    let most = ap (λ (k : Surveying). k.most) c.new-walk.ensures.kept ∙ c.new-surveying.ensures.most in
     let some = c.at_least_one-most.ensures.some in
-    omega (arith, none, some)
+    omega (arith, none, most, some)
 
 pub stopped-requires : goal.stopped-requires
-stopped-requires g c = subst (λ (rs : List Refusal). StopsWithin c.at_least_one-most.result rs c.in-Err.stop) (sym (ap (λ v. v.items) c.refusals.ensures)) c.in-Err.ensures.stops
+stopped-requires g c =
+    let most = ap (λ (k : Surveying). k.most) c.new-walk.ensures.kept ∙ c.new-surveying.ensures.most in
+    subst (λ (n : ℕ). StopsWithin n c.refusals_of.result.items c.in-Err.stop) most
+    (subst (λ (rs : List Refusal). StopsWithin c.new-walk.result.kept.most rs c.in-Err.stop) (sym (ap (λ v. v.items) c.refusals_of.ensures)) c.in-Err.ensures.stops)
 
 pub returns-in-Ok-clause-counted : goal.returns-in-Ok-clause-counted
-returns-in-Ok-clause-counted g c = subst (λ (most : ℕ). IfOk c.finish.result (ListsAtMost most)) c.at_least_one-most.ensures.asked c.finish.ensures.counted
+returns-in-Ok-clause-counted g c =
+    let most = c.in-Ok.ensures.most ∙ ap (λ (k : Surveying). k.most) c.new-walk.ensures.kept ∙ c.new-surveying.ensures.most in
+    subst (λ (n : ℕ). IfOk c.finish.result (ListsAtMost n)) (most ∙ c.at_least_one-most.ensures.asked) c.finish.ensures.counted
 
 pub returns-in-Err-clause-counted : goal.returns-in-Err-clause-counted
 returns-in-Err-clause-counted g c = subst (λ (most : ℕ). IfOk c.stopped.result (ListsAtMost most)) c.at_least_one-most.ensures.asked c.stopped.ensures.counted

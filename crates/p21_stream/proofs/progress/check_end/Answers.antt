@@ -6,7 +6,7 @@ use Rattle.p21_stream_statements.specs.Source.{IsOfBytes}
 use Rattle.p21_stream_statements.specs.declared.fault.Fault.{Fault}
 use Rattle.p21_stream_kept.specs.Served.{AnswersUnserved}
 use Rattle.p21_stream.proofs.Ending.{statements-refused, reference-of_bytes, reference-refused}
-use Rattle.p21_stream.specs.Pieces.{EndGives}
+use Rattle.p21_stream.specs.Ending.{EndGives}
 use Rattle.p21_stream.proofs.progress.check_end.Goals as goal
 
 pub returns-in-Err-clause-err : goal.returns-in-Err-clause-err

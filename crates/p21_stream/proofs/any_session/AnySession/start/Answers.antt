@@ -5,7 +5,7 @@ use Rattle.p21_stream.proofs.any_session.AnySession.start.Goals as goal
 
 pub invariant_of-result : goal.invariant_of-result
 invariant_of-result c =
-    (bounded-new c.args.schema.now c.args.limits c.new.result.statements c.new.result.kept c.new.result.refused c.new.ensures.live c.new.ensures.counted c.new.ensures.limits (nothing-is c.args.kept c.new.result.kept c.new.ensures.kept c.requires) c.new.ensures.refused, c.new.ensures.plan c.args.schema.now, subst (AreExternalSets c.args.schema.now) (sym c.new.ensures.sets) tt)
+    (bounded-new c.args.schema.now c.args.limits c.new.result.walk.statements c.new.result.walk.kept c.new.result.refused c.new.ensures.live c.new.ensures.counted c.new.ensures.limits (nothing-is c.args.kept c.new.result.walk.kept c.new.ensures.kept c.requires) c.new.ensures.refused, c.new.ensures.plan c.args.schema.now, subst (AreExternalSets c.args.schema.now) (sym c.new.ensures.sets) tt)
 
 pub returns-clause-stands : goal.returns-clause-stands
-returns-clause-stands c = stands-new c.args.schema.now c.args.limits c.new.result.statements c.new.result.kept c.new.result.refused c.new.ensures.live c.new.ensures.counted c.new.ensures.limits (nothing-is c.args.kept c.new.result.kept c.new.ensures.kept c.requires) c.new.ensures.refused
+returns-clause-stands c = stands-new c.args.schema.now c.args.limits c.new.result.walk.statements c.new.result.walk.kept c.new.result.refused c.new.ensures.live c.new.ensures.counted c.new.ensures.limits (nothing-is c.args.kept c.new.result.walk.kept c.new.ensures.kept c.requires) c.new.ensures.refused

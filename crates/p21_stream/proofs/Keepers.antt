@@ -1,0 +1,80 @@
+-- What a session and what a survey keep of a statement.
+use Rattle.std.proofs.Common.{◌≡◌, ◌≢◌, ◌≤◌, ◌+◌, ℕ, List, length, Result, Ok, Err, IfErr, sym, ap, subst, arith}
+use Rattle.p21_spec_basics.specs.Limits.{Limits}
+use Rattle.p21_spec_laws.proofs.Keeps.{keeps-size}
+use Rattle.p21_spec_laws.proofs.Offenders.{offender-dead}
+use Rattle.p21_spec_laws.specs.Keeping.{Keeps, Kept}
+use Rattle.p21_spec_exchange.specs.Statement.{Statement}
+use Rattle.p21_spec_file.specs.Reference.{Need}
+use Rattle.p21_spec_schema.specs.Schema.{Schema}
+use Rattle.p21_spec_schema.specs.WellFormed.{IsWellFormed}
+use Rattle.p21_stream_kept.specs.Steps as kept_steps
+use Rattle.p21_stream_kept.specs.Taking as kept_taking
+use Rattle.p21_stream_statements.specs.Fault.{fault_number}
+use Rattle.p21_stream_statements.specs.declared.fault.Fault.{Fault}
+use Rattle.p21_stream_statements.specs.declared.fault.Fault.TheVariants.{NoMemory}
+use Rattle.p21_stream_statements.specs.declared.refusal.Refusal.{Refusal}
+use Rattle.p21_stream.proofs.SieveEnding.{ends-dead}
+use Rattle.p21_stream.specs.Bounds.{IsNothingLeft}
+use Rattle.p21_stream.specs.Sifting.{AreSifted}
+use Rattle.p21_stream.specs.SieveSteps as sieve_steps
+use Rattle.p21_stream.specs.SieveSteps.{ListsOne}
+use Rattle.p21_stream.specs.Surveying.{IsFull, IsKeptOf, IsLeftOf}
+use Rattle.p21_stream.specs.Walk.{Follows, FollowsFound, Takes}
+use Rattle.p21_stream.specs.declared.surveying.Surveying.{Surveying}
+
+-- ---- a session
+
+pub kept-follows : (s : Schema) (limits : Limits) (kept : Kept) (statement : Statement) → Follows (Keeps s limits) kept statement → kept_taking.Follows s limits kept statement
+kept-follows s limits kept statement f = record { given = f.given; keeps = f.keeps; structure = f.structure; are_first = f.are_first; few = f.few }
+
+pub kept-follows_found : (s : Schema) (limits : Limits) (kept : Kept) (n : ℕ) (entities : List ℕ) (needs : List Need) (text : List ℕ) → FollowsFound s (Keeps s limits) kept n entities needs text → kept_taking.FollowsFound s limits kept n entities needs text
+kept-follows_found s limits kept n entities needs text f = record { record_ = f.record_; found = f.found; follows = kept-follows s limits kept _ f.follows }
+
+-- what a statement gives that is kept or refused by its number
+pub kept-takes : (s : Schema) → IsWellFormed s → (limits : Limits) (old new : Kept) (statement : Statement) (result : Result (Unit {0}) Fault) → kept_steps.StepGives s limits old statement result new → Takes s limits (Keeps s limits) (IsNothingLeft s limits) old statement result new
+kept-takes s formed limits old new statement (Ok done) gives = gives
+kept-takes s formed limits old new statement (Err fault) gives = λ other given keeps. record {
+  dead = λ bytes taken. offender-dead s formed limits bytes given (old.bytes + old.framing) (keeps-size s limits given old keeps).0 statement (fault_number fault) taken (gives other given keeps);
+  left = tt;
+}
+
+-- ---- a survey
+
+pub sifted-follows : (s : Schema) (limits : Limits) (surveying : Surveying) (statement : Statement) → Follows (IsKeptOf s limits) surveying statement → sieve_steps.Follows s limits surveying.sieve statement
+sifted-follows s limits surveying statement f = record { given = f.given; sifts = f.keeps.sifts; structure = f.structure; are_first = f.are_first; few = f.few }
+
+pub sifted-follows_found : (s : Schema) (limits : Limits) (surveying : Surveying) (n : ℕ) (entities : List ℕ) (needs : List Need) (text : List ℕ) → FollowsFound s (IsKeptOf s limits) surveying n entities needs text → sieve_steps.FollowsFound s limits surveying.sieve n entities needs text
+sifted-follows_found s limits surveying n entities needs text f = record { record_ = f.record_; found = f.found; follows = sifted-follows s limits surveying _ f.follows }
+
+-- where as many aren't listed as were asked for, one more may be
+more-few : (most : ℕ) (old new : List Refusal) → (most ≤ length old → ⊥) → length new ≤ length old + 1 → length new ≤ most
+more-few most old new open_ listed = omega (arith, open_, listed)
+
+pub sifted-takes : (s : Schema) → IsWellFormed s → (limits : Limits) (old new : Surveying) (statement : Statement) (result : Result (Unit {0}) Fault) → new.most ≡ old.most → (IsFull old → ⊥) → sieve_steps.StepGives s limits old.sieve statement result new.sieve
+    → ListsOne old.sieve.refusals.items result new.sieve.refusals.items → Takes s limits (IsKeptOf s limits) (IsLeftOf s limits) old statement result new
+sifted-takes s formed limits old new statement (Ok done) same open_ gives listed = λ given keeps. record {
+  sifts = gives given keeps.sifts;
+  few = subst (λ (most : ℕ). length new.sieve.refusals.items ≤ most) (sym same) (more-few old.most old.sieve.refusals.items new.sieve.refusals.items open_ listed);
+}
+sifted-takes s formed limits old new statement (Err fault) same open_ gives listed = λ other given keeps.
+    let (as_before, ends) = gives other in
+    let sizes : length new.sieve.refusals.items ≡ length old.sieve.refusals.items = ap length as_before in
+    let few = keeps.few in
+    record {
+      dead = λ bytes taken. ends-dead s formed limits given old.sieve statement fault (ends given keeps.sifts) bytes taken;
+      left = record {
+        passed = keeps.sifts.passed;
+        sifted = subst (λ (rs : List Refusal). AreSifted s given keeps.sifts.passed rs) (sym as_before) keeps.sifts.sifted;
+        kept = old.sieve.kept;
+        keeps = keeps.sifts.keeps;
+        few = omega (arith, sizes, few, same);
+      };
+    }
+
+-- where a statement ends the reading, as many as were asked for aren't listed
+pub sifted-open : (old new : Surveying) (result : Result (Unit {0}) Fault) → new.most ≡ old.most → (IsFull old → ⊥) → ListsOne old.sieve.refusals.items result new.sieve.refusals.items → IfErr result (λ fault. fault ≢ NoMemory → IsFull new → ⊥)
+sifted-open old new (Ok done) same open_ listed = tt
+sifted-open old new (Err fault) same open_ listed = λ other full.
+    let sizes : length new.sieve.refusals.items ≡ length old.sieve.refusals.items = ap length (listed other) in
+    open_ (omega (arith, full, sizes, same))

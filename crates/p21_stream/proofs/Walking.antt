@@ -1,0 +1,235 @@
+-- A walk, token by token and piece by piece, whatever is kept.
+use Rattle.std.proofs.Common.{◌≡◌, ◌≤◌, ◌<◌, ◌+◌, ◌-◌, ◌^◌, ℕ, zero, suc, List, [], ◌∷◌, ◌++◌, length, take, drop, Option, Some, None, Result, Ok, Err, refl, sym, ap, subst, ◌∙◌, append_assoc, arith}
+use Rattle.std.proofs.lemmas.List.{append-nil, length-drop, take-append-drop}
+use Rattle.std.specs.List.{flat_map, slice_get}
+use Rattle.p21_spec_basics.specs.Limits.{Limits}
+use Rattle.p21_spec_laws.specs.Taken.{AreStatementsTaken}
+use Rattle.p21_spec_exchange.specs.Statement.{Statement, statement_tokens}
+use Rattle.p21_spec_exchange.specs.Structure.{AreFirstStatements}
+use Rattle.p21_spec_file.specs.Accepted.{IsDead}
+use Rattle.p21_grammar.specs.Statements.{statement_of}
+use Rattle.p21_grammar.specs.declared.event.Event.{Event}
+use Rattle.p21_spec_schema.specs.Schema.{Schema}
+use Rattle.p21_stream_statements.proofs.Seen.{looked-up_to}
+use Rattle.p21_stream_statements.proofs.Stepping.{taken-looked}
+use Rattle.p21_stream_statements.specs.declared.fault.Fault.{Fault}
+use Rattle.p21_stream_statements.specs.declared.refusal.Refusal.{Refusal}
+use Rattle.p21_stream_statements.specs.StatementReader as statements
+use Rattle.p21_stream_statements.specs.StatementReader.{IsSeenAt, StatementHistory, bytes_looked_at, limits_of}
+use Rattle.p21_stream.proofs.Within.{given-few, source-within, statements-few}
+use Rattle.p21_stream.specs.Walk.{Ends, EndsNoToken, EndsReading, Follows, IsDeadWithin, IsLive, IsUnderWay, LeftWithin, NeedsNoMemory, ReadGives, StepGives, Takes}
+use Rattle.p21_stream.specs.declared.keeper.Stop.{Stop}
+use Rattle.p21_stream.specs.declared.keeper.Stop.TheVariants.{Most, Refused}
+
+-- ---- pieces of pieces
+
+pub take-add : (m k : ℕ) (l : List ℕ) → take (m + k) l ≡ take m l ++ take k (drop m l)
+take-add zero k l = let same : zero + k ≡ k = omega arith in ap (λ (n : ℕ). take n l) same
+take-add (suc m) zero [] = let same : suc m + zero ≡ suc m = omega arith in ap (λ (n : ℕ). take {A = ℕ} n []) same
+take-add (suc m) (suc k) [] = let same : suc m + suc k ≡ suc (m + suc k) = omega arith in ap (λ (n : ℕ). take {A = ℕ} n []) same
+take-add (suc m) k (x ∷ xs) = let same : suc m + k ≡ suc (m + k) = omega arith in ap (λ (n : ℕ). take n (x ∷ xs)) same ∙ ap (λ (l : List ℕ). x ∷ l) (take-add m k xs)
+
+get-drop : (m : ℕ) (l : List ℕ) → slice_get (drop m l) 0 ≡ slice_get l m
+get-drop zero l = refl
+get-drop (suc m) [] = refl
+get-drop (suc m) (x ∷ xs) = get-drop m xs
+
+pub seen-first : (seen : Option ℕ) (m : ℕ) (l : List ℕ) → IsSeenAt seen l m → IsSeenAt seen (drop m l) 0
+seen-first None m l at = tt
+seen-first (Some byte) m l at = get-drop m l ∙ at
+
+-- ---- what was looked at
+
+-- what holds of the bytes looked at holds of the bytes taken and some of the piece
+pub looked-within : (P : List ℕ → Type 0) (reading on : StatementHistory) (piece : List ℕ) (count : ℕ) → on.taken ≡ reading.taken ++ take count piece → IsSeenAt on.seen piece count → count ≤ length piece → P (bytes_looked_at on)
+    → (upto : ℕ) × (upto ≤ length piece) × P (reading.taken ++ take upto piece)
+looked-within P reading on piece count taken_are seen_at within holds =
+    let up = looked-up_to reading.taken piece count on.seen within seen_at in
+    let Bytes : List ℕ → Type 0 = λ taken. P (taken ++ elim on.seen [ None ↦ [] | Some byte ↦ byte ∷ [] ]) in
+    (up.upto, up.within, subst P up.looked_are (subst Bytes taken_are holds))
+
+-- what holds of the bytes behind so many of a piece and some more of it holds of the bytes before and some of the piece
+within-on : (reading on : StatementHistory) (piece : List ℕ) (count : ℕ) (P : List ℕ → Type 0) → on.taken ≡ reading.taken ++ take count piece → count ≤ length piece → (upto : ℕ) → upto ≤ length (drop count piece) → P (on.taken ++ take upto (drop count piece))
+    → (count + upto ≤ length piece) × P (reading.taken ++ take (count + upto) piece)
+within-on reading on piece count P taken_are within upto below holds =
+    let same : on.taken ++ take upto (drop count piece) ≡ reading.taken ++ take (count + upto) piece =
+    ap (λ (l : List ℕ). l ++ take upto (drop count piece)) taken_are ∙ append_assoc reading.taken (take count piece) (take upto (drop count piece)) ∙ ap (λ (l : List ℕ). reading.taken ++ l) (sym (take-add count upto piece)) in
+    let rest : length (drop count piece) ≡ length piece - count = length-drop count piece in
+    (omega (arith, below, rest, within), subst P same holds)
+
+dead-on : (s : Schema) (limits : Limits) (reading on : StatementHistory) (piece : List ℕ) (count : ℕ) → on.taken ≡ reading.taken ++ take count piece → count ≤ length piece → IsDeadWithin s limits on (drop count piece) → IsDeadWithin s limits reading piece
+dead-on s limits reading on piece count taken_are within d =
+    let (upto_within, dead) = within-on reading on piece count (IsDead s limits) taken_are within d.upto d.within d.dead in
+    record { upto = count + d.upto; within = upto_within; dead = dead }
+
+left-on : {K : Type 0} (left : List Statement → K → Type 0) (reading on : StatementHistory) (piece : List ℕ) (count : ℕ) (kept : K) → on.taken ≡ reading.taken ++ take count piece → count ≤ length piece → LeftWithin left on (drop count piece) kept → LeftWithin left reading piece kept
+left-on left reading on piece count kept taken_are within l =
+    let (upto_within, taken) = within-on reading on piece count (λ bytes. AreStatementsTaken bytes l.given) taken_are within l.upto l.within l.taken in
+    record { upto = count + l.upto; within = upto_within; given = l.given; taken = taken; left = l.left }
+
+-- all is as before
+pub as-before : {K : Type 0} (P : statements.Held → K → Type 0) (held next : statements.Held) (kept after : K) → next ≡ held → after ≡ kept → P next after → P held kept
+as-before {K} P held next kept after statements_are kept_is given = subst (λ (k : K). P held k) kept_is (subst (λ (h : statements.Held). P h after) statements_are given)
+
+module _ {K : Type 0} (s : Schema) (limits : Limits) (keeps left : List Statement → K → Type 0) where
+  -- what is kept of the statements of a history is left of the bytes taken and some of the piece
+  pub left-within : ((given : List Statement) (kept : K) → keeps given kept → left given kept) → (held : statements.Held) (kept : K) (reading : StatementHistory) (piece : List ℕ) → IsLive keeps limits held kept reading → IsSeenAt reading.seen piece 0 → LeftWithin left reading piece kept
+  left-within leaves held kept reading piece live at =
+      let (upto, within, taken) = looked-within (λ bytes. AreStatementsTaken bytes reading.given) reading reading piece 0 (sym (append-nil reading.taken)) at (omega arith) (taken-looked held reading live.reads) in
+      record { upto = upto; within = within; given = reading.given; taken = taken; left = leaves reading.given kept live.keeps }
+
+  -- ---- a step
+
+  pub step-piece : (held next : statements.Held) (kept : K) (piece : List ℕ) → statements.StepGives held piece (Ok None) next → limits_of next ≡ limits_of held → StepGives s limits keeps left held kept piece (Ok None) next kept
+  step-piece held next kept piece gives same reading live at = (reading.given, record { reads = gives reading live.reads at; limits_are = same ∙ live.limits_are; keeps = live.keeps })
+
+  pub step-token : (held next : statements.Held) (kept : K) (piece : List ℕ) (count : ℕ) → statements.StepGives held piece (Ok (Some (count, None))) next → limits_of next ≡ limits_of held → StepGives s limits keeps left held kept piece (Ok (Some count)) next kept
+  step-token held next kept piece count gives same reading live at =
+      let goes = gives reading live.reads at in
+      let more = goes.one_more in
+      record {
+        reading = goes.reading;
+        live = record { reads = goes.live; limits_are = same ∙ live.limits_are; keeps = subst (λ (given : List Statement). keeps given kept) (sym (goes.given_are ∙ append-nil reading.given)) live.keeps };
+        taken_are = goes.taken_are;
+        seen_at = goes.seen_at;
+        more = omega (arith, more);
+      }
+
+  pub step-statement : (held next : statements.Held) (kept after : K) (piece : List ℕ) (count : ℕ) (event : Event) → statements.StepGives held piece (Ok (Some (count, Some event))) next → limits_of next ≡ limits_of held
+      → Takes s limits keeps left kept (statement_of event) (Ok tt) after → StepGives s limits keeps left held kept piece (Ok (Some count)) next after
+  step-statement held next kept after piece count event gives same takes reading live at =
+      let goes = gives reading live.reads at in
+      let more = goes.one_more in
+      record {
+        reading = goes.reading;
+        live = record { reads = goes.live; limits_are = same ∙ live.limits_are; keeps = subst (λ (given : List Statement). keeps given after) (sym goes.given_are) (takes reading.given live.keeps) };
+        taken_are = goes.taken_are;
+        seen_at = goes.seen_at;
+        more = omega (arith, more);
+      }
+
+  pub step-refused : ((given : List Statement) (kept : K) → keeps given kept → left given kept) → (held next : statements.Held) (kept : K) (piece : List ℕ) (refusal : Refusal) (fault : Fault) → refusal.fault ≡ fault → statements.StepGives held piece (Err fault) next → StepGives s limits keeps left held kept piece (Err refusal) next kept
+  step-refused leaves held next kept piece refusal fault is gives other reading live at =
+      let r = gives (λ none. other (is ∙ none)) reading live.reads at in (
+        record { upto = r.count; within = r.within; dead = r.dead s limits (sym (ap (λ p. p.0) live.limits_are)) (sym (ap (λ p. p.1) live.limits_are)) },
+        left-within leaves held kept reading piece live at,
+      )
+
+  -- a statement that ends the reading, where the reader stands behind it
+  pub ends-behind : (held next : statements.Held) (kept after : K) (reading on : StatementHistory) (piece : List ℕ) (count : ℕ) (statement : Statement) → IsLive keeps limits held kept reading → IsSeenAt reading.seen piece 0 → statements.IsLive next on
+      → on.taken ≡ reading.taken ++ take count piece → on.given ≡ reading.given ++ statement ∷ [] → IsSeenAt on.seen piece count → count ≤ length piece → EndsReading s limits left reading.given statement after → Ends s limits left reading piece after
+  ends-behind held next kept after reading on piece count statement live at reads taken_are given_are seen_at within ends =
+      let taken : AreStatementsTaken (bytes_looked_at on) (reading.given ++ statement ∷ []) = subst (λ (given : List Statement). AreStatementsTaken (bytes_looked_at on) given) given_are (taken-looked next on reads) in
+      let (upto, upto_within, dead) = looked-within (IsDead s limits) reading on piece count taken_are seen_at within (ends.dead (bytes_looked_at on) taken) in
+      let (before, before_within, given) = looked-within (λ bytes. AreStatementsTaken bytes reading.given) reading reading piece 0 (sym (append-nil reading.taken)) at (omega arith) (taken-looked held reading live.reads) in (
+        record { upto = upto; within = upto_within; dead = dead },
+        record { upto = before; within = before_within; given = reading.given; taken = given; left = ends.left },
+      )
+
+  pub step-ends : (held next : statements.Held) (kept after : K) (piece : List ℕ) (count : ℕ) (event : Event) (refusal : Refusal) (fault : Fault) → refusal.fault ≡ fault → statements.StepGives held piece (Ok (Some (count, Some event))) next
+      → count ≤ length piece → Takes s limits keeps left kept (statement_of event) (Err fault) after → StepGives s limits keeps left held kept piece (Err refusal) next after
+  step-ends held next kept after piece count event refusal fault is gives within takes other reading live at =
+      let goes = gives reading live.reads at in
+      ends-behind held next kept after reading goes.reading piece count (statement_of event) live at goes.live goes.taken_are goes.given_are goes.seen_at within (takes (λ none. other (is ∙ none)) reading.given live.keeps)
+
+  -- ---- separators
+
+  pub step-quiet : (held : statements.Held) (kept : K) (piece : List ℕ) (refusal : Refusal) (fault : Fault) → refusal.fault ≡ fault → statements.NeedsNoMemory held piece (Err fault) → NeedsNoMemory {Answer = Option ℕ} keeps limits held kept piece (Err refusal)
+  step-quiet held kept piece refusal fault is needs reading live at none are memory = needs reading live.reads at none are (sym is ∙ memory)
+
+  -- a token can't have come
+  pub token-quiet : (held : statements.Held) (kept : K) (piece : List ℕ) (answer : ℕ × Option Event) → statements.NeedsNoMemory held piece (Ok (Some answer)) → (result : Result (Option ℕ) Refusal) → NeedsNoMemory keeps limits held kept piece result
+  token-quiet held kept piece answer needs result reading live at none are = absurd (needs reading live.reads at none are)
+
+  pub token-none : (held : statements.Held) (kept : K) (piece : List ℕ) (answer : ℕ × Option Event) → statements.NeedsNoMemory held piece (Ok (Some answer)) → (count : ℕ) → EndsNoToken keeps limits held kept piece (Ok (Some count))
+  token-none held kept piece answer needs count reading live at none are = needs reading live.reads at none are
+
+  -- ---- what follows
+
+  -- a statement behind which the reader stands
+  pub follows-behind : (next : statements.Held) (kept : K) (reading on : StatementHistory) (statement : Statement) → keeps reading.given kept → statements.IsLive next on → on.given ≡ reading.given ++ statement ∷ [] → (limits_of next).1 ≡ limits.file_source
+      → limits.file_source < 2 ^ 64 → Follows keeps kept statement
+  follows-behind next kept reading on statement kept_of live given limit counted =
+      let few = statements-few next on live in
+      let within = source-within next on live in
+      record {
+        given = reading.given;
+        keeps = kept_of;
+        structure = live.of_file.structure;
+        are_first = subst (λ (sts : List Statement). AreFirstStatements sts live.of_file.structure) given live.of_file.are_first;
+        few = subst (λ (sts : List Statement). length (flat_map statement_tokens sts) < 2 ^ 64) given (omega (arith, few, within, limit, counted));
+      }
+
+  -- the statement that a token ends
+  pub statement-follows : (held next : statements.Held) (kept : K) (piece : List ℕ) (count : ℕ) (event : Event) → IsUnderWay keeps limits held kept piece → statements.StepGives held piece (Ok (Some (count, Some event))) next
+      → limits_of next ≡ limits_of held → Follows keeps kept (statement_of event)
+  statement-follows held next kept piece count event way gives same =
+      let on = gives way.reading way.live.reads way.seen_at in
+      follows-behind next kept way.reading on.reading (statement_of event) way.live.keeps on.live on.given_are (ap (λ p. p.1) (same ∙ way.live.limits_are)) way.counted
+
+  -- ---- the rest of a piece behind a token
+
+  pub read-on : (held next last : statements.Held) (kept after end : K) (piece : List ℕ) (count : ℕ) → StepGives s limits keeps left held kept piece (Ok (Some count)) next after → count ≤ length piece
+      → (result : Result (Unit {0}) Stop) → ReadGives s limits keeps left next after (drop count piece) result last end → ReadGives s limits keeps left held kept piece result last end
+  read-on held next last kept after end piece count gives within (Ok done) reads = λ reading live at.
+      let on = gives reading live at in
+      let whole = reads on.reading on.live (seen-first on.reading.seen count piece on.seen_at) in
+      let same : on.reading.taken ++ drop count piece ≡ reading.taken ++ piece =
+      ap (λ (l : List ℕ). l ++ drop count piece) on.taken_are ∙ append_assoc reading.taken (take count piece) (drop count piece) ∙ ap (λ (l : List ℕ). reading.taken ++ l) (take-append-drop count piece) in
+      (whole.0, subst (λ (taken : List ℕ). IsLive keeps limits last end (record { taken = taken; seen = None; given = whole.0 })) same whole.1)
+  read-on held next last kept after end piece count gives within (Err (Refused refusal)) reads = λ other reading live at.
+      let on = gives reading live at in
+      let (dead, rest) = reads other on.reading on.live (seen-first on.reading.seen count piece on.seen_at) in
+      (dead-on s limits reading on.reading piece count on.taken_are within dead, left-on left reading on.reading piece count end on.taken_are within rest)
+  read-on held next last kept after end piece count gives within (Err Most) reads = λ reading live at.
+      let on = gives reading live at in
+      left-on left reading on.reading piece count end on.taken_are within (reads on.reading on.live (seen-first on.reading.seen count piece on.seen_at))
+
+  -- ---- all tokens of a piece
+
+  -- what the rest gives, the piece gives; and each round gave a token
+  pub record IsRest (stays : Limits → K → K → Type 0) (first : statements.Held) (old : K) (piece : List ℕ) (held : statements.Held) (kept : K) (rest : List ℕ) (rounds : ℕ) : Type 0 where
+    pub gives : (result : Result (Unit {0}) Stop) (last : statements.Held) (end : K) → ReadGives s limits keeps left held kept rest result last end → ReadGives s limits keeps left first old piece result last end
+    pub stay : stays limits old kept
+    pub limits_are : limits_of held ≡ limits_of first
+    pub quiet : (refusal : Refusal) → NeedsNoMemory {Answer = Option ℕ} keeps limits held kept rest (Err refusal) → NeedsNoMemory {Answer = Option ℕ} keeps limits first old piece (Err refusal)
+    pub under_way : IsUnderWay keeps limits held kept rest
+    pub rounds_few : rounds ≤ length under_way.live.reads.history.given
+
+  pub rest-first : (stays : Limits → K → K → Type 0) (held : statements.Held) (kept : K) (piece : List ℕ) → stays limits kept kept → IsUnderWay keeps limits held kept piece → IsRest stays held kept piece held kept piece 0
+  rest-first stays held kept piece stay way =
+      record { gives = λ result last end reads. reads; stay = stay; limits_are = refl; quiet = λ refusal needs. needs; under_way = way; rounds_few = omega arith }
+
+  pub rest-on : (stays : Limits → K → K → Type 0) (stays_on : (a b c : K) → stays limits a b → stays limits b c → stays limits a c) (first held next : statements.Held) (old kept after : K) (piece rest : List ℕ) (count rounds : ℕ) → IsRest stays first old piece held kept rest rounds
+      → StepGives s limits keeps left held kept rest (Ok (Some count)) next after → count ≤ length rest
+      → stays limits kept after → limits_of next ≡ limits_of held → EndsNoToken keeps limits held kept rest (Ok (Some count)) → IsRest stays first old piece next after (drop count rest) (rounds + 1)
+  rest-on stays stays_on first held next old kept after piece rest count rounds so_far gives within stay same none =
+      let way = so_far.under_way in
+      let on = gives way.reading way.live way.seen_at in
+      let few = so_far.rounds_few in
+      let more = on.more in
+      record {
+        gives = λ result last end reads. so_far.gives result last end (read-on held next last kept after end rest count gives within result reads);
+        stay = stays_on old kept after so_far.stay stay;
+        limits_are = same ∙ so_far.limits_are;
+        quiet = λ refusal needs. so_far.quiet refusal (λ reading live at pending are. absurd (none reading live at pending are));
+        under_way = record { reading = on.reading; live = on.live; seen_at = seen-first on.reading.seen count rest on.seen_at; counted = way.counted };
+        rounds_few = omega (arith, few, more);
+      }
+
+  -- a file has no more tokens than bytes, so 64 bits count the rounds
+  pub rounds-few : (stays : Limits → K → K → Type 0) (first held next : statements.Held) (old kept after : K) (piece rest : List ℕ) (count rounds : ℕ) → IsRest stays first old piece held kept rest rounds → StepGives s limits keeps left held kept rest (Ok (Some count)) next after → rounds + 1 < 2 ^ 64
+  rounds-few stays first held next old kept after piece rest count rounds so_far gives =
+      let way = so_far.under_way in
+      let on = gives way.reading way.live way.seen_at in
+      let rounds_few = so_far.rounds_few in
+      let more = on.more in
+      let few = given-few next on.reading on.live.reads in
+      let within = source-within next on.reading on.live.reads in
+      let limit : (limits_of next).1 ≡ limits.file_source = ap (λ p. p.1) on.live.limits_are in
+      let counted = way.counted in
+      omega (arith, rounds_few, more, few, within, limit, counted)
+
+  -- a stop since enough is kept
+  pub rest-enough : ((given : List Statement) (kept : K) → keeps given kept → left given kept) → (held last : statements.Held) (kept : K) (rest : List ℕ) → ReadGives s limits keeps left held kept rest (Err Most) last kept
+  rest-enough leaves held last kept rest = λ reading live at. left-within leaves held kept reading rest live at

@@ -1,0 +1,86 @@
+use Rattle.std.proofs.Common.{ℕ, Ok, Err, Option, Some, subst, ◌∙◌}
+use Rattle.p21_grammar.specs.declared.event.Event.{Event}
+use Rattle.p21_stream_statements.specs.StatementReader as statements
+use Rattle.p21_stream.proofs.Walking.{statement-follows, step-ends, step-piece, step-quiet, step-refused, step-statement, step-token, token-none, token-quiet}
+use Rattle.p21_stream.proofs.walk.Walk.step.Goals as goal
+
+pub returns-in-Err-clause-gives : goal.returns-in-Err-clause-gives
+returns-in-Err-clause-gives g c =
+    let keeps = g.K.Keeper.keeps c.args.schema.now c.args.limits in
+    let left = g.K.Keeper.left c.args.schema.now c.args.limits in
+    step-refused c.args.schema.now c.args.limits keeps left (g.met.K.Keeper.leaves c.args.schema.now c.args.limits) c.args.self.now.statements c.step.new.self c.args.self.now.kept c.args.piece.now c.refused.result c.in-Err.fault c.refused.ensures c.in-Err.ensures.gives
+
+pub returns-in_default-event-clause-gives : goal.returns-in_default-event-clause-gives
+returns-in_default-event-clause-gives g c =
+    let keeps = g.K.Keeper.keeps c.args.schema.now c.args.limits in
+    let left = g.K.Keeper.left c.args.schema.now c.args.limits in
+    step-token c.args.schema.now c.args.limits keeps left c.args.self.now.statements c.step.new.self c.args.self.now.kept c.args.piece.now c.in-Some.count
+    (subst (λ (e : Option Event). statements.StepGives c.args.self.now.statements c.args.piece.now (Ok (Some (c.in-Some.count, e))) c.step.new.self) c.in_default-event.is
+    (subst (λ (a : Option (ℕ × Option Event)). statements.StepGives c.args.self.now.statements c.args.piece.now (Ok a) c.step.new.self) c.in-Some.is c.in-Ok.ensures.gives))
+    c.in-Ok.ensures.limits
+
+pub returns-in-Ok-take-clause-gives : goal.returns-in-Ok-take-clause-gives
+returns-in-Ok-take-clause-gives g c =
+    let keeps = g.K.Keeper.keeps c.args.schema.now c.args.limits in
+    let left = g.K.Keeper.left c.args.schema.now c.args.limits in
+    step-statement c.args.schema.now c.args.limits keeps left c.args.self.now.statements c.step.new.self c.args.self.now.kept c.take.new.self c.args.piece.now c.in-Some.count c.in-Some-event.event
+    (subst (λ (e : Option Event). statements.StepGives c.args.self.now.statements c.args.piece.now (Ok (Some (c.in-Some.count, e))) c.step.new.self) c.in-Some-event.is
+    (subst (λ (a : Option (ℕ × Option Event)). statements.StepGives c.args.self.now.statements c.args.piece.now (Ok a) c.step.new.self) c.in-Some.is c.in-Ok.ensures.gives))
+    c.in-Ok.ensures.limits c.in-Ok-take.ensures.gives
+
+pub returns-in-Err-take-clause-gives : goal.returns-in-Err-take-clause-gives
+returns-in-Err-take-clause-gives g c =
+    let keeps = g.K.Keeper.keeps c.args.schema.now c.args.limits in
+    let left = g.K.Keeper.left c.args.schema.now c.args.limits in
+    step-ends c.args.schema.now c.args.limits keeps left c.args.self.now.statements c.step.new.self c.args.self.now.kept c.take.new.self c.args.piece.now c.in-Some.count c.in-Some-event.event c.refused-in-Err-take.result c.in-Err-take.fault
+    c.refused-in-Err-take.ensures
+    (subst (λ (e : Option Event). statements.StepGives c.args.self.now.statements c.args.piece.now (Ok (Some (c.in-Some.count, e))) c.step.new.self) c.in-Some-event.is
+    (subst (λ (a : Option (ℕ × Option Event)). statements.StepGives c.args.self.now.statements c.args.piece.now (Ok a) c.step.new.self) c.in-Some.is c.in-Ok.ensures.gives))
+    (subst (λ (a : Option (ℕ × Option Event)). statements.TakesWithinPiece c.args.piece.now (Ok a)) c.in-Some.is c.in-Ok.ensures.takes) c.in-Err-take.ensures.gives
+
+pub returns-in-Err-clause-no_memory : goal.returns-in-Err-clause-no_memory
+returns-in-Err-clause-no_memory g c =
+    let keeps = g.K.Keeper.keeps c.args.schema.now c.args.limits in
+    let left = g.K.Keeper.left c.args.schema.now c.args.limits in
+    step-quiet c.args.schema.now c.args.limits keeps left c.args.self.now.statements c.args.self.now.kept c.args.piece.now c.refused.result c.in-Err.fault c.refused.ensures c.in-Err.ensures.no_memory
+
+pub returns-in_default-event-clause-no_token : goal.returns-in_default-event-clause-no_token
+returns-in_default-event-clause-no_token g c =
+    let keeps = g.K.Keeper.keeps c.args.schema.now c.args.limits in
+    let left = g.K.Keeper.left c.args.schema.now c.args.limits in
+    token-none c.args.schema.now c.args.limits keeps left c.args.self.now.statements c.args.self.now.kept c.args.piece.now (c.in-Some.count, c.in-Some.event)
+    (subst (λ (a : Option (ℕ × Option Event)). statements.NeedsNoMemory c.args.self.now.statements c.args.piece.now (Ok a)) c.in-Some.is c.in-Ok.ensures.no_memory) c.in-Some.count
+
+pub returns-in-Ok-take-clause-no_token : goal.returns-in-Ok-take-clause-no_token
+returns-in-Ok-take-clause-no_token g c =
+    let keeps = g.K.Keeper.keeps c.args.schema.now c.args.limits in
+    let left = g.K.Keeper.left c.args.schema.now c.args.limits in
+    token-none c.args.schema.now c.args.limits keeps left c.args.self.now.statements c.args.self.now.kept c.args.piece.now (c.in-Some.count, c.in-Some.event)
+    (subst (λ (a : Option (ℕ × Option Event)). statements.NeedsNoMemory c.args.self.now.statements c.args.piece.now (Ok a)) c.in-Some.is c.in-Ok.ensures.no_memory) c.in-Some.count
+
+pub returns-in-Err-take-clause-no_memory : goal.returns-in-Err-take-clause-no_memory
+returns-in-Err-take-clause-no_memory g c =
+    let keeps = g.K.Keeper.keeps c.args.schema.now c.args.limits in
+    let left = g.K.Keeper.left c.args.schema.now c.args.limits in
+    token-quiet c.args.schema.now c.args.limits keeps left c.args.self.now.statements c.args.self.now.kept c.args.piece.now (c.in-Some.count, c.in-Some.event)
+    (subst (λ (a : Option (ℕ × Option Event)). statements.NeedsNoMemory c.args.self.now.statements c.args.piece.now (Ok a)) c.in-Some.is c.in-Ok.ensures.no_memory) (Err c.refused-in-Err-take.result)
+
+pub returns-in-Err-take-clause-open : goal.returns-in-Err-take-clause-open
+returns-in-Err-take-clause-open g c = λ other. c.in-Err-take.ensures.open (λ none. other (c.refused-in-Err-take.ensures ∙ none))
+
+pub returns-in_default-clause-gives : goal.returns-in_default-clause-gives
+returns-in_default-clause-gives g c =
+    let keeps = g.K.Keeper.keeps c.args.schema.now c.args.limits in
+    let left = g.K.Keeper.left c.args.schema.now c.args.limits in
+    step-piece c.args.schema.now c.args.limits keeps left c.args.self.now.statements c.step.new.self c.args.self.now.kept c.args.piece.now
+    (subst (λ (a : Option (ℕ × Option Event)). statements.StepGives c.args.self.now.statements c.args.piece.now (Ok a) c.step.new.self) c.in_default.is c.in-Ok.ensures.gives)
+    c.in-Ok.ensures.limits
+
+pub take-requires-clause-follows : goal.take-requires-clause-follows
+take-requires-clause-follows g c =
+    let keeps = g.K.Keeper.keeps c.args.schema.now c.args.limits in
+    let left = g.K.Keeper.left c.args.schema.now c.args.limits in
+    statement-follows c.args.schema.now c.args.limits keeps left c.args.self.now.statements c.step.new.self c.args.self.now.kept c.args.piece.now c.in-Some.count c.in-Some-event.event c.requires.way
+    (subst (λ (e : Option Event). statements.StepGives c.args.self.now.statements c.args.piece.now (Ok (Some (c.in-Some.count, e))) c.step.new.self) c.in-Some-event.is
+    (subst (λ (a : Option (ℕ × Option Event)). statements.StepGives c.args.self.now.statements c.args.piece.now (Ok a) c.step.new.self) c.in-Some.is c.in-Ok.ensures.gives))
+    c.in-Ok.ensures.limits
