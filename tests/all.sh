@@ -7,9 +7,10 @@
 #   tests/all.sh [PART..]     PART is the path of a script below tests, as hostile/devices.sh; all parts without one
 #
 # The environment variable P21 names the program; without it, it is the one that ./p21 builds where it is missing or old.
-# Eight parts want `rt`: bindings.sh builds the library for C, C++ and Python where it is missing or old, release.py links a program,
-# page.py and page_module.py build the page where it is missing or old, platforms.py the program and the library for other systems, hostile/calls.py builds a program of the libraries
-# without a proof, and fail_alloc.sh and want_of_memory.sh try tests. What else the parts want, and how long they take, is said at
+# Ten parts want `rt`: bindings.sh builds the library for C, C++ and Python where it is missing or old, release.py links a program,
+# page.py and page_module.py build the page where it is missing or old, platforms.py the program and the library for other systems,
+# hostile/calls.py builds a program of the libraries without a proof, fail_alloc.sh and want_of_memory.sh try tests, and
+# wrong_bodies.sh and records.py read the crates. What else the parts want, and how long they take, is said at
 # the end of tests/README.md.
 
 root=$(cd "$(dirname -- "$(readlink -f -- "$0")")/.." && pwd) || exit
@@ -48,7 +49,7 @@ run() {
 }
 
 if [ "$#" -eq 0 ]; then
-    set -- lint.sh program.sh texts.py canonical_form.py definitions.py edits.py wrong_bodies.sh refusals.py patterns.py library.py \
+    set -- lint.sh program.sh texts.py canonical_form.py definitions.py edits.py wrong_bodies.sh records.py refusals.py patterns.py library.py \
         copies.py install.sh pages.sh bindings.sh release.py page.py page_module.py platforms.py every_refusal.py worked_cases.py
     for tools in tools_*.py; do
         [ ! -e "$tools" ] || set -- "$@" "$tools"

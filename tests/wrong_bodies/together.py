@@ -18,8 +18,9 @@ import tempfile
 MOST, SECONDS = 60, 1500
 FUNCTION = r"(?:pub(?:\([a-z ]+\))? )?(?:const )?(?:final )?(?:unsafe )?(?:extern \"C\" )?fn ([A-Za-z0-9_]+)"
 IMPL = re.compile(r"(\s*)(?:unsafe )?impl(?:<[^{]*?>)?\s+(.*?)\s*\{\s*$")
-# A proof that names what an edit took away, what cites such a proof, and a goal that was not looked at.
-SAYS_NOTHING = re.compile(r"(note: )?(\./)?proofs/.*(has no field|is not in scope|has no `|was not admitted|\(nearest: )|.*has not tried")
+# A proof that names what an edit took away, and what cites such a proof; and besides a goal that was not looked at.
+NAMES_WHAT_IS_GONE = re.compile(r"(note: )?(\./)?proofs/.*(has no field|is not in scope|has no `|was not admitted|\(nearest: )")
+SAYS_NOTHING = re.compile(rf"{NAMES_WHAT_IS_GONE.pattern}|.*has not tried")
 # A line that says of what a line in front of it named that something isn't there, or which names are like the one looked for.
 GOES_ON = re.compile(r"\s+(has no |is not in scope|was not admitted|\(nearest: )")
 TOLD = re.compile(r"(?:note: )?(?:\./)?(\S+?):(\d+):\d+: (.*)")
@@ -130,7 +131,8 @@ def batches_of(folder, edits):
 
 
 def checked(rt, crate, texts, kept):
-    """What a check of the crate with these texts says, over kept work, which it adds to; none where it takes too long."""
+    """What a check of the crate with these texts says, over kept work, which it adds to, and its status; neither where it takes
+    too long."""
     with tempfile.TemporaryDirectory(prefix="together-") as room:
         for part in rt.rtlib.PARTS:
             if pathlib.Path(crate.folder, part).is_dir():
@@ -141,9 +143,9 @@ def checked(rt, crate, texts, kept):
         how = {"cwd": room, "stdin": subprocess.DEVNULL, "stdout": subprocess.PIPE, "stderr": subprocess.STDOUT, "errors": "replace"}
         try:
             ran = subprocess.run([*rt.rtlib.guarded(), *words], timeout=SECONDS, check=False, **how)
-            return messages(ran.stdout.rstrip("\n").split("\n"))
+            return messages(ran.stdout.rstrip("\n").split("\n")), ran.returncode
         except subprocess.TimeoutExpired:
-            return None
+            return None, None
 
 
 def messages(lines):
@@ -184,13 +186,45 @@ def said_of(crate, edit, lines, texts):
     return f"must-fail {crate.name}/{edit.path.name}: refused, as it must be: {told[0][:160]}" if told else None
 
 
+def judged(rt, texts, lines, status):
+    """What is to be said of an edit that was tried by itself, as `rt must-fail` says it."""
+    places = [line for line in lines if TOLD.match(line)]
+    told = [line for line in places if ": error" in line or line.startswith("note: ")] or places
+    telling = [line for line in told if not NAMES_WHAT_IS_GONE.match(line)]
+    unread = [line for line in lines if rt.unread(line, texts)]
+    limits = [line for line in lines if rt.LIMITS.search(line)]
+    is_refused = status == 1 and lines[-1].startswith("logic=not-proved")
+    if status == 1 and unread:
+        return f"BAD EDIT: the prover cannot read the edited text, so no contract was tried: {unread[0][:200]}"
+    if any(rt.rtlib.STALE.search(line) for line in lines):
+        return "NOT TRIED: the kept work of a library could not be used"
+    if is_refused and told and not telling:
+        return f"refused, as it must be (only because a proof file names what the edit took away): {told[0][:160]}"
+    if is_refused:
+        return f"refused, as it must be: {''.join(telling[:1])[:160]}"
+    if status == 3 and limits:
+        return f"refused, as it must be (only by a limit of the prover, which gave no verdict): {limits[0][:160]}"
+    if status == 0:
+        return "NOT REFUSED: the crate is still proved with this edit"
+    if any(re.search(r"\berror\[[\w-]+\]", line) for line in lines):
+        return f"BAD EDIT: it did not reach the prover: {lines[0][:160]}"
+    return f"NOT TRIED: its check ended with status {status}: {lines[0][:160]}"
+
+
+def said_alone(rt, crate, edit, kept):
+    """What the prover says of an edit that is tried by itself."""
+    texts = texts_with(crate.folder, [edit])
+    lines, status = checked(rt, crate, texts, kept)
+    said = judged(rt, texts, lines, status) if lines else f"NOT TRIED: its check took longer than {SECONDS} seconds"
+    return f"must-fail {crate.name}/{edit.path.name}: {said}"
+
+
 def said_together(rt, crate, batch, kept):
     """What the prover says of each edit of a batch: its path and a line, as `rt must-fail` has it."""
     texts = texts_with(crate.folder, batch)
-    lines = checked(rt, crate, texts, kept) if len(batch) > 1 else None
+    lines, _ = checked(rt, crate, texts, kept) if len(batch) > 1 else (None, None)
     if len(batch) == 1:
-        path = batch[0].path
-        yield path, rt.must_fail(crate, str(path), ["--jobs", "1"], kept)[1]
+        yield batch[0].path, said_alone(rt, crate, batch[0], kept)
     elif lines and lines[-1].startswith("logic="):
         for edit in batch:
             said = said_of(crate, edit, lines, texts)

@@ -3,16 +3,18 @@
 prover must refuse each of them.
 
   tests/wrong_bodies.sh [--gate] [CRATE[/NAME]..]   tries these, or all; with --gate only those of the gate
-  tests/wrong_bodies.sh --stale                     names those that aren't shown to be refused, a line each
+  tests/wrong_bodies.sh --bugs [CRATE[/NAME]..]     tries the bugs of tests/bugs, and holds each against what is noted of it there
+  tests/wrong_bodies.sh --stale                     names those that aren't shown to be refused, and the bugs that weren't tried,
+                                                    over these sources, a line each, and says why
   tests/wrong_bodies.sh --count                     counts those, and fails where one of the gate's is among them
   tests/wrong_bodies.sh --from LOG                  takes what `rt ci` said, over the sources as they stand, into the record
-  tests/wrong_bodies.sh --bugs [CRATE[/NAME]..]     tries the bugs of tests/bugs, and holds each against what is noted of it there
 
-tests/wrong_bodies/refused.txt is the record: a line for each edit that was refused, with its crate, its name and a checksum
-of what it was tried over: the edit, the src, specs and proofs of its crate, and the src and specs of all crates below.
-What the record has over the sources as they stand is not tried again, and a line is written as soon as an edit has been
-tried, so that a run that is broken off goes on where it was. Where the prover refuses an edit only because a proof names
-what the edit took away, no clause was tried: the line ends with `by_name`, and the edit isn't shown to be refused.
+tests/wrong_bodies/refused.txt is the record: a line for each edit that was refused, with its crate, its name, a checksum of the
+edit and one of what it was tried over, by which tests/wrong_bodies/over.txt has the parts of that (sources.py says which). The
+bugs of which the prover said what is noted of them stand in tests/bugs/tried.txt. What a record has over the sources as they
+stand is not tried again, and a line is written as soon as an edit has been tried, so that a run that is broken off goes on where
+it was. Where the prover refuses an edit only because a proof names what the edit took away, no clause was tried: the line ends
+with `by_name`, and the edit isn't shown to be refused.
 
 Over what `rt check` or `rt lib` left in the crate's `out` many edits are tried in one check (together.py): an edit takes a few
 seconds of a processor, and by itself 8 to 50. Where nothing is left there, `rt ci CRATE` tries the edits of a crate together, over
@@ -22,7 +24,6 @@ one proof of the crate; a toolchain that keeps no proofs proves the crate first.
 import contextlib
 import fcntl
 import functools
-import hashlib
 import importlib.machinery
 import importlib.util
 import os
@@ -34,61 +35,51 @@ import tempfile
 
 ROOT = pathlib.Path(__file__).resolve().parent.parent.parent
 CRATES = ROOT / "crates"
-RECORD = ROOT / "tests" / "wrong_bodies" / "refused.txt"
-PARTS = ("src", "specs", "proofs")
+REFUSED = ROOT / "tests" / "wrong_bodies" / "refused.txt"
+TRIED = ROOT / "tests" / "bugs" / "tried.txt"
+OVER = ROOT / "tests" / "wrong_bodies" / "over.txt"
 OPTIONS = ("--gate", "--stale", "--count")
 BY_NAME = "by_name"
 
 sys.path.insert(0, str(ROOT / "tests"))
+import needs  # noqa: E402
 import together  # noqa: E402
 from edits import bugs, edits  # noqa: E402
+from sources import PARTS, Sources, sum_of  # noqa: E402
+
+SOURCES = Sources(ROOT)
 
 
-# ---- the record
-
-
-@functools.cache
-def libraries():
-    """For each crate the crates that it uses, by crates.txt."""
-    lines = (line.partition("#")[0].partition(":") for line in (ROOT / "crates.txt").read_text().splitlines())
-    used = {head.split()[0]: tail.split() for head, _, tail in lines if head.strip()}
-    return {crate: [name for name in names if name in used] for crate, names in used.items()}
+# ---- the records
 
 
 @functools.cache
-def below(crate):
-    """All crates below a crate."""
-    return frozenset(libraries()[crate]).union(*(below(name) for name in libraries()[crate]))
+def sum_over(crate):
+    """The checksum of all that a crate is proved over."""
+    return sum_of(f"{name} {value}" for name, value in SOURCES.under(crate).items())
 
 
-@functools.cache
-def digest_of(crate, parts):
-    """A checksum of some folders of a crate."""
-    found = hashlib.sha256()
-    for part in parts:
-        for path in sorted((CRATES / crate / part).rglob("*")):
-            if path.is_file():
-                found.update(f"{path.relative_to(CRATES)}\n{path.stat().st_size}\n".encode())
-                found.update(path.read_bytes())
-    return found.hexdigest()
+def checksums(crate, path):
+    """The checksums of an edit and of what it is tried over."""
+    return sum_of([path.read_text()]), sum_over(crate)
 
 
-def checksum(crate, path):
-    """The checksum of what an edit is tried over."""
-    over = [digest_of(crate, PARTS), *(digest_of(name, ("src", "specs")) for name in sorted(below(crate)))]
-    return hashlib.sha256("\n".join(over).encode() + b"\n" + path.read_bytes()).hexdigest()[:16]
-
-
-def record():
-    """What the record says of each edit: the checksum, and the mark where there is one."""
-    lines = (line.split() for line in RECORD.read_text().splitlines())
+def record(file):
+    """What a record says of each edit: the two checksums, and the mark where there is one."""
+    lines = (line.split() for line in file.read_text().splitlines())
     return {(crate, name): tuple(rest) for crate, name, *rest in lines}
 
 
+def parts_over():
+    """By the checksum of what edits were tried over: the checksum of each part of that."""
+    lines = (line.split() for line in OVER.read_text().splitlines())
+    return {over: dict(part.split(":") for part in parts) for over, *parts in lines}
+
+
 @contextlib.contextmanager
-def record_alone():
-    """Keeps other runs of this script, of other crates, from writing the record meanwhile."""
-    folder = os.open(RECORD.parent, os.O_RDONLY)
+def records_alone():
+    """Keeps other runs of this script, of other crates, from writing the records meanwhile."""
+    folder = os.open(OVER.parent, os.O_RDONLY)
     try:
         fcntl.flock(folder, fcntl.LOCK_EX)
         yield
@@ -96,26 +87,46 @@ def record_alone():
         os.close(folder)
 
 
-def note(crate, name, entry):
-    """Writes what was found of an edit into the record; without an entry the edit was not refused."""
-    there = {(crate, name) for crate, name, _ in edits()}
-    with record_alone():
-        found = {**record(), (crate, name): entry}
-        lines = (f"{' '.join((*key, *rest))}\n" for key, rest in sorted(found.items()) if rest and key in there)
-        written = RECORD.with_suffix(".new")
-        written.write_text("".join(lines))
-        os.replace(written, RECORD)
+def write(file, lines):
+    """Writes a record whole, so that no reader meets half of it."""
+    written = file.with_suffix(".new")
+    written.write_text("".join(f"{line}\n" for line in sorted(lines)))
+    os.replace(written, file)
+
+
+def note(file, crate, name, entry):
+    """Writes what was found of an edit into a record; without an entry nothing is known of it over these sources."""
+    there = {(crate, name) for crate, name, _ in (*edits(), *bugs())}
+    with records_alone():
+        found = {**record(file), (crate, name): entry}
+        write(file, (" ".join((*key, *rest)) for key, rest in found.items() if rest and key in there))
+        used = {over for it in (REFUSED, TRIED) for _, over, *_ in record(it).values()}
+        parts = {**parts_over(), sum_over(crate): SOURCES.under(crate)}
+        write(OVER, (" ".join((over, *(f"{it}:{value}" for it, value in parts[over].items()))) for over in used if over in parts))
+
+
+def is_tried(found, crate, path):
+    """Whether what a record says of an edit was found over the sources as they stand."""
+    return found[:2] == checksums(crate, path)
 
 
 def unshown():
-    """The edits that aren't shown to be refused over the sources as they stand: crate, name and path, and whether they were
-    tried. Those of the gate come first."""
-    known = record()
+    """The edits that aren't shown to be refused over the sources as they stand: crate, name and path, and what the record says
+    of it. Those of the gate come first."""
+    known = record(REFUSED)
     for crate, name, path in edits():
         found = known.get((crate, name), ())
-        tried = found[:1] == (checksum(crate, path),)
-        if not tried or BY_NAME in found:
-            yield crate, name, path, tried
+        if not is_tried(found, crate, path) or BY_NAME in found:
+            yield crate, name, path, found
+
+
+def untried_bugs():
+    """The bugs that weren't tried over the sources as they stand, as `unshown` has the edits."""
+    known = record(TRIED)
+    for crate, name, path in bugs():
+        found = known.get((crate, name), ())
+        if not is_tried(found, crate, path):
+            yield crate, name, path, found
 
 
 def of_gate(path):
@@ -139,19 +150,7 @@ def tool():
     made = importlib.util.module_from_spec(importlib.util.spec_from_loader("rt", loader))
     sys.modules["rt"] = made
     loader.exec_module(made)
-    made.checked = with_whole_messages(made.checked)
     return made
-
-
-def with_whole_messages(check):
-    """A check that says each message in one line, so that one which goes on about a name in its second line is known as such."""
-
-    def checked(*given):
-        ran = check(*given)
-        ran.stdout = "\n".join(together.messages(ran.stdout.split("\n")))
-        return ran
-
-    return checked
 
 
 def copy_of_crates(folder):
@@ -203,7 +202,7 @@ def entry_of(said, crate, path):
     if ": refused, as it must be" not in said:
         return None
     by_name = "only because a proof file names what the edit took away" in said
-    return (checksum(crate, path), BY_NAME) if by_name else (checksum(crate, path),)
+    return (*checksums(crate, path), BY_NAME) if by_name else checksums(crate, path)
 
 
 def try_all(trials):
@@ -217,7 +216,7 @@ def try_all(trials):
             by_gate = copy and not has_kept_work(crate)
             for path, said in said_by_gate(copy, crate, paths) if by_gate else said_by_prover(crate, paths):
                 print(said, flush=True)
-                note(crate, path.stem, entry_of(said, crate, path))
+                note(REFUSED, crate, path.stem, entry_of(said, crate, path))
 
 
 def take_log(log):
@@ -228,7 +227,7 @@ def take_log(log):
             said[line.removeprefix("rt: must-fail ").partition(".edit: ")[0]] = line
     for crate, name, path in edits():
         if of_gate(path) and f"{crate}/{name}" in said:
-            note(crate, name, entry_of(said[f"{crate}/{name}"], crate, path))
+            note(REFUSED, crate, name, entry_of(said[f"{crate}/{name}"], crate, path))
 
 
 # ---- bugs by hand
@@ -241,9 +240,10 @@ def found_by(crate):
 
 
 def try_bugs(names):
-    """Tries bugs, and counts those of which the prover says something else than what is noted."""
+    """Tries the bugs that weren't tried over these sources, and counts those of which the prover says something else than what is
+    noted."""
     of_crates, others = {}, 0
-    for crate, name, path in bugs():
+    for crate, name, path, _ in untried_bugs():
         if not names or names & {crate, f"{crate}/{name}"}:
             of_crates.setdefault(crate, []).append(path)
     for crate, paths in of_crates.items():
@@ -254,41 +254,64 @@ def try_bugs(names):
             as_noted = by == "not" or is_refused == (by not in ("test", "nothing"))
             others += not as_noted
             print(f"{said}{'' if as_noted else f' (noted: {noted[path.stem]})'}", flush=True)
+            note(TRIED, crate, path.stem, checksums(crate, path) if as_noted and by != "not" else None)
     return others
 
 
 # ---- the command
 
 
-def said_of(crate, name, tried):
-    """A line on an edit that isn't shown to be refused."""
-    return f"{crate}/{name}: {'refused only because a proof names what it took away' if tried else 'not tried over these sources'}"
+def changed(crate, path, found):
+    """What changed since an edit was tried, by what the record says of it."""
+    edit, over, *_ = found
+    was, now = parts_over().get(over, {}), SOURCES.under(crate)
+    names = [name for name in {**was, **now} if was.get(name) != now.get(name)]
+    own, below = [name for name in names if name in PARTS], [name for name in names if name not in PARTS]
+    if edit != checksums(crate, path)[0]:
+        yield "the edit"
+    if own:
+        yield f"its own {', '.join(own)}"
+    if below:
+        yield f"what is seen of {', '.join(below)}"
+
+
+def why(crate, path, found):
+    """Why an edit isn't shown to be refused, or a bug not tried, by what the record says of it."""
+    if not found:
+        return "not tried"
+    if is_tried(found, crate, path):
+        return "refused only because a proof names what it took away"
+    return f"tried before this changed: {'; '.join(changed(crate, path, found))}"
 
 
 def count():
-    """Counts the edits that aren't shown to be refused, and says how many of them the gate has."""
+    """Counts the edits that aren't shown to be refused, says how many of them the gate has, and counts the bugs that weren't tried."""
     missing = list(unshown())
     gate = [it for it in missing if of_gate(it[2])]
-    for crate, name, _, tried in gate:
-        print(said_of(crate, name, tried))
-    print(f"not shown to be refused over these sources: {len(gate)} wrong bodies of the gate, {len(missing) - len(gate)} beside it")
+    for crate, name, path, found in gate:
+        print(f"{crate}/{name}: {why(crate, path, found)}")
+    print(
+        f"over these sources {len(gate)} wrong bodies of the gate aren't shown to be refused, {len(missing) - len(gate)} beside it, "
+        f"and {len(list(untried_bugs()))} bugs aren't tried"
+    )
     return len(gate)
 
 
 def main(words):
+    needs.wanted("rt")
     if words[:1] == ["--from"] and len(words) == 2:
         take_log(words[1])
         return 0
     if "--bugs" in words:
         return int(try_bugs(set(words) - {"--bugs"}) > 0)
-    unknown = [word for word in words if word not in OPTIONS and word.partition("/")[0] not in libraries()]
+    unknown = [word for word in words if word not in OPTIONS and word.partition("/")[0] not in SOURCES.uses]
     if unknown:
         sys.exit(f"there is no {unknown[0]}")
     if "--count" in words:
         return int(count() > 0)
     if "--stale" in words:
-        for crate, name, _, tried in unshown():
-            print(said_of(crate, name, tried))
+        for crate, name, path, found in (*unshown(), *untried_bugs()):
+            print(f"{crate}/{name}: {why(crate, path, found)}")
         return 0
     names = {word for word in words if word not in OPTIONS}
     wanted = [
@@ -296,8 +319,8 @@ def main(words):
         for crate, name, path in edits()
         if (not names or names & {crate, f"{crate}/{name}"}) and (of_gate(path) or "--gate" not in words)
     ]
-    missing = {(crate, name): tried for crate, name, _, tried in unshown()}
-    try_all([it for it in wanted if missing.get(it[:2]) is False])
+    missing = {(crate, name) for crate, name, path, found in unshown() if not is_tried(found, crate, path)}
+    try_all([it for it in wanted if it[:2] in missing])
     shown = {(crate, name) for crate, name, _ in wanted} - {(crate, name) for crate, name, _, _ in unshown()}
     return int(len(shown) < len(wanted))
 
