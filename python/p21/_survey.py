@@ -1,4 +1,4 @@
-"""All refusals of a file."""
+"""The refusals that one run finds of a file."""
 
 import dataclasses
 import re
@@ -17,11 +17,11 @@ _END = re.compile(r"refusals \d+(, the rest was not read|, no more were looked f
 
 @dataclasses.dataclass(frozen=True)
 class Survey:
-    """What all of a file is refused for.
+    """What a file is refused for: the first refusal of each record, and those of references, but none of or to a refused record.
 
     Attributes:
         refusals: each refusal, in the order in which ``check`` would meet them; none where the file is accepted.
-        is_whole: whether the file was read to its end and every refusal is listed.
+        is_whole: whether the file was read to its end, and the list wasn't ended by ``most``.
     """
 
     refusals: List[Refused]
@@ -39,7 +39,7 @@ class Survey:
 
 
 def survey(schema: SchemaOrPath, source: Source, most: Optional[int] = None) -> Survey:
-    """Every refusal of a file, in one run: what ``p21 check --all`` lists. The program does it, which the wheel installs with this
+    """What ``p21 check --all`` lists of a file in one run. The program does it, which the wheel installs with this
     package.
 
     Args:

@@ -36,9 +36,10 @@ pub record IsOfReference (s : Schema) (entries : List Entry) (refused : List Ref
 abbrev pub IsAnswered : Schema → List Entry → List Refusal → List Refusal → Reference → Type 0
 IsAnswered s entries refused listed reference = IsServed s (entity_sets_in entries) reference.1 ⊎ HasRefusal refused reference.1.target ⊎ ((refusal : Refusal) × Contains listed refusal × IsOfReference s entries refused reference refusal)
 
--- The bytes begin with these statements. Those of them that are not listed are all right: their instances mean something and
--- have different names. The others are instances, listed in their order, each with a rule that its record breaks, or since
--- an instance before it has its name
+-- Each file that begins with the bytes begins with these statements. They may be none, and where no file begins with the bytes
+-- they may be any. Those of them that are not listed are all right: their instances mean something and have different names. The
+-- others are instances, listed in their order, each with a rule that its record breaks, or since an instance before it has its
+-- name
 pub record ListsRecords (s : Schema) (bytes : List ℕ) (records : List Refusal) : Type 0 where
   pub given : List Statement
   pub begin : AreStatementsTaken bytes given
@@ -48,22 +49,22 @@ pub record ListsRecords (s : Schema) (bytes : List ℕ) (records : List Refusal)
   pub entries_are : instances_among passed ≡ written_in entries
   pub meant : Each (IsMeant s) entries
   pub names_differ : IsDistinct nat_eq (names_among passed)
-  -- so each instance means something, or it is listed
+  -- so each of their instances means something, or it is listed
   pub each_instance : (n : ℕ) (record_ : Record) → Contains (instances_among given) (n, record_) → IsMeaningful s record_ ⊎ HasRefusal records n
 
 -- what stands in the list behind the refusals of instances
 abbrev pub EndsList : (s : Schema) (bytes : List ℕ) (records : List Refusal) → ListsRecords s bytes records → List Refusal → Extent → Type 0
--- all of the file was read: refusals of references, and each that isn't served has one
+-- all of the file was read, and these are its statements: refusals of references, and each that isn't served has one
 EndsList s bytes records lists behind Whole =
     ((structure : Structure) × (text : List ℕ) × InGrammar bytes structure text × (statements structure ≡ lists.given))
     × Each (λ (refusal : Refusal). (reference : Reference) × IsOfReference s lists.entries records reference refusal) behind
     × Each (IsAnswered s lists.entries records behind) (references_in lists.entries)
--- the refusal that ended the reading
+-- some refusal, of which nothing is said here
 EndsList s bytes records lists behind Part = (refusal : Refusal) × (behind ≡ refusal ∷ [])
 -- refusals of references, or none
 EndsList s bytes records lists behind Most = Each (λ (refusal : Refusal). (reference : Reference) × IsOfReference s lists.entries records reference refusal) behind
 
--- the list is of bytes that the reader gave
+-- the list is of bytes that the reader gave; how far it goes is said of a whole file alone
 pub record ListsRefusals (s : Schema) (old new : Option (List ℕ)) (list : List Refusal) (extent : Extent) : Type 0 where
   pub bytes : List ℕ
   pub consumed : Consumes old new bytes
