@@ -15,8 +15,14 @@ printf '%s' '+012.500E+03' > "$here/real"
 printf '%s' '1 2' > "$here/two"
 head -c 16777217 /dev/zero | tr '\0' ' ' > "$here/long"
 
-# expect NAME STATUS OUTPUT ERROR: what the last run left in `status`, `output` and `error`. An ERROR that ends with `*`
-# says how the text begins.
+# bytes FILE: what it holds, with a sign behind it, since `$(..)` drops the line feeds at an end.
+bytes() {
+    cat "$1"
+    echo .
+}
+
+# expect NAME STATUS OUTPUT ERROR: what the last run left in `status`, `output` and `error`, each with a line feed at its end, or
+# nothing. An ERROR that ends with `*` says how the text begins.
 expect() {
     case $P21_OTHERWISE in
         *"|$1|"*)
@@ -26,10 +32,12 @@ expect() {
     esac
     wrong=
     [ "$status" -eq "$2" ] || wrong="status $status, not $2"
-    [ "$(cat "$here/output")" = "$3" ] || wrong="$wrong; output: $(cat "$here/output")"
+    [ "$(bytes "$here/output")" = "$3${3:+
+}." ] || wrong="$wrong; output: $(cat "$here/output")"
     # shellcheck disable=SC2254 # what is wanted is a pattern
-    case $(cat "$here/error") in
-        $4) ;;
+    case $(bytes "$here/error") in
+        $4${4:+
+}.) ;;
         *) wrong="$wrong; error: $(cat "$here/error")" ;;
     esac
     if [ -n "$wrong" ]; then
@@ -170,6 +178,13 @@ refused 56 Dangling in #3
 refused 57 WrongTarget in #4
 refusals 5, no more were looked for'
 
+# No list ends by itself at a round number: 150 records, and 150 references of others.
+file "$(seq 150 | sed 's/.*/#&=POINT($,1.);/')" "$(seq 1001 1150 | sed 's/.*/#&=CLOUD((#9&),(),(TALLY(1)));/')" > "$here/many"
+run check --all "$demo" "$here/many"
+expect 'three hundred refusals' 1 '' "$(seq 150 | sed 's/.*/refused 45 Count in #&/')
+$(seq 1001 1150 | sed 's/.*/refused 56 Dangling in #&/')
+refusals 300"
+
 run check --all "$demo" "$here/broken"
 expect 'a refusal that ends the reading' 1 '' 'refused 45 Count in #1
 refused 20 Unexpected at statement 10
@@ -300,12 +315,14 @@ fi
 # Each refusal of the documents is listed with its number and name, and explained by both.
 run faults
 cp "$here/output" "$here/listed"
+printf '\n\n' > "$here/feeds"
 : > "$here/output"
 expect 'the list of refusals: status and error' 0 '' ''
 sed -n 's/^### \(S\{0,1\}[0-9][0-9]* [A-Za-z0-9]*\)$/\1/p' docs/FAULTS.md | while read -r number name; do
     grep -q "^ *$number $name  *[^ ]" "$here/listed" || echo "the list of refusals: no $number $name"
     "$program" faults "$number" | head -n 1 | grep -qx "$number $name" || echo "the refusal $number: another one is explained"
     "$program" faults "$name" | grep -qx "$number $name" || echo "the refusal $name: $number is not explained"
+    "$program" faults "$number" | tail -c 2 | cmp -s - "$here/feeds" || echo "the refusal $number: no empty line stands behind it"
 done > "$here/unlisted"
 if [ -s "$here/unlisted" ]; then
     cat "$here/unlisted" >&2
@@ -319,7 +336,8 @@ expect 'one refusal' 0 "11 BadName
 
 \`refused 11 BadName at statement 8\`
 
-No digit stands behind \`#\`. Leave out what stands between." ''
+No digit stands behind \`#\`. Leave out what stands between.
+" ''
 
 for word in frob 99 S10 011 ''; do
     run faults "$word"
@@ -331,10 +349,14 @@ expect 'two refusals' 2 '' '*12*'
 
 tools/make-refusals --check || failed=1
 
-# A file of some 160 MiB of blanks between its data section and its end.
-file | sed '/^DATA;$/q' > "$here/blank"
-head -c 167772160 /dev/zero | tr '\0' ' ' >> "$here/blank"
-printf '%s\n' 'ENDSEC;' 'END-ISO-10303-21;' >> "$here/blank"
+# blanks COUNT: a file with so many blanks between its data section and its end.
+blanks() {
+    file | sed '/^DATA;$/q'
+    head -c "$1" /dev/zero | tr '\0' ' '
+    printf '%s\n' 'ENDSEC;' 'END-ISO-10303-21;'
+}
+
+blanks 167772160 > "$here/blank"
 
 run check --progress "$demo" "$here/blank"
 expect 'progress without a terminal' 0 'accepted, instances 0, canonical bytes 152' ''
@@ -374,6 +396,11 @@ expect 'progress of a comparison' 0 'same' "$lines"
 
 on_terminal check "$demo" "$here/blank"
 expect 'a terminal, and no progress asked for' 0 'accepted, instances 0, canonical bytes 152' ''
+
+# A step is one of 67,108,864 bytes, of which this has one, and not one of 64,000,000.
+blanks 130000000 > "$here/blank"
+on_terminal check --progress "$demo" "$here/blank"
+expect 'progress of 130,000,000 bytes' 0 'accepted, instances 0, canonical bytes 152' "$here/blank: 64 MiB read"
 
 run show --progress "$demo" "$here/point" --name 2
 expect 'progress of show' 2 '' '*--progress*'

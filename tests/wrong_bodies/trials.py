@@ -249,9 +249,10 @@ def try_bugs(names):
     for crate, paths in of_crates.items():
         noted = found_by(crate)
         for path, said in said_by_prover(crate, paths):
-            is_refused = ": refused, as it must be" in said
+            # A bug that is refused by a name alone is one that no contract finds.
+            is_found = BY_NAME not in (entry_of(said, crate, path) or (BY_NAME,))
             by = noted[path.stem].split()[0]
-            as_noted = by == "not" or is_refused == (by not in ("test", "nothing"))
+            as_noted = by == "not" or is_found == (by not in ("test", "nothing"))
             others += not as_noted
             print(f"{said}{'' if as_noted else f' (noted: {noted[path.stem]})'}", flush=True)
             note(TRIED, crate, path.stem, checksums(crate, path) if as_noted and by != "not" else None)
