@@ -51,6 +51,16 @@ impl Counted for Held {
     }
 }
 
+impl Counted for [u8; 4] {
+    ghost counted = { λ bytes. 4 };
+
+    fn count(&self) -> usize
+        ensures four { result ≡ 4 }
+    {
+        4
+    }
+}
+
 /// The sum of two numbers, the second of which is small.
 #[tactic(auto, using(crate::proofs::Sums::small_sum))]
 pub fn sum(one: usize, other: usize) -> Result<usize, AllocError>
@@ -183,6 +193,7 @@ ROWS = [
     ("what a call asks for", "crates/low/src/lib.rt", "other < 8", "other < 9", [LOW, HIGH]),
     ("the name of a clause", "crates/low/src/lib.rt", "ensures value {", "ensures sum {", [LOW, HIGH]),
     ("a signature", "crates/low/src/lib.rt", "other: usize) -> Result", "other: u64) -> Result", [LOW, HIGH]),
+    ("the contract of a method for rows of bytes", "crates/low/src/lib.rt", "four { result ≡ 4 }", "four { result ≡ 2 + 2 }", [LOW, HIGH]),
     ("the contract of a method", "crates/low/src/held.rt", "result.bytes.items ≡ []", "result.bytes.items ≡ [] ++ []", [LOW, HIGH]),
     ("a private function that is public", "crates/low/src/lib.rt", "\nfn larger", "\npub fn larger", [LOW, HIGH]),
     ("a type", "crates/low/src/held.rt", "bytes: Vec<u8>,", "bytes: Vec<u16>,", [LOW, HIGH]),

@@ -111,9 +111,14 @@ def end_of_body(tokens, at):
 
 
 def without_attributes(words):
-    """The words in front of an item without its attributes."""
-    ends = [at + 1 for at, word in enumerate(words) if word == "]"]
-    return words[ends[-1] :] if ends else words
+    """The words of an item without the attributes in front of it."""
+    is_within, depth = False, 0
+    for at, word in enumerate(words):
+        if not is_within and word != "#":
+            return words[at:]
+        depth += DEPTHS.get(word, 0)
+        is_within = depth > 0 or word != "]"
+    return []
 
 
 class ShownCode:
@@ -122,8 +127,9 @@ class ShownCode:
     def __init__(self, tokens):
         self.tokens, self.at = tokens, 0
         self.shown, self.imports = [], []
-        # Where the item begins, and for each open brace whether it is that of a trait or of an impl of one.
-        self.start, self.of_traits = 0, [False]
+        # Where the item begins; how many parentheses and brackets are open; and for each open brace whether it is that of a trait or
+        # of an impl of one.
+        self.start, self.depth, self.of_traits = 0, 0, [False]
 
     def read(self):
         """All that the file shows."""
@@ -166,11 +172,12 @@ class ShownCode:
         before = without_attributes(self.shown[self.start :])
         self.shown.append(token.text)
         self.at += 1
+        self.depth += DEPTHS.get(token.text, 0) if token.kind == "Code" else 0
         if token[:2] == ("Code", "{"):
             self.of_traits.append("trait" in before or "impl" in before and "for" in before)
         elif token[:2] == ("Code", "}"):
             self.of_traits.pop()
-        if token.kind == "End" or token.kind == "Code" and token.text in ("{", "}", ";"):
+        if token.kind == "End" or token.kind == "Code" and token.text in ("{", "}", ";") and not self.depth:
             self.close([] if before[:1] == ["mod"] and token.text == ";" else self.shown[self.start :])
 
 
