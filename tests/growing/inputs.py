@@ -630,6 +630,118 @@ def lists_nested_with_a_second_element(n, folder):
     return check(folder, declarations, ["#1=A((" + ",".join([NESTED] * n) + "));\n"])
 
 
+# Commands over two files, of one instance or parameter, and those that go on behind refusals.
+
+def two_files(folder, one, other):
+    return ["same", str(DEMO), data(folder, one, name="one.step"), data(folder, other, name="other.step")]
+
+
+def same_in_one_order(n, folder):
+    return two_files(folder, *((POINT % k for k in range(1, n + 1)) for _ in range(2)))
+
+
+def same_in_another_order(n, folder):
+    return two_files(folder, (POINT % k for k in range(n, 0, -1)), (POINT % k for k in shuffled_names(n)))
+
+
+def different_at_the_end(n, folder):
+    return two_files(folder, *([*(POINT % k for k in range(1, n)), "#%d=POINT($,%d.,1.);\n" % (n, k)] for k in range(2)))
+
+
+def different_at_the_beginning(n, folder):
+    return two_files(folder, *(["#1=POINT($,%d.,1.);\n" % k, *(POINT % k for k in range(2, n))] for k in range(2)))
+
+
+def one_instance_shown(n, folder):
+    return ["show", str(DEMO), data(folder, (POINT % k for k in shuffled_names(n))), "--name", str(n)]
+
+
+def listed(folder, pieces):
+    return ["check", "--all", str(DEMO), data(folder, pieces)]
+
+
+def records_listed(n, folder):
+    return listed(folder, ("#%d=POINT($,1.);\n" % k for k in shuffled_names(n)))
+
+
+def names_given_twice_listed(n, folder):
+    return listed(folder, (POINT % (1 + k // 2) for k in range(n)))
+
+
+def references_listed(n, folder):
+    return listed(folder, ("#%d=CLOUD((#%d),(),(TALLY(1)));\n" % (k, n + k) for k in range(1, n + 1)))
+
+
+def references_to_refused_instances(n, folder):
+    """They aren't listed, and each is looked up among those that are refused."""
+    refused = ("#%d=POINT($,1.);\n" % (n + k) for k in range(1, n + 1))
+    return listed(folder, [*("#%d=CLOUD((#%d),(),(TALLY(1)));\n" % (k, n + k) for k in range(1, n + 1)), *refused])
+
+
+def few_listed_of_many(n, folder):
+    return ["check", "--most", "5", str(DEMO), data(folder, [*(POINT % k for k in range(n)), *("#%d=POINT($);\n" % k for k in range(n, n + 10))])]
+
+
+def few_references_listed_of_many(n, folder):
+    return ["check", "--most", "5", str(DEMO), data(folder, ("#%d=CLOUD((#%d),(),(TALLY(1)));\n" % (k, n + k) for k in range(1, n + 1)))]
+
+
+def canonical_references(n, folder):
+    clouds = ("#%d=CLOUD((#%d,#%d),((2.,1.),(1.)),(TALLY(1),#%d));\n" % (k, n + k, n + 1 + k % n, n + k) for k in range(1, n + 1))
+    return ["canon", str(DEMO), data(folder, [*clouds, *(POINT % (n + k) for k in range(1, n + 1))])]
+
+
+def canonical_texts(n, folder):
+    return ["canon", str(DEMO), data(folder, ("#%d=POINT('%s',1.,1.);\n" % (k, "\xc3\xa9" * 30) for k in shuffled_names(n)))]
+
+
+def canonical_sections(n, folder):
+    each = ("DATA('s%07d',('DEMO'));\n" % k + POINT % k + "ENDSEC;\n" for k in shuffled_names(n))
+    return ["canon", str(DEMO), write(folder, "f.step", [START % "DEMO", *each, END])]
+
+
+def parameter_of_letters(n, folder):
+    return ["param", write(folder, "p.txt", ["'", "\xc3\xa9" * n, "'"])]
+
+
+def parameter_of_digits(n, folder):
+    return ["param", write(folder, "p.txt", ["9" * n])]
+
+
+# Values and references that a usual file has.
+
+EACH_KIND = (
+    "TYPE e = ENUMERATION OF (red, green); END_TYPE; ENTITY a; END_ENTITY; ENTITY b SUBTYPE OF (a); END_ENTITY; ENTITY c SUBTYPE OF (b);"
+    " END_ENTITY; ENTITY k; i : INTEGER; r : REAL; n : NUMBER; s : STRING; y : BINARY; o : BOOLEAN; l : LOGICAL; m : e; q : OPTIONAL REAL;"
+    " END_ENTITY; ENTITY p; x : LIST OF c; END_ENTITY; ENTITY d; END_ENTITY;\n"
+)
+
+
+def values_of_each_kind(n, folder):
+    lines = ("#%d=K(%d,%d.5,1.E3,'text %d',\"0F\",.T.,.U.,.GREEN.,$);\n" % (k, k, k, k) for k in range(n))
+    return check(folder, [EACH_KIND], lines)
+
+
+def values_with_remarks(n, folder):
+    """Such instances go token by token."""
+    lines = ("#%d=K(%d,/**/%d.5,1.E3,'text %d',\"0F\",.T.,.U.,.GREEN.,$);\n" % (k, k, k, k) for k in range(n))
+    return check(folder, [EACH_KIND], lines)
+
+
+def references_to_a_small_set(n, folder):
+    """What serves stands last in the set."""
+    return check(folder, [EACH_KIND], ["#0=C();\n", *("#%d=P((%s));\n" % (k, ",".join(["#0"] * 20)) for k in range(1, n))])
+
+
+def references_ahead_to_small_sets(n, folder):
+    lines = [*("#%d=P((#%d,#%d));\n" % (k, n + k, n + (k * 7) % n) for k in range(n)), *("#%d=C();\n" % (n + k) for k in range(n))]
+    return check(folder, [EACH_KIND], lines)
+
+
+def records_of_two_leaves(n, folder):
+    return check(folder, [EACH_KIND], ("#%d=(A()B()C()D());\n" % k for k in range(n)))
+
+
 globals().update({name: of_lines(made) for name, made in LINES.items()})
 globals().update({name: of_file(made) for name, made in WHOLE.items()})
 globals().update({name: of_schema(made) for name, made in TEXTS.items()})

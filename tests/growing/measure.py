@@ -14,6 +14,7 @@ without a mark is over the bounds, and where one with a mark is worse than its m
 would have to be. The program is that of the environment variable P21, else ./p21.
 """
 import argparse
+import contextlib
 import math
 import os
 import pathlib
@@ -108,6 +109,14 @@ ROWS = [
     Row("layers_that_share_all", 5, 500),
     Row("constraints_of_one_entity", 100, ENTITIES // 2),
     *(Row(name, 500, 400_000) for name in ("inverse_attributes", "functions_in_functions")),
+    *(Row(name, 1_000) for name in ("same_in_one_order", "same_in_another_order", "different_at_the_end", "different_at_the_beginning")),
+    *(Row(name, 1_000) for name in ("one_instance_shown", "records_listed", "names_given_twice_listed", "references_listed")),
+    *(Row(name, 1_000) for name in ("references_to_refused_instances", "few_listed_of_many", "few_references_listed_of_many")),
+    *(Row(name, 1_000) for name in ("canonical_references", "canonical_texts")),
+    Row("canonical_sections", 500),
+    *(Row(name, 1_000, 8_000_000) for name in ("parameter_of_letters", "parameter_of_digits")),
+    *(Row(name, 1_000) for name in ("values_of_each_kind", "values_with_remarks", "references_ahead_to_small_sets", "records_of_two_leaves")),
+    Row("references_to_a_small_set", 500),
 ]
 # Seen with the proved program on a machine that did nothing else, 28 November 2026.
 OPEN = {
@@ -145,13 +154,25 @@ def least(launcher, words, bound):
     return found
 
 
+@contextlib.contextmanager
+def input_of(row, size):
+    """An input at a size, in a folder that is gone behind it."""
+    with tempfile.TemporaryDirectory(dir="/dev/shm" if os.path.isdir("/dev/shm") else None) as name:
+        made = getattr(inputs, row.name)(size, pathlib.Path(name))
+        yield made if isinstance(made, inputs.Input) else inputs.Input(made)
+
+
+def built_launcher(folder):
+    """The program that runs another one alone."""
+    launcher = f"{folder}/alone"
+    subprocess.run([needs.compiler(), "-O2", pathlib.Path(__file__).with_name("alone.c"), "-o", launcher], check=True)
+    return launcher
+
+
 def measured(launcher, row, size, a_byte):
     """An input at a size: what a run takes, and how many times its bounds."""
-    with tempfile.TemporaryDirectory(dir="/dev/shm" if os.path.isdir("/dev/shm") else None) as name:
-        folder = pathlib.Path(name)
-        made = getattr(inputs, row.name)(size, folder)
-        made = made if isinstance(made, inputs.Input) else inputs.Input(made)
-        read = sum(os.path.getsize(word) for word in made.arguments[1:])
+    with input_of(row, size) as made:
+        read = sum(os.path.getsize(word) for word in made.arguments[1:] if os.path.isfile(word))
         pairs = made.pairs + made.offered
         time_bound = SECONDS_ALWAYS + SHA_TIMES * a_byte * read + SECONDS_A_PAIR * pairs + SECONDS_OF_USE * made.used
         memory_bound = BYTES_ALWAYS + BYTES_A_BYTE * read + BYTES_A_PAIR * pairs + BYTES_OF_USE * made.used
@@ -217,8 +238,7 @@ def main():
         parser.error(f"no input has the name {unknown[0]}; there are {', '.join(sorted(known))}")
     marks, counts, begun = [], {"good": 0, "open": 0, "failed": 0}, time.monotonic()
     with tempfile.TemporaryDirectory() as folder:
-        launcher = f"{folder}/alone"
-        subprocess.run([needs.compiler(), "-O2", pathlib.Path(__file__).with_name("alone.c"), "-o", launcher], check=True)
+        launcher = built_launcher(folder)
         a_byte = seconds_of_sha(launcher)
         print(f"sha256sum: {a_byte * 1e9:.2f} ns a byte, so at most {SHA_TIMES * a_byte * 1e6:.2f} s a megabyte", flush=True)
         for row in [known[name] for name in given.names] or ROWS:

@@ -300,6 +300,16 @@ EDITS = [
         program=2,
     ),
     Edit(
+        "held.py",
+        ["references_that_wait"],
+        "all references that wait are looked at again and again",
+        "crates/p21_stream_kept/src/waiting.rt",
+        "come.saturating_add(PATIENCE.max(left as u64))",
+        "come.saturating_add(PATIENCE)",
+        "references_that_wait: ",
+        program=2,
+    ),
+    Edit(
         "hostile/transfers.py",
         [],
         "a writer that takes none of some bytes has taken all",
