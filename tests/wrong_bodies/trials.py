@@ -65,9 +65,9 @@ def checksums(crate, path):
 
 
 def record(file):
-    """What a record says of each edit: the two checksums, and the mark where there is one."""
+    """What a record says of each edit: the two checksums, and the mark where there is one. A shorter line says nothing."""
     lines = (line.split() for line in file.read_text().splitlines())
-    return {(crate, name): tuple(rest) for crate, name, *rest in lines}
+    return {(crate, name): tuple(rest) for crate, name, *rest in lines if len(rest) > 1}
 
 
 def parts_over():
