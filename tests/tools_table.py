@@ -358,6 +358,30 @@ def closed_streams(tests):
         tests.judge(f"a stream that is closed: {closed}", wanted, (done.stdout[-65:], done.stderr, done.returncode))
 
 
+def without_room(tests):
+    """Less and less memory for the tool itself: each row that it prints is right or says why it has no answer, and no status is
+    that of an answer where a row is missing."""
+    files = ["examples/product.step", "examples/refused/Count.step"]
+    answers = dict(zip(files, ("accepted", "refused 45 Count in #3")))
+
+    def limited(kilobytes, *words):
+        done = subprocess.run(["sh", "-c", f'ulimit -v {kilobytes}; exec "$@"', "sh", *words], capture_output=True, check=False, text=True)
+        return done.stdout, done.returncode
+
+    # With less Python doesn't come to the tool.
+    compiled = "compile(open('tools/p21-table').read(), 'p21-table', 'exec')"
+    least = next(size for size in range(8_000, 200_000, 500) if limited(size, sys.executable, "-c", compiled)[1] == 0)
+    statuses = set()
+    for size in range(least + 1_000, least + 60_000, 1_500):
+        output, status = limited(size, sys.executable, "tools/p21-table", "-j", "2", "--format", "tsv", SCHEMA, *files)
+        rows = dict(line.split("\t")[:2] for line in output.splitlines()[1:])
+        answered = {file for file, answer in rows.items() if answer == answers[file]}
+        wanted = {2} if len(rows) < 2 else {1} if len(answered) == 2 else {3}
+        tests.judge(f"{size} kilobytes", True, status in wanted)
+        statuses.add(status)
+    tests.judge("too little and enough", {1, 2}, statuses - {3})
+
+
 def befallen(tests):
     """Whatever befalls a tool, its status is that of trouble, and not the one that says that something is refused."""
     for what, line in BEFALLS:
@@ -380,6 +404,7 @@ def main():
     unanswered(tests)
     changing(tests)
     folders(tests)
+    without_room(tests)
     befallen(tests)
     closed_streams(tests)
     full_disk(tests)
