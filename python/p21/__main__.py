@@ -6,10 +6,7 @@ import sys
 from typing import NoReturn
 
 from p21 import _tools
-
-
-# The statuses of a shell for a program that isn't there, and one that can't be run: none of them is an answer.
-NOT_THERE, NOT_RUN = 127, 126
+from p21._library import NOT_RUN, NOT_THERE
 
 
 def main() -> NoReturn:

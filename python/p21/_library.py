@@ -3,6 +3,7 @@
 import ctypes
 import os
 import pathlib
+import sys
 from typing import Any
 
 from p21._faults import file_refusal, schema_refusal
@@ -10,6 +11,8 @@ from p21._faults import file_refusal, schema_refusal
 DONE, REFUSED, MISUSED, FAILED = 0, 1, 2, 3
 SCHEMA, FILE, SECOND = 1, 2, 3
 STATEMENT, INSTANCE = 1, 2
+# The statuses of a shell for a program that isn't there, and for one that can't be run: none of them is an answer.
+NOT_THERE, NOT_RUN = 127, 126
 
 
 class Handle(ctypes.Structure):
@@ -55,9 +58,12 @@ def _declared() -> Any:
         # The interpreter's lock is let go for the time of each call.
         library = ctypes.CDLL(path)
     except OSError as error:
-        raise ImportError(
-            f"p21: the shared library {path} can't be loaded: {error}; tools/build-library builds it, and P21_LIBRARY names another one"
-        ) from error
+        said = f"p21: the shared library {path} can't be loaded: {error}; tools/build-library builds it, and P21_LIBRARY names another one"
+        if sys.argv[:1] == ["-m"]:
+            # This is `python3 -m p21`, whose status of a failed import would be that of a refusal.
+            print(said, file=sys.stderr)
+            sys.exit(NOT_RUN)
+        raise ImportError(said) from error
     handle = ctypes.POINTER(Handle)
     report = ctypes.POINTER(ReportStruct)
     text = [ctypes.c_void_p, ctypes.c_size_t]

@@ -557,5 +557,6 @@ def test_the_program_by_its_module(program):
     # Where there is no program, the status is none of its answers.
     environment["P21"] = str(ROOT / "nowhere")
     assert run("check", "examples/product.exp", "examples/product.step").returncode == 127
-    environment["P21"] = str(ROOT / "README.md")
-    assert run("check", "examples/product.exp", "examples/product.step").returncode == 126
+    for name in ("P21", "P21_LIBRARY"):
+        environment.update({"P21": program, name: str(ROOT / "README.md")})
+        assert run("check", "examples/product.exp", "examples/product.step").returncode == 126
