@@ -88,7 +88,14 @@ def places(tests, folder):
     given = ["--schemas", folder, "examples/refused/SchemaName.step"]
     tests.expect("an alias", given, 0, ["accepted, instances 1, canonical bytes 303"], change)
     other = str(tests.here / "other.step")
-    tests.expect("no such schema", ["--schemas", folder, other], 3, [], f"p21-where: no schema OTHER on the shelf {folder}")
+    lacking = f"no schema OTHER on the shelf {folder}"
+    tests.expect("no such schema", ["--schemas", folder, other], 1, ["no schema", f"  {lacking}"])
+    given = ["--all", "--format", "lines", "--schemas", folder, other, "examples/refused/Dangling.step"]
+    place = "examples/refused/Dangling.step:10:29: 56 Dangling in #2: "
+    output, error, status = tests.run(given)
+    lines = output.splitlines()
+    found = lines[0], lines[1][: len(place)], len(lines), error, status
+    tests.judge("no such schema, and another file", (f"{other}: no schema: {lacking}", place, 2, "", 1), found)
     two = ["--format", "lines", "--schemas", folder, count, "examples/refused/SchemaName.step"]
     found = "45 Count in #3: AXIS2_PLACEMENT_3D has 4 attributes, and here are 3 values; without one: REF_DIRECTION"
     tests.expect("several files", two, 1, [f"{count}:11:31: {found}"], change)

@@ -876,7 +876,7 @@ def cut_short(tests):
     tests.make("cut.step", text)
     cutting = f'"$real" "$@"; status=$?; : > {path}; exit $status'
     found = tests.run([DEMO, path], program=tests.rigged("cutting", cutting))
-    tests.judge("a file cut short with the answer", ("", f"p21-where: {path} was changed while it was read\n", 3), found)
+    tests.judge("a file cut short with the answer", ("it changed while it was read\n", "", 3), found)
 
 
 # Of the references of one instance that are refused the first 100 are placed; each row takes at most so many seconds.
