@@ -863,6 +863,18 @@ def silent(tests):
         tests.judge(f"a program that {name} when asked about a schema", ("", f"p21-where: {sentence}\n", 3), found)
 
 
+def without_proc(tests):
+    """Where /proc isn't mounted, so that the program can't be asked about a place, that is said and no place. Root alone can try it."""
+    before = ["unshare", "--mount", "sh", "-c", 'umount -l /proc && exec "$@"', "-"]
+    if subprocess.run([*before, "true"], capture_output=True, check=False).returncode != 0:
+        return
+    for options in ([], ["--all"], ["--format", "json"]):
+        found = tests.run([*options, SCHEMA, "examples/refused/WrongKind.step"], before=before)
+        tests.judge(f"without /proc, {options}", ("", "p21-where: cannot open /dev/stdin\n", 3), found)
+    accepted = ("accepted, instances 128, canonical bytes 4872\n", "", 0)
+    tests.judge("without /proc, an accepted file", accepted, tests.run([SCHEMA, "examples/product.step"], before=before))
+
+
 def cut_short(tests):
     """A file that is cut short: behind the first answer it has been read, and in front of that it is said."""
     text = file_of("\n".join(f"#{number}=POINT($,1.,{'2.' if number < 9000 else '2'});" for number in range(1, 9001)), [("PRODUCT_MODEL", "DEMO")])
@@ -1031,7 +1043,7 @@ def limits(tests):
 def main():
     tests = Tests("p21-where")
     groups = [faults, refused, values, schemas, attributes, explained, hints, kinds, others, renaming, changed]
-    for group in [*groups, expected, documented, missing, forms, several, first_of_all, many, seeking, columns, equals, strings, unfinished, silent, cut_short, references, lists, strange, controls, limits, memory, speed]:
+    for group in [*groups, expected, documented, missing, forms, several, first_of_all, many, seeking, columns, equals, strings, unfinished, silent, without_proc, cut_short, references, lists, strange, controls, limits, memory, speed]:
         group(tests)
     tests.end()
 

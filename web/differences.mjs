@@ -384,7 +384,7 @@ export function differencesUpToNames(attributes, sets, first, second, most, isSa
     word = DIFFERENT;
     butFor = [...([...names].some(([one, other]) => one !== other) ? ["numbering"] : []), "the header"];
   }
-  return { ...found, word, verdict: verdictLine(word, found.counts, names.size, ambiguous, butFor) };
+  return { ...found, word, butFor, verdict: verdictLine(word, found.counts, names.size, ambiguous, butFor) };
 }
 
 /** So many of something, in words. */
