@@ -136,7 +136,8 @@ CHAIN, MOST_OF_CHAIN = 6_000, 30
 def chain(tests):
     """A chain of renamed SELECTs has the list in place of each name, a circle has none, and neither takes long."""
     first = "ENTITY a; END_ENTITY; TYPE t0 = SELECT (a); END_TYPE;"
-    for name, front, body in (("a chain", first, "SELECT (a)"), ("a circle", f"ENTITY a; END_ENTITY; TYPE t0 = t{CHAIN - 1}; END_TYPE;", None)):
+    circle = f"ENTITY a; END_ENTITY; TYPE t0 = t{CHAIN - 1}; END_TYPE;"
+    for name, front, body in (("a chain", first, "SELECT (a)"), ("a circle", circle, None)):
         types = [f"TYPE t{number} = {{}}; END_TYPE;" for number in range(1, CHAIN)]
         text = whole(" ".join([front, *(line.format(f"t{number}") for number, line in enumerate(types))]))
         wanted = text if body is None else whole(" ".join([front, *(line.format(body) for line in types)]))

@@ -88,7 +88,8 @@ def memory(tests):
         file.write(b"p")
         file.truncate(2_000_000_000)
     limit = lambda: resource.setrlimit(resource.RLIMIT_AS, (600_000_000, 600_000_000))
-    for tool, words in (("p21-where", [SCHEMA, path]), ("p21-where", ["--all", SCHEMA, path]), ("p21-where", [path]), ("p21-adapt", [path])):
+    where = "p21-where"
+    for tool, words in ((where, [SCHEMA, path]), (where, ["--all", SCHEMA, path]), (where, [path]), ("p21-adapt", [path])):
         done = subprocess.run([f"tools/{tool}", *words], capture_output=True, check=False, text=True, preexec_fn=limit)
         tests.judge(f"{tool} without memory", (f"{tool}: out of memory\n", 3), (done.stderr, done.returncode))
     os.unlink(path)

@@ -405,8 +405,8 @@ def renumbering(tests):
         tests.make("pairs", text)
         output, error, status = tests.run([SCHEMA, path, pairs])
         tests.judge(f"a pairing {text!r}", (f"p21-renumber: {line}\n" if line else "", 2 if line else 0), (error, status))
-        is_taken = subprocess.run([tests.program, "check", SCHEMA, tests.make("c.step", output)], capture_output=True, check=False).returncode == 0
-        tests.judge(f"a pairing {text!r}: what is written", (not line, bool(line)), (is_taken, output == ""))
+        checked = subprocess.run([tests.program, "check", SCHEMA, tests.make("c.step", output)], capture_output=True, check=False)
+        tests.judge(f"a pairing {text!r}: what is written", (not line, bool(line)), (checked.returncode == 0, output == ""))
     tests.tool = "p21-diff"
 
 
@@ -461,7 +461,8 @@ def decided(tests):
     two, others = hashed(sets, file_of(USED_BY_TWO)), hashed(sets, file_of(USED_BY_OTHERS))
     tests.judge("hashes of what is used by two and by others", True, two.sha256 != others.sha256)
     itself, other = ({1: "LINK(#1,$)", 2: "LINK(#2,$)"}, {1: "LINK(#2,$)", 2: "LINK(#1,$)"})
-    tests.judge("two that refer to themselves, and to one another", True, hashed(sets, file_of(itself)).sha256 != hashed(sets, file_of(other)).sha256)
+    are_apart = hashed(sets, file_of(itself)).sha256 != hashed(sets, file_of(other)).sha256
+    tests.judge("two that refer to themselves, and to one another", True, are_apart)
     same = hashed(sets, file_of(rings(6))).sha256 == hashed(sets, file_of(rings(3, 3))).sha256
     tests.judge("circles that digests can't tell apart have equal hashes", True, same)
 

@@ -792,8 +792,8 @@ def equals(tests):
 
 
 # What a string is put together of by chance: signs, and directives or what looks like them.
-STRINGS = ["a", ";", "(", ")", ",", "''", "S", "X0", "PA", "/*", "\\\\", "\\S\\'", "\\S\\\\", "\\S\\ ", "\\PA\\", "\\X\\41", "\\X2\\00C4\\X0\\"]
-STRINGS += ["\\X2\\00C400C5\\X0\\", "\\X4\\0001F600\\X0\\", "\\", "\\X0\\", "\\S", "\u00fc"]
+STRINGS = ["a", ";", "(", ")", ",", "''", "S", "X0", "PA", "/*", "\\\\", "\\S\\'", "\\S\\\\", "\\S\\ ", "\\PA\\", "\\X\\41"]
+STRINGS += ["\\X2\\00C4\\X0\\", "\\X2\\00C400C5\\X0\\", "\\X4\\0001F600\\X0\\", "\\", "\\X0\\", "\\S", "\u00fc"]
 
 
 def strings(tests):
@@ -806,14 +806,19 @@ def strings(tests):
             taken += 1
             data = f"{text},1".encode()
             tests.judge(f"the end of {text}", len(data) - 2, reading.end_of_string(data, 0))
-            tests.judge(f"the words of {text}", [text.encode(), b",", b"1"], [data[slice(*at)] for at in reading.lexemes(data, 0, len(data))])
+            words = [data[slice(*at)] for at in reading.lexemes(data, 0, len(data))]
+            tests.judge(f"the words of {text}", [text.encode(), b",", b"1"], words)
     tests.judge("many strings are taken", True, taken > 150)
 
 
 def unfinished(tests):
     """A statement without an end is none that goes on for ever, whatever is asked of it."""
+    ways = [
+        lambda text: [list(part.values) for part in reading.read_parts(text)],
+        lambda text: list(reading.values_of_all(text, reading.read_parts(text))),
+    ]
     for text in (b"#1=A(1,2", b"#1=A(", b"#1=(A(1)B(", b"#1=A((1,2),(3", b"#1=A('1", b"#1=A(1,(2),", b"#1", b"#1=(", b"A"):
-        for asked in (lambda text: [list(part.values) for part in reading.read_parts(text)], lambda text: list(reading.values_of_all(text, reading.read_parts(text)))):
+        for asked in ways:
             try:
                 found = asked(text)
             except reading.Unfinished as trouble:
@@ -877,7 +882,8 @@ def without_proc(tests):
 
 def cut_short(tests):
     """A file that is cut short: behind the first answer it has been read, and in front of that it is said."""
-    text = file_of("\n".join(f"#{number}=POINT($,1.,{'2.' if number < 9000 else '2'});" for number in range(1, 9001)), [("PRODUCT_MODEL", "DEMO")])
+    points = "\n".join(f"#{number}=POINT($,1.,{'2.' if number < 9000 else '2'});" for number in range(1, 9001))
+    text = file_of(points, [("PRODUCT_MODEL", "DEMO")])
     path = tests.make("cut.step", text)
     for options in ([], ["--all"]):
         tests.make("cut.step", text)
@@ -1043,7 +1049,8 @@ def limits(tests):
 def main():
     tests = Tests("p21-where")
     groups = [faults, refused, values, schemas, attributes, explained, hints, kinds, others, renaming, changed]
-    for group in [*groups, expected, documented, missing, forms, several, first_of_all, many, seeking, columns, equals, strings, unfinished, silent, without_proc, cut_short, references, lists, strange, controls, limits, memory, speed]:
+    groups += [expected, documented, missing, forms, several, first_of_all, many, seeking, columns, equals]
+    for group in [*groups, strings, unfinished, silent, without_proc, cut_short, references, lists, strange, controls, limits, memory, speed]:
         group(tests)
     tests.end()
 
