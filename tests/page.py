@@ -693,6 +693,97 @@ def without_schema_in(page, name):
     judge(f"nothing is remembered in {name}", True, ask("document.getElementById('remembered').hidden"))
 
 
+# What can be pressed or typed into, as far as it is in sight; a choice is as large as its label, and a link in a sentence as its words.
+TARGETS = """[...document.querySelectorAll("a, button, summary, input, [tabindex='0']")]
+    .filter((found) => found.checkVisibility() && !found.closest("[inert]") && !found.matches("#skip, #said a"))"""
+SMALL = f"""{TARGETS}.map((found) => found.matches("[type=radio]") ? found.closest("label") : found)
+    .filter((found) => {{ const {{ width, height }} = found.getBoundingClientRect(); return width < 24 || height < 24; }})
+    .map((found) => found.outerHTML.slice(0, 80))"""
+# Headings in their order: none is more than one level below the one in front of it.
+LEVELS = """[...document.querySelectorAll("h1, h2, h3, h4, h5, h6")].filter((found) => found.checkVisibility())
+    .map((found) => Number(found.tagName[1])).filter((level, at, all) => level > (all[at - 1] ?? 0) + 1)"""
+# More room between lines, words and letters, as the WCAG has a reader ask for it.
+SPACED = """(() => { const style = document.createElement("style"); style.id = "spaced";
+    style.textContent = "* { line-height: 1.5 !important; letter-spacing: 0.12em !important; word-spacing: 0.16em !important }"
+        + "p { margin-bottom: 2em !important }"; document.head.append(style); })()"""
+CLIPPED = """[...document.querySelectorAll("body *")].filter((found) => found.checkVisibility() && found.clientHeight > 1
+    && getComputedStyle(found).overflowY === "hidden" && found.scrollHeight > found.clientHeight + 1).map((found) => found.id || found.className)"""
+# What has the focus: what it is, whether that is seen by an outline of two pixels or more, and whether it is in sight.
+FOCUSED = """(() => { const found = document.activeElement; if (found === document.body) return null;
+    const style = getComputedStyle(found), place = found.getBoundingClientRect();
+    const over = document.elementFromPoint(Math.max(place.x + Math.min(place.width, innerWidth) / 2, 1), place.y + Math.min(place.height / 2, 12));
+    return [found.outerHTML.slice(0, 60), style.outlineStyle !== "none" && parseFloat(style.outlineWidth) >= 2,
+        over !== null && (found.contains(over) || over.contains(found))]; })()"""
+
+
+def accessible(page):
+    """What can be tested here of WCAG 2.2 AA: sizes, headings, spacing, the keyboard through everything, and names of what has the focus."""
+    for name in ("product.exp", "product.step", "product-changed.step", "demo.exp"):
+        shutil.copy(ROOT / "examples" / name, page.folder)
+    rows = [f"#{number}=POINT($,1.,'two');" for number in range(1, 9)]
+    page.tests.make("some.step", file_of("\n".join([*rows, "#10=NOTHING();"]), [("PRODUCT_MODEL", "DEMO")]))
+    in_both(page, accessible_in)
+    through_everything(page)
+    on_a_phone(page)
+
+
+def accessible_in(page, name):
+    judge, ask = page.tests.judge, page.browser.ask
+    for files in ([], ["product.exp", "product.step"], ["product.exp", "product.step", "product-changed.step"], ["demo.exp", "some.step"]):
+        page.open(page.path)
+        if files:
+            chosen(page, *files)
+            judge(f"the answer has the focus in {name}, {files[-1]}", "verdict", ask("document.activeElement.id"))
+        last = files[-1] if files else "nothing chosen"
+        judge(f"what is too small in {name}, {last}", [], ask(SMALL))
+        judge(f"headings that leave out a level in {name}, {last}", [], ask(LEVELS))
+        judge(f"the picture in {name}, {last}", not files, ask("document.getElementById('picture').checkVisibility()"))
+        ask("document.querySelectorAll('details').forEach((found) => { found.open = true; })" if name == "Chromium" else
+            "[...document.querySelectorAll('details')].map((found) => found.open = true).length")
+        judge(f"what is too small when all is open in {name}, {last}", [], ask(SMALL))
+        judge(f"what is hard to read in {name}, {last}", [], ask(FAINT))
+        judge(f"names used twice in {name}, {last}", [], ask("[...document.querySelectorAll('[id]')].map((found) => found.id).filter((id, at, all) => all.indexOf(id) !== at)"))
+        ask(SPACED)
+        judge(f"spaced, nothing stands beside in {name}, {last}", True, ask("document.documentElement.scrollWidth <= innerWidth"))
+        judge(f"spaced, nothing is cut off in {name}, {last}", [], ask(CLIPPED))
+
+
+def through_everything(page):
+    """Tab leads to everything that can be used, back and forth, and what has the focus is seen; a link leads to the answer."""
+    tests, tab = page.tests, page.browser
+    page.open(page.path)
+    chosen(page, "demo.exp", "some.step")
+    tab.ask("document.querySelectorAll('details').forEach((found) => { found.open = true; })")
+    wanted = tab.ask(f"{TARGETS}.length") + 1
+    tab.ask("document.getElementById('skip').focus()")
+    seen = [tab.ask(FOCUSED)]
+    while seen[-1] and len(seen) < wanted + 5:
+        tab.press("Tab", 9)
+        seen.append(tab.ask(FOCUSED))
+    seen = [found for found in seen if found]
+    tests.judge("Tab leads to everything", wanted, len(seen))
+    tests.judge("what has the focus unseen", [], [text for text, is_outlined, is_in_sight in seen if not (is_outlined and is_in_sight)])
+    tests.judge("the first is the link to the answer", True, seen[0][0].startswith('<a id="skip"'))
+    tab.ask("(scrollTo(0, 0), document.getElementById('skip').focus())")
+    tab.press("Enter", 13, "\r")
+    tests.judge("where the link leads", "verdict", tab.ask("document.activeElement.id"))
+    tab.press("Tab", 9)
+    tests.judge("what comes behind it", "again", tab.ask("document.activeElement.id"))
+
+
+def on_a_phone(page):
+    """On a phone the answer comes into sight."""
+    tab = page.browser
+    page.open(page.path)
+    tab.look(width=360, height=740)
+    for files in (["product.exp", "product.step"], ["demo.exp", "some.step"]):
+        chosen(page, *files)
+        place = tab.ask("(({ top, bottom }) => [top >= 0, bottom <= innerHeight])(document.querySelector('.verdict').getBoundingClientRect())")
+        page.tests.judge(f"on a phone the answer is in sight, {files[-1]}", [True, True], place)
+        page.tests.judge(f"on a phone nothing stands beside, {files[-1]}", True, tab.ask("document.documentElement.scrollWidth <= innerWidth"))
+    tab.look()
+
+
 # Names as a stranger may choose them: one that reads backwards, one that writes to a terminal, and one that would be a script.
 HOSTILE = ["exe.\u202epets.step", "\x1b[31mred\x07.step", "<img src=x onerror=document.title='run'>.step"]
 ESCAPED = ["exe.\\u202epets.step", "\\x1b[31mred\\x07.step", "<img src=x onerror=document.title='run'>.step"]
@@ -761,6 +852,7 @@ def large_in_both(page):
 def people(page):
     """A keyboard, a screen reader, a phone, and what the page says of itself."""
     tests, tab = page.tests, page.browser
+    forget(page)
     tab.ask("document.activeElement.blur(); scrollTo(0, 0)")
     page.open(page.path)
     order = []
@@ -771,7 +863,8 @@ def people(page):
     tab.press("Enter", 13, "\r")
     tests.judge("Enter on an example", "Same", page.browser.wait(ANSWER)["verdict"][:4])
     tests.judge("what is said", "Same. Both files hold the same model.", tab.ask(SAID))
-    tab.press("Tab", 9)
+    tests.judge("the answer has the focus", "verdict", tab.ask("document.activeElement.id"))
+    tab.ask("[...document.querySelectorAll('#comparisons button')][1].focus()")
     tab.press(" ", 32, " ")
     tab.wait(f"{SAID} === 'Different. 1 difference.' && {ANSWER}")
     for _ in range(30):
@@ -782,6 +875,7 @@ def people(page):
     tab.wait("document.querySelector('.known') !== null")
     known = tab.ask("document.querySelector('.known').textContent")
     tests.judge("an arrow compares up to names", "different: 1 changed, 0 came, 0 went", known)
+    tests.judge("the choice keeps the focus", "shapes", tab.ask("document.activeElement.value"))
     nodes = tab.call("Accessibility.getFullAXTree")["nodes"]
     named = [(node["role"]["value"], node.get("name", {}).get("value")) for node in nodes if not node["ignored"]]
     for role, name in (
@@ -894,7 +988,7 @@ def main():
     page.is_unproved = "unproved" in said
     try:
         groups = [examples, chance, many, stopped_on_the_way, up_to_names, large_up_to_names, shelf, others, large, people, network, in_firefox]
-        groups += [mended_files, words, hostile_names, taken_along, on_paper, packed, without_schema, large_in_both]
+        groups += [mended_files, words, hostile_names, taken_along, on_paper, packed, without_schema, accessible, large_in_both]
         for group in (*groups, want_of_memory, without_memory):
             group(page)
     finally:

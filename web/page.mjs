@@ -230,6 +230,15 @@ async function servedBy(file) {
   return heading ? (/^\s+(\w+)/.exec(front.slice(heading.length))?.[1].toUpperCase() ?? null) : null;
 }
 
+// What is done with the schemas that are kept, one behind the other: else what is forgotten could be kept once more.
+let keeping = Promise.resolve();
+
+/** Does something with the schemas that are kept when all before is done. */
+function inTurn(act) {
+  keeping = keeping.then(act);
+  return keeping;
+}
+
 /** Keeps schemas that the program has read for another time. */
 async function rememberAll(schemas) {
   for (const file of schemas) {
@@ -243,7 +252,7 @@ async function rememberAll(schemas) {
 async function showRemembered() {
   const kept = (await remembered()).map(nameOf);
   const forget = async () => {
-    await forgetAll();
+    await inTurn(forgetAll);
     await showRemembered();
     say("The schemas are forgotten.");
     at("schema").focus();
@@ -368,6 +377,7 @@ async function begin(said = "", upToNames = false) {
   stop();
   at("answer").hidden = true;
   at("answer").removeAttribute("data-whole");
+  at("skip").hidden = true;
   say(said);
   const begun = Symbol("job");
   current = begun;
@@ -387,7 +397,8 @@ async function begin(said = "", upToNames = false) {
     if (message.trouble) say(`There is no answer: ${shown(message.trouble)}.`);
     if (message.answer) {
       show(message.answer, said, upToNames);
-      rememberAll(message.answer.read.map((number) => job.schemas[number]));
+      const read = message.answer.read.map((number) => job.schemas[number]);
+      inTurn(() => rememberAll(read));
     }
     if (message.places) shownPlaces(message.places);
     at("answer").toggleAttribute("data-whole", message.isWhole === true);
@@ -448,16 +459,26 @@ function show(answer, said, upToNames) {
     ...files.map((file) => ofFile(file, answer.explained)),
   );
   at("answer").hidden = false;
-  at("verdict").scrollIntoView({ block: "nearest" });
+  at("skip").hidden = false;
+  at("picture").hidden = true;
+  bringIntoSight(upToNames);
   const refused = files.filter(({ accepted }) => !accepted).map(heardOf);
   const sentence = said + [`${title}.`, more, ...refused].filter(Boolean).join(" ");
   if (said) say(sentence);
   else hear(sentence);
 }
 
+/** Brings an answer into sight and the focus to it; to the choice where one led to it. */
+function bringIntoSight(upToNames) {
+  const { top } = at("answer").getBoundingClientRect();
+  if (top < 0 || top > innerHeight / 2) at("answer").scrollIntoView({ block: "start" });
+  const choice = upToNames ? document.querySelector("[name=way]:checked") : null;
+  (choice ?? at("verdict")).focus({ preventScroll: !choice });
+}
+
 /** How an answer ends, with what there is to do with it. `textOf` gives its text. */
 function ofVerdict(title, more, mood, textOf) {
-  const said = element("div", {}, element("h2", { id: "verdict" }, title), more && element("p", {}, more));
+  const said = element("div", {}, element("h2", { id: "verdict", tabindex: "-1" }, title), more && element("p", {}, more));
   const actions = [
     button("Check again", () => begin(), { id: "again" }),
     copying("Copy", textOf, "the answer"),
