@@ -190,7 +190,7 @@ class Job {
     return { accepted: true, name, line, canonical };
   }
 
-  /** Every refusal of a file, still without its place; the first one alone where there is no list, as for want of memory. */
+  /** What `check --all` lists of a file, each refusal still without its place; the first one alone where there is no list, as for want of memory. */
   refused(name, files, error, heard) {
     const lines = this.program.run(["check", "--all", "--", "schema", "file"], files, heard).error.split("\n");
     const count = lines.pop();

@@ -34,7 +34,7 @@ enum Answer {
 }
 
 /// Reads a schema and a file, and writes to `output` what `check_command` does where the file is accepted; or to `faults` a
-/// line for each of its refusals, up to so many, and one that counts them. Answers the exit status.
+/// line for each refusal that a survey lists, up to so many, and one that counts them. Answers the exit status.
 pub fn check_all_command<S: Read, R: Read, W: Write, F: Write>(
     alloc: Global,
     schema: &mut Watched<S>,

@@ -1,4 +1,4 @@
-//! All refusals of a file.
+//! The refusals that one reading finds of a file.
 ghost use Rattle.std.specs.Prelude.{◌≡◌, ◌≢◌, ◌≤◌, ◌<◌, ◌+◌, ◌⊎◌, ◌^◌, length, IfErr, IfOk, OnErr, OnOk};
 ghost use Rattle.p21_spec_basics.specs.Limits.{Limits as MeantLimits};
 ghost use Rattle.p21_spec_schema.specs.WellFormed.{IsWellFormed};
