@@ -165,7 +165,7 @@ fn all<'a>(alloc: Global) -> Arg<'a>
     ensures local { result.global ≡ false }
 {
     Arg::new(alloc, "all")
-        .help("Lists every refusal of the file, and counts them")
+        .help("Lists the first refusal of each record and those of references, and counts them")
         .long("all")
         .action(ArgAction::SetTrue)
 }

@@ -57,8 +57,9 @@ pub const CHECK: &str =
 standard error, the first refusal and where it comes, or that of the schema:
     refused 52 NotDistinct in #1
     schema refused S5 Circular
-With --all, on standard error, a line for each refusal of a record, a name or a reference,
-and how many these are; any other refusal ends the list, as one of bytes or of the header:
+With --all, on standard error, the first refusal of each record, then those of references,
+but for references of and to records that are refused, and how many these are; any other
+refusal ends the list, as one of bytes or of the header:
     refused 45 Count in #3
     refused 56 Dangling in #9
     refusals 2
