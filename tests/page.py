@@ -667,9 +667,12 @@ def without_schema_in(page, name):
         page.browser.wait(f"{SAID}.startsWith('Now the schema is wanted: alone.step names {first}.')")
         judge(f"where {first} is published, in {name}", address, ask("document.querySelector('#said a')?.getAttribute('href') ?? null"))
     reopened()
-    chosen(page, "product.exp")
-    page.browser.wait("document.getElementById('remembered').textContent === 'This browser remembers product.exp. Forget'")
+    ask("document.querySelector('#comparisons button').click()")
+    page.browser.wait(ANSWER)
     chosen(page, "demo.exp")
+    page.browser.wait("document.getElementById('remembered').textContent === 'This browser remembers demo.exp. Forget'")
+    reopened()
+    chosen(page, "product.exp")
     page.browser.wait("document.getElementById('remembered').textContent === 'This browser remembers demo.exp, product.exp. Forget'")
     page.tests.make("refused.exp", "SCHEMA refused; ENTITY a; x : foo; END_ENTITY; END_SCHEMA;")
     chosen(page, "refused.exp")
@@ -691,6 +694,13 @@ def without_schema_in(page, name):
     page.browser.choose("#first", page.folder / "product.step")
     page.browser.wait(f"{SAID} === 'Now the schema is wanted: product.step names PRODUCT_MODEL.'")
     judge(f"nothing is remembered in {name}", True, ask("document.getElementById('remembered').hidden"))
+    text = (page.folder / "product.step").read_text()
+    for second, bytes_are in ((text, "Both files have the same bytes."), (text.replace("80.", "81."), "The files have different bytes."), (text + "\n", "The files have different bytes.")):
+        page.tests.make("second.step", second)
+        page.browser.choose("#second", page.folder / "second.step")
+        page.browser.wait(f"{SAID} === '{bytes_are} Now the schema is wanted: product.step names PRODUCT_MODEL.'")
+        page.browser.ask("document.querySelector('[data-slot=second] .remove').click()")
+        page.browser.wait(f"{SAID} === 'Now the schema is wanted: product.step names PRODUCT_MODEL.'")
 
 
 # What can be pressed or typed into, as far as it is in sight; a choice is as large as its label, and a link in a sentence as its words.

@@ -240,8 +240,9 @@ def marks(tests, _):
     copy = tests.here / "copy"
     for part in ("crates", "tools", "web", "examples"):
         shutil.copytree(ROOT / part, copy / part, ignore=shutil.ignore_patterns("must-fail", "__pycache__"))
-    for part in ("crates.txt", "HANDLES"):
-        shutil.copy(ROOT / part, copy)
+    (copy / "docs").mkdir()
+    for part in ("crates.txt", "HANDLES", "docs/SCHEMAS.md"):
+        shutil.copy(ROOT / part, copy / part)
     out = copy / "crates" / "p21" / "out"
     shutil.rmtree(out, ignore_errors=True)
     out.mkdir()

@@ -16,6 +16,7 @@ const FIRST_ROWS = 20;
 // Of more differences than these there is a search, which waits so many milliseconds for the next letter.
 const FEW_DIFFERENCES = 5;
 const SEARCH_WAITS = 100;
+const COMPARED_AT_ONCE = 1 << 22;
 const MORE_ROWS = 200;
 // So many refusals are shown as text; all can be saved.
 const MOST_TEXTS = 1000;
@@ -36,8 +37,9 @@ const examples = __EXAMPLES__;
 const PUBLISHED = __PUBLISHED__;
 const isProved = __PROVED__;
 const chosen = { schemas: [], aliases: null, first: null, second: null };
-// Of a file that was dropped what the browser may have to read it anew, and the files that a job has read.
+// Of a file that was dropped what the browser may have to read it anew; files of the examples; and those that a job has read.
 const handles = new WeakMap();
+const ofExamples = new WeakSet();
 const readBefore = new WeakSet();
 const at = (id) => document.getElementById(id);
 let worker = null;
@@ -239,9 +241,9 @@ function inTurn(act) {
   return keeping;
 }
 
-/** Keeps schemas that the program has read for another time. */
+/** Keeps schemas that the program has read for another time, but for that of the examples. */
 async function rememberAll(schemas) {
-  for (const file of schemas) {
+  for (const file of schemas.filter((each) => !ofExamples.has(each))) {
     const serves = await servedBy(file);
     if (serves) await remember(serves, file);
   }
@@ -296,7 +298,9 @@ function hear(said) {
 /** A file of the examples. */
 function example(name) {
   const bytes = Uint8Array.from(examples[name], (sign) => sign.charCodeAt(0));
-  return new File([bytes], name.split("/").at(-1));
+  const file = new File([bytes], name.split("/").at(-1));
+  ofExamples.add(file);
+  return file;
 }
 
 /** Puts an example into the slots. */
@@ -384,7 +388,7 @@ async function begin(said = "", upToNames = false) {
   if (!module || !(await renewAll()) || current !== begun) return;
   const files = [chosen.first, chosen.second].filter((file) => file !== null);
   if (chosen.schemas.length === 0) {
-    if (files.length > 0) sayWanted(files[0], said);
+    if (files.length > 0) sayWanted(files, said, begun);
     return;
   }
   progress({ name: nameOf(files[0] ?? chosen.schemas[0]) });
@@ -414,12 +418,28 @@ function showWork(said) {
   if (!said) hear("At work. A button stops it.");
 }
 
-/** Says of a file without a schema which one is wanted. */
-async function sayWanted(file, said) {
+/** Says whether two files have the same bytes; nothing where one can't be read. */
+async function saidOfBytes(first, second) {
+  const piece = async (file, at) => new Uint8Array(await file.slice(at, at + COMPARED_AT_ONCE).arrayBuffer());
+  try {
+    let isSame = first.size === second.size;
+    for (let at = 0; isSame && at < first.size; at += COMPARED_AT_ONCE) {
+      const [one, other] = await Promise.all([piece(first, at), piece(second, at)]);
+      isSame = one.every((byte, number) => byte === other[number]);
+    }
+    return isSame ? "Both files have the same bytes. " : "The files have different bytes. ";
+  } catch {
+    return "";
+  }
+}
+
+/** Says of files without a schema what can be said, and which one is wanted. */
+async function sayWanted([file, second], given, begun) {
   const { front, kind } = await beginning(file);
+  const said = given + (second ? await saidOfBytes(file, second) : "");
   const name = namedSchema(front);
   const other = kind ? null : otherKindOf(front);
-  if (chosen.schemas.length > 0) return;
+  if (current !== begun) return;
   if (other) {
     say(said, `${nameOf(file)} is ${other}, and no STEP file in clear text.`);
     return;
