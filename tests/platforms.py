@@ -92,12 +92,12 @@ BY_A_PIPE = [["p21-where", PRODUCT, "-"], ["p21-table", PRODUCT, "-"], ["p21-whe
 # the status is 1, or nothing happens any more. No answer of p21 is like that. Such a run is made again, so often.
 NO_ANSWER = (1, b"", b"")
 ATTEMPTS = 3
-LONGEST = 120
+LONGEST = 300
 AGAIN = """#!/bin/sh
 here=$(mktemp -d) || exit 100
 trap 'rm -rf "$here"' EXIT
 for attempt in 1 2 3; do
-    timeout 60 '{program}' "$@" > "$here/output" 2> "$here/error" < /dev/null
+    timeout 300 '{program}' "$@" > "$here/output" 2> "$here/error" < /dev/null
     status=$?
     case $status in 1 | 124) ;; *) break ;; esac
     if [ -s "$here/output" ] || [ -s "$here/error" ]; then break; fi
