@@ -88,6 +88,8 @@ TOOLS = [
 BY_A_PIPE = [["p21-where", PRODUCT, "-"], ["p21-table", PRODUCT, "-"], ["p21-where", "--all", "--format", "json", PRODUCT, "-"]]
 
 
+# Of Wine: what would be fetched from the network, what starts devices, and what would wait for somebody where that fails.
+LEFT_OUT = "mscoree,mshtml,winedevice.exe,winedbg.exe="
 # Wine ends some run in a thousand before its program begins, at least on a machine that has much to do: then nothing is written, and
 # the status is 1, or nothing happens any more. No answer of p21 is like that. Such a run is made again, so often.
 NO_ANSWER = (1, b"", b"")
@@ -115,7 +117,7 @@ class Wine:
 
     def __init__(self, folder):
         self.command = shutil.which("wine64") or "/usr/lib/wine/wine64"
-        self.environment = {"WINEPREFIX": str(folder / "wine"), "WINEDEBUG": "-all", "WINEDLLOVERRIDES": "mscoree=;mshtml=", "HOME": str(folder)}
+        self.environment = {"WINEPREFIX": str(folder / "wine"), "WINEDEBUG": "-all", "WINEDLLOVERRIDES": LEFT_OUT, "HOME": str(folder)}
         # The first run fills the folder, and says so.
         subprocess.run([*self.front(), "cmd", "/c", "exit"], stdin=subprocess.DEVNULL, capture_output=True, check=True)
         quiet = {"stdout": subprocess.DEVNULL, "stderr": subprocess.DEVNULL}
