@@ -3,8 +3,13 @@ use Rattle.std.proofs.Common.{◌≡◌, ℕ, ◌+◌, ◌-◌, ◌<◌, ◌≤�
 use Rattle.std.proofs.lemmas.List.{get_or-append-add, get_or-take, take_more, take-append-drop}
 use Rattle.std.proofs.Math.Seq.{get_or-append_seam}
 use Rattle.p21_spec_basics.proofs.Members.{head_is, tail_is}
-use Rattle.p21_spec_exchange.proofs.OneGap.{HasNoSeparator, nothing-first}
+use Rattle.p21_spec_exchange.proofs.FirstBytes.{spelling_begins}
+use Rattle.p21_spec_exchange.proofs.OneGap.{HasNoSeparator, begins-on, nothing-first}
+use Rattle.p21_spec_exchange.specs.Pending.{BeginsWithNoSeparator}
 use Rattle.p21_spec_exchange.specs.Separator.{IsCommentText, IsSeparator, Separator, blank, comment, separator_bytes}
+use Rattle.p21_spec_exchange.specs.Token.{Token}
+use Rattle.p21_tokens_automaton.proofs.OnePending.{begins-no_separator}
+use Rattle.p21_transcribe.specs.LeadingToken.{IsLeadingToken}
 use Rattle.p21_transcribe.specs.Gaps.{BeginsComment, HasNoLeadingBlank, PassesBlank, PassesSeparator, PassesSeparators}
 
 -- ---- no separator
@@ -38,6 +43,11 @@ some_bytes (comment inside) = omega arith
 
 pub none_passed : (bytes : List ℕ) → HasNoSeparator bytes → PassesSeparators bytes bytes
 none_passed bytes ends = record { gap = []; bytes_are = refl; is_gap = ([], tt, refl); ends = ends }
+
+-- a token is no separator
+pub token-first : (bytes : List ℕ) (count : ℕ) (one : Token) → IsLeadingToken bytes count one → PassesSeparators bytes bytes
+token-first bytes count one h =
+    none_passed bytes (begins-no_separator bytes (subst BeginsWithNoSeparator (take-append-drop count bytes) (begins-on (take count bytes) (drop count bytes) (spelling_begins one (take count bytes) h.spells))))
 
 pub one_more : (bytes middle rest : List ℕ) → PassesSeparator bytes middle → PassesSeparators middle rest → PassesSeparators bytes rest
 one_more bytes middle rest first others = record {

@@ -5,10 +5,10 @@ use Rattle.std.proofs.lemmas.Bool.{cases_lt, lt-ltb, le-ltb}
 use Rattle.std.proofs.lemmas.List.{take-take}
 use Rattle.p21_transcribe.specs.Significands.{further_digits}
 
-module _ (bytes : List ℕ) (at point first behind : ℕ) (low : first < point) (some : first < behind) (near : behind ≤ 32) (out : ℕ) (text one two : List ℕ)
-    (first-row : (count : ℕ) → count ≤ 32 → take (out + count) one ≡ text ++ take count (drop (at + first + 1) bytes))
-    (second-row : (count : ℕ) → count ≤ 32 → take (out + (point - first - 1) + count) two ≡ take (out + (point - first - 1)) one ++ take count (drop (at + point + 1) bytes))
-    (within : point < 32) where
+module _ (wide : ℕ) (bytes : List ℕ) (at point first behind : ℕ) (low : first < point) (some : first < behind) (near : behind ≤ wide) (out : ℕ) (text one two : List ℕ)
+    (first-row : (count : ℕ) → count ≤ wide → take (out + count) one ≡ text ++ take count (drop (at + first + 1) bytes))
+    (second-row : (count : ℕ) → count ≤ wide → take (out + (point - first - 1) + count) two ≡ take (out + (point - first - 1)) one ++ take count (drop (at + point + 1) bytes))
+    (within : point < wide) where
   pub rows : take (out + (behind - first - 1 - from_bool (ltb point behind))) two ≡ text ++ further_digits bytes at point first behind
   rows = elim (cases_lt point behind) [
     | inl over ↦

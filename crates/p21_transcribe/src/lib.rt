@@ -29,5 +29,5 @@ pub use item::{append_item, append_logical};
 pub use keyword::{append_keyword, leading_keyword};
 pub use name::append_name;
 pub use number::append_whole;
-pub use real::append_real;
+pub use real::{append_other_real, append_plain_real, append_real};
 pub use text::append_text;

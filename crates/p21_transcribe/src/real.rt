@@ -1,5 +1,5 @@
 //! Reals, and whole numbers where a NUMBER may stand (ISO 10303-21, clause 6: tokens, real and integer).
-ghost use Rattle.std.specs.Prelude.{◌≡◌, ℕ, ℤ, ◌+◌, ◌^◌, ◌<◌, ◌≤◌, ◌++◌, length, drop, nat_abs, take, true, IfNone, IfSome};
+ghost use Rattle.std.specs.Prelude.{◌≡◌, Bool, IsTrue, false, ℕ, ℤ, ◌+◌, ◌^◌, ◌<◌, ◌≤◌, ◌++◌, length, drop, nat_abs, take, true, IfNone, IfSome};
 ghost use Rattle.p21_transcribe.specs.Places.{HasPlaces};
 ghost use Rattle.p21_values.specs.Canonical.{Continues};
 ghost use Rattle.p21_scan.specs.Digits.{HasNoLeadingZero};
@@ -13,6 +13,7 @@ use crate::digits::leading_zeros;
 use crate::draft::{Draft, WIDE};
 use crate::exponent::{append_exponent, append_minus, split_exponent};
 use crate::places::{Places, real_places};
+use crate::significand::{append_scaled, append_zero};
 use p21_scan::{begins_exponent, exponent_value, scan_number, split_sign};
 
 /// A number with more digits on one side of the point isn't usual.
@@ -31,30 +32,44 @@ pub fn append_real(bytes: &[u8], wholes: bool, draft: &mut Draft) -> Option<usiz
     ensures some { IfSome result (λ count. TranscribesNumber wholes bytes.now count draft.old draft.new) }
     ensures none { IfNone result (Continues draft.old draft.new) }
 {
-    let (negative, unsigned) = split_sign(bytes);
-    if let Some(places) = near_places(unsigned) {
-        let behind = &unsigned[places.end..];
-        if begins_exponent(behind) {
-            return append_exponential(bytes, wholes, draft);
-        }
-        if !append_placed(negative, unsigned, &places, 0, draft) {
-            return None;
-        }
-        return Some(bytes.len() - behind.len());
+    match append_plain_real(bytes, draft) {
+        Some(count) => Some(count),
+        None => append_other_real(bytes, wholes, draft),
     }
-    append_far(bytes, wholes, draft)
 }
 
-/// The same for a real with an exponent. It finds the places anew, so that those of other reals don't lie in memory.
+/// Appends the real at the front, if it has no exponent and its digits end near: how many bytes it has.
+#[inline(always)]
+pub fn append_plain_real(bytes: &[u8], draft: &mut Draft) -> Option<usize>
+    ensures some { IfSome result (λ count. (wholes : Bool) → TranscribesNumber wholes bytes.now count draft.old draft.new) }
+    ensures none { IfNone result (draft.new ≡ draft.old) }
+{
+    let (negative, unsigned) = split_sign(bytes);
+    let places = near_places(unsigned)?;
+    let behind = &unsigned[places.end..];
+    if begins_exponent(behind) {
+        return None;
+    }
+    if !append_placed(negative, unsigned, &places, 0, draft) {
+        return None;
+    }
+    Some(bytes.len() - behind.len())
+}
+
+/// Appends the real at the front, which has an exponent or doesn't end near, or a whole number: how many bytes it has.
 #[inline(never)]
-fn append_exponential(bytes: &[u8], wholes: bool, draft: &mut Draft) -> Option<usize>
+pub fn append_other_real(bytes: &[u8], wholes: bool, draft: &mut Draft) -> Option<usize>
     ensures some { IfSome result (λ count. TranscribesNumber wholes bytes.now count draft.old draft.new) }
     ensures none { IfNone result (Continues draft.old draft.new) }
 {
     let (negative, unsigned) = split_sign(bytes);
-    let places = near_places(unsigned)?;
-    let rest = append_near(negative, unsigned, &places, draft)?;
-    Some(bytes.len() - rest.len())
+    if let Some(places) = near_places(unsigned) {
+        if begins_exponent(&unsigned[places.end..]) {
+            let rest = append_near(negative, unsigned, &places, draft)?;
+            return Some(bytes.len() - rest.len());
+        }
+    }
+    append_far(bytes, wholes, draft)
 }
 
 /// The same for a real of more digits, at the end of a piece, and for a whole number.
@@ -131,8 +146,7 @@ fn append_near<'a>(
     Some(rest)
 }
 
-/// Appends the canonical spelling of the number of the digits at these places, times ten to the exponent, or a part of it; says
-/// whether it is whole.
+/// Appends the canonical spelling of the number of the digits at these places, times ten to the exponent; says whether it did.
 #[inline(always)]
 fn append_placed(
     negative: bool,
@@ -144,10 +158,11 @@ fn append_placed(
     requires places { HasPlaces unsigned.now 0 places.now.point places.now.end places.now.first places.now.behind }
     requires room { WIDE + WIDE ≤ length unsigned.now }
     requires small { nat_abs exponent < 10 ^ 9 }
-    ensures { AppendsNumber result (placed_ratio negative unsigned.now 0 places.now.point places.now.end exponent) draft.old draft.new }
+    ensures whole { IsTrue result → AppendsNumber true (placed_ratio negative unsigned.now 0 places.now.point places.now.end exponent) draft.old draft.new }
+    ensures none { result ≡ false → draft.new ≡ draft.old }
 {
     if places.behind == 0 {
-        return draft.append(b"0.");
+        return append_zero(draft);
     }
     let power = if places.first < places.point {
         exponent + (places.point - places.first - 1) as i32
@@ -157,8 +172,7 @@ fn append_placed(
     append_at_power(negative, unsigned, places, power, draft)
 }
 
-/// Appends the digits at these places with this exponent, or a part of that; says whether it is whole. An exponent of more
-/// than two digits isn't usual.
+/// Appends the digits at these places with this exponent; says whether it did. An exponent of more than two digits isn't usual.
 #[inline(always)]
 fn append_at_power(
     negative: bool,
@@ -170,12 +184,13 @@ fn append_at_power(
     requires places { HasPlaces unsigned.now 0 places.now.point places.now.end places.now.first places.now.behind }
     requires some { 0 < places.now.behind }
     requires room { WIDE + WIDE ≤ length unsigned.now }
-    ensures { AppendsSignificand result (significand negative unsigned.now 0 places.now.point places.now.first places.now.behind) power draft.old draft.new }
+    ensures whole { IsTrue result → AppendsSignificand true (significand negative unsigned.now 0 places.now.point places.now.first places.now.behind) power draft.old draft.new }
+    ensures none { result ≡ false → draft.new ≡ draft.old }
 {
     if power < -99 || power > 99 {
         return false;
     }
-    draft.append_scaled(negative, unsigned, places, power)
+    append_scaled(negative, unsigned, places, power, draft)
 }
 
 /// Appends the canonical spelling of the number that these digits before and behind the point stand for, times ten to the

@@ -1,5 +1,5 @@
 -- Reals that are taken one behind the other.
-use Rattle.std.proofs.Common.{◌≡◌, ◌∙◌, ◌<◌, ℕ, ◌+◌, ◌-◌, Bool, false, List, [], ◌∷◌, ◌++◌, drop, length, take, refl, ap, sym, subst, Option, Some, None, IfNone, IfSome, arith}
+use Rattle.std.proofs.Common.{◌≡◌, ◌∙◌, ◌<◌, ℕ, ◌+◌, ◌-◌, Bool, false, List, [], ◌∷◌, ◌++◌, drop, length, take, refl, ap, sym, subst, Option, Some, None, IfNone, IfSome, ◌⊎◌, inl, inr, arith}
 use Rattle.std.proofs.lemmas.List.{take-append-drop}
 use Rattle.p21_spec_laws.specs.Needs.{FitsWithNeeds}
 use Rattle.p21_spec_exchange.specs.Spelling.{spelling}
@@ -13,7 +13,9 @@ use Rattle.p21_express_graph.specs.Meaning.{type_use}
 use Rattle.p21_spec_schema.specs.Schema as schema
 use Rattle.p21_spec_schema.specs.Schema.{Schema, TypeUse}
 use Rattle.p21_spec_schema.specs.WellFormed.{HasDistinctTypes}
+use Rattle.p21_transcribe.proofs.Gaps.{token-first}
 use Rattle.p21_transcribe.specs.Gaps.{PassesSeparators}
+use Rattle.p21_transcribe.specs.LeadingToken.{IsLeadingToken}
 use Rattle.p21_transcribe.specs.Numbers.{TranscribesNumber, a_real, a_whole}
 use Rattle.p21_transcribe_instance.proofs.Elements.{Along, aggregate-taken, along-ends, along-first, along-next, compared-as, no-elements, unique-compares_elements}
 use Rattle.p21_transcribe_instance.proofs.Values.{taken-front, needs-nothing, no-deeper, scalar-value, stored-taken}
@@ -22,6 +24,7 @@ use Rattle.p21_transcribe_instance.specs.Elements.{IsAggregateOf}
 use Rattle.p21_transcribe_instance.specs.Reals.{IsRealBase, TakesReal, TakesRealAggregate, TakesReals}
 use Rattle.p21_transcribe_instance.specs.declared.taken.Taken.{Taken}
 use Rattle.p21_transcribe_instance.specs.TakenValues.{PassesDelimiter, TakesFront, TakesScalar, TakesWithNeeds, with_text}
+use Rattle.p21_values.proofs.Continuing.{continues-same}
 use Rattle.p21_values.specs.Canonical.{Continues}
 
 -- ---- one real
@@ -34,6 +37,16 @@ pub real-continues : (found : Option ℕ) (bytes old new : List ℕ) → IfSome 
     → Continues old new
 real-continues None bytes old new some none = none
 real-continues (Some count) bytes old new some none = number-continues false bytes count old new some
+
+pub plain-continues : (found : Option ℕ) (bytes old new : List ℕ) → IfSome found (λ count. (wholes : Bool) → TranscribesNumber wholes bytes count old new) → IfNone found (new ≡ old)
+    → Continues old new
+plain-continues None bytes old new some none = continues-same old new none
+plain-continues (Some count) bytes old new some none = number-continues false bytes count old new (some false)
+
+-- a token is no separator
+pub first-passed : (bytes front : List ℕ) (count : ℕ) (one : token.Token) → IsLeadingToken front count one → (front ≡ bytes) ⊎ PassesSeparators bytes front → PassesSeparators bytes front
+first-passed bytes front count one stands (inl same) = subst (λ (x : List ℕ). PassesSeparators x front) same (token-first front count one stands)
+first-passed bytes front count one stands (inr passes) = passes
 
 pub real-at : (bytes rest : List ℕ) (count : ℕ) (old new : List ℕ) → rest ≡ drop count bytes → TakesScalar schema.real bytes count old new → TakesReal bytes rest old new
 real-at bytes rest count old new e h s base most taken is type has =

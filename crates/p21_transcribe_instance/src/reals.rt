@@ -1,5 +1,5 @@
 //! Reals one behind the other, as the coordinates of a point (ISO 10303-21, mapping of EXPRESS aggregation data types).
-ghost use Rattle.std.specs.Prelude.{◌≡◌, ◌≤◌, List, ℕ, false, length, IfNone, IfSome, IsTrue};
+ghost use Rattle.std.specs.Prelude.{◌≡◌, ◌⊎◌, ◌≤◌, List, ℕ, false, length, IfNone, IfSome, IsTrue};
 ghost use Rattle.p21_express_graph.specs.Meaning.{type_use};
 ghost use Rattle.p21_transcribe.specs.Gaps.{PassesSeparators};
 ghost use Rattle.p21_spec_schema.specs.Schema.{real};
@@ -12,7 +12,7 @@ use crate::delimiter::{append_delimiter, append_next_delimiter};
 use p21_express_graph::TypeUse;
 use p21_express_tables::Base;
 use p21_mapping::allows_count;
-use p21_transcribe::{Draft, append_real, behind_separators};
+use p21_transcribe::{Draft, append_other_real, append_plain_real, behind_separators};
 
 /// Whether a type comes down to REAL.
 #[inline(always)]
@@ -63,23 +63,59 @@ fn append_each_real<'a>(bytes: &'a [u8], draft: &mut Draft) -> Option<(usize, &'
     }
 }
 
-/// The real at the front, behind separators: what stands behind it.
+/// The real at the front, behind separators: what stands behind it. Mostly there are none but blanks, and it has no exponent.
 #[inline(always)]
 fn append_next_real<'a>(bytes: &'a [u8], draft: &mut Draft) -> Option<&'a [u8]>
     ensures some { IfSome result (λ rest. (inside : List ℕ) × PassesSeparators bytes.now inside × TakesReal inside rest.now draft.old draft.new) }
     ensures shorter { IfSome result (λ rest. length rest.now ≤ length bytes.now) }
     ensures draft { Continues draft.old draft.new }
 {
+    let front = behind_blanks(bytes);
+    match append_first_plain(front, draft) {
+        Some(count) => Some(&front[count..]),
+        None => append_other_next(bytes, draft),
+    }
+}
+
+/// What stands behind the separators at the front, if the first of them is a blank; else the bytes.
+#[inline(always)]
+fn behind_blanks(bytes: &[u8]) -> &[u8]
+    ensures passes { (result.now ≡ bytes.now) ⊎ PassesSeparators bytes.now result.now }
+    ensures shorter { length result.now ≤ length bytes.now }
+{
+    match bytes.first() {
+        Some(byte) if *byte <= b' ' => behind_separators(bytes),
+        _ => bytes,
+    }
+}
+
+/// The real at the front, if it has no exponent and ends near: how many bytes it has.
+#[inline(always)]
+fn append_first_plain(bytes: &[u8], draft: &mut Draft) -> Option<usize>
+    ensures some { IfSome result (λ count. TakesScalar real bytes.now count draft.old draft.new) }
+    ensures draft { Continues draft.old draft.new }
+    ensures none { IfNone result (draft.new ≡ draft.old) }
+{
+    append_plain_real(bytes, draft)
+}
+
+/// The same for any real.
+#[inline(never)]
+fn append_other_next<'a>(bytes: &'a [u8], draft: &mut Draft) -> Option<&'a [u8]>
+    ensures some { IfSome result (λ rest. (inside : List ℕ) × PassesSeparators bytes.now inside × TakesReal inside rest.now draft.old draft.new) }
+    ensures shorter { IfSome result (λ rest. length rest.now ≤ length bytes.now) }
+    ensures draft { Continues draft.old draft.new }
+{
     let front = behind_separators(bytes);
-    let count = append_first_real(front, draft)?;
+    let count = append_first_other(front, draft)?;
     Some(&front[count..])
 }
 
-/// The real at the front: how many bytes it has.
+/// The real at the front, where it isn't taken so: how many bytes it has.
 #[inline(always)]
-fn append_first_real(bytes: &[u8], draft: &mut Draft) -> Option<usize>
+fn append_first_other(bytes: &[u8], draft: &mut Draft) -> Option<usize>
     ensures some { IfSome result (λ count. TakesScalar real bytes.now count draft.old draft.new) }
     ensures draft { Continues draft.old draft.new }
 {
-    append_real(bytes, false, draft)
+    append_other_real(bytes, false, draft)
 }

@@ -1,28 +1,10 @@
-use Rattle.std.proofs.Common.{◌≡◌, ◌+◌, ◌-◌, drop, length, pos, subst, sym, ap, ◌∙◌, arith}
-use Rattle.std.proofs.lemmas.List.{drop-drop}
-use Rattle.std.specs.List.{slice_range}
-use Rattle.p21_spec_basics.proofs.Members.{rest_is}
-use Rattle.p21_spec_exchange.proofs.Forms.{NoDigitFirst}
-use Rattle.p21_transcribe.proofs.ExponentParts.{no_exponent-ends}
-use Rattle.p21_transcribe.proofs.LanePlaces.{dot, fraction, whole}
-use Rattle.p21_transcribe.proofs.RealTokens.{real-at_front}
-use Rattle.p21_transcribe.specs.Numbers.{EndsReal, a_real}
 use Rattle.p21_transcribe.proofs.real.append_real.Goals as goal
 
 pub returns-in-Some-clause-some : goal.returns-in-Some-clause-some
-returns-in-Some-clause-some c =
-    let sign = c.split_sign-negative in
-    let unsigned = sign.result.1.now in
-    let p = c.in-Some.places in
-    let h = c.in-Some.ensures.places in
-    let order = h.ordered in
-    let rest = slice_range unsigned p.end (length unsigned) in
-    let there : 0 + p.point + 1 + (p.end - p.point - 1) ≡ p.end = omega arith in
-    let digits = fraction unsigned 0 p.point p.end p.first p.behind h in
-    let same : drop (p.end - p.point - 1) (drop (0 + p.point + 1) unsigned) ≡ rest = drop-drop (p.end - p.point - 1) (0 + p.point + 1) unsigned ∙ ap (λ n. drop n unsigned) there ∙ sym (rest_is unsigned p.end) in
-    let behind : EndsReal (drop (p.end - p.point - 1) (drop (0 + p.point + 1) unsigned)) (pos 0) rest = subst (λ x. EndsReal x (pos 0) rest) (sym same) (no_exponent-ends rest (subst NoDigitFirst same digits.ends) (c.begins_exponent.ensures.0 c.if-begins_exponent.false)) in
-    let written = c.if-not-append_placed.ensures {u = tt} in
-    a_real written.0 (record {
-      stands = real-at_front c.args.bytes.now unsigned (drop (0 + p.point + 1) unsigned) rest p.point (p.end - p.point - 1) sign.result.0 (pos 0) written.0 sign.ensures.minus sign.ensures.rest (whole unsigned 0 p.point p.end p.first p.behind h) h.some (dot unsigned 0 p.point p.end p.first p.behind h) digits behind written.1;
-      appended = written.2;
-    })
+returns-in-Some-clause-some c = c.in-Some.ensures.some c.args.wholes
+
+pub returns-in-None-clause-some : goal.returns-in-None-clause-some
+returns-in-None-clause-some c = rw c.in-None.ensures.none at c.append_other_real.ensures.some
+
+pub returns-in-None-clause-none : goal.returns-in-None-clause-none
+returns-in-None-clause-none c = rw c.in-None.ensures.none at c.append_other_real.ensures.none

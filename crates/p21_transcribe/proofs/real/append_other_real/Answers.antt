@@ -3,14 +3,14 @@ use Rattle.std.proofs.lemmas.List.{drop-drop}
 use Rattle.p21_transcribe.proofs.LanePlaces.{dot, fraction, whole}
 use Rattle.p21_transcribe.proofs.RealTokens.{real-at_front}
 use Rattle.p21_transcribe.specs.Numbers.{EndsReal, a_real}
-use Rattle.p21_transcribe.proofs.real.append_exponential.Goals as goal
+use Rattle.p21_transcribe.proofs.real.append_other_real.Goals as goal
 
-pub returns-clause-some : goal.returns-clause-some
-returns-clause-some c =
+pub returns-then-begins_exponent-clause-some : goal.returns-then-begins_exponent-clause-some
+returns-then-begins_exponent-clause-some c =
     let sign = c.split_sign-negative in
     let unsigned = sign.result.1.now in
-    let p = c.in_ok-places.places in
-    let h = c.in_ok-places.ensures.places in
+    let p = c.in-Some.places in
+    let h = c.in-Some.ensures.places in
     let (k, end, written) = (c.in_ok-rest.ensures {u = tt}).some in
     let order = h.ordered in
     let there : 0 + p.point + 1 + (p.end - p.point - 1) ≡ p.end = omega arith in
