@@ -90,8 +90,8 @@ BY_A_PIPE = [["p21-where", PRODUCT, "-"], ["p21-table", PRODUCT, "-"], ["p21-whe
 
 # Of Wine: what would be fetched from the network, what starts devices, and what would wait for somebody where that fails.
 LEFT_OUT = "mscoree,mshtml,winedevice.exe,winedbg.exe="
-# Wine ends some run in a thousand before its program begins, at least on a machine that has much to do: then nothing is written, and
-# the status is 1, or nothing happens any more. No answer of p21 is like that. Such a run is made again, so often.
+# Under Wine some run in a thousand writes nothing and has status 1, or hangs, at least on a machine that has much to do. No answer of
+# p21 is like that, and it isn't known to be Wine that ends it. Such a run is made again, so often, and counted.
 NO_ANSWER = (1, b"", b"")
 ATTEMPTS = 3
 LONGEST = 300
@@ -129,7 +129,7 @@ class Wine:
         return ["env", *(f"{name}={value}" for name, value in self.environment.items()), self.command]
 
     def surely(self, program):
-        """A file that starts a program as its own does, and anew where Wine ends the run before the program begins. The program is given no
+        """A file that starts a program as its own does, and anew where a run under Wine says nothing. The program is given no
         standard input, and its streams are handed on at its end."""
         path = program.parent / "surely" / program.name
         path.parent.mkdir()
@@ -141,7 +141,7 @@ class Wine:
         """How often that was so, as words for a line."""
         count = self.again.read_text().count("again") if self.again.exists() else 0
         self.again.unlink(missing_ok=True)
-        return f"; Wine ended {count} runs before they began, which were made again" if count else ""
+        return f"; {count} runs under Wine said nothing and were made again" if count else ""
 
     def end(self):
         """Ends what runs in the folder."""
@@ -215,7 +215,7 @@ class Made:
 
 
 def answer(words, **more):
-    """The status of a program, and what it writes to both streams. A run that Wine ends before the program begins is made again."""
+    """The status of a program, and what it writes to both streams. A run that says nothing, as happens under Wine, is made again."""
     for _ in range(ATTEMPTS):
         try:
             done = subprocess.run(words, stdout=subprocess.PIPE, stderr=subprocess.PIPE, check=False, timeout=LONGEST, **more)
@@ -291,13 +291,14 @@ def scripts(made, tally):
         "hostile/large.py": (failing, []),
     }
     for script, (environment, words) in runs.items():
-        for _ in range(ATTEMPTS if script == BY_ITSELF and made.name == WINDOWS else 1):
+        for attempt in range(ATTEMPTS if script == BY_ITSELF and made.name == WINDOWS else 1):
             done = subprocess.run([TESTS / script, *words], stdout=subprocess.PIPE, stderr=subprocess.STDOUT, check=False, env=environment, text=True)
             if done.returncode == 0:
                 break
         tally.check(f"{script}: {done.stdout[-2000:] if done.returncode else ''}", done.returncode, 0)
         last = done.stdout.rstrip().rpartition("\n")[2][:100]
-        tally.part(f"{made.name}, {script}", f": {last}{made.runner.started_again()}")
+        again = f"; made again {attempt} times" if attempt else ""
+        tally.part(f"{made.name}, {script}", f": {last}{made.runner.started_again()}{again}")
 
 
 # --- Names, streams and pipes ---
@@ -502,18 +503,20 @@ def tools(made, tally, here):
     copies = here / "copies"
     copies.mkdir()
     as_windows = {**os.environ, "P21": str(made.program), "PYTHONDONTWRITEBYTECODE": "1", "TMPDIR": str(copies)}
+    again = 0
     for tool, *rest in [*TOOLS, *BY_A_PIPE]:
         given = [word.format(here=here) for word in rest]
         more = {"cwd": ROOT, "input": broken if "-" in given else b""}
         wanted = answer([ROOT / "tools" / tool, *given], **more)
-        for _ in range(ATTEMPTS):
+        for attempt in range(ATTEMPTS):
             found = answer([sys.executable, TESTS / "platforms" / "as_windows.py", tool, *given], env=as_windows, **more)
             # Of the runs of the program one may be ended by Wine.
             if found == wanted:
                 break
+        again += attempt
         tally.check(f"{tool} {rest}", found, wanted)
     tally.check("no copy is left", [path.name for path in copies.iterdir() if not path.name.startswith("wine")], [])
-    tally.part(f"{made.name}, the tools")
+    tally.part(f"{made.name}, the tools", f": {again} command lines made again")
 
 
 PARTS = {
