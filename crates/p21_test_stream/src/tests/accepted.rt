@@ -23,6 +23,8 @@ pub(super) enum Fact<'a> {
     Text(&'a [u8], bool),
     /// How many instances it has, and its canonical file.
     Whole(u64, &'a [u8]),
+    /// How it is printed to debug.
+    Printed(&'a str),
 }
 
 /// Texts in frames, each with what the file answers.
@@ -63,7 +65,14 @@ fn is_between(line: Option<&[u8]>, front: &str, behind: &str) -> bool {
     }
 }
 
-fn is_so(accepted: &Accepted, fact: Fact) -> bool {
+fn is_printed(alloc: Global, accepted: &Accepted, wanted: &str) -> bool {
+    match format!(in alloc; "{accepted:?}") {
+        Ok(text) => text.as_str() == wanted,
+        Err(_) => false,
+    }
+}
+
+fn is_so(alloc: Global, accepted: &Accepted, fact: Fact) -> bool {
     match fact {
         Fact::Counts(count, len) => accepted.count() == count && accepted.len() == len,
         Fact::Line(name, wanted) => is_line(accepted.line(Name(name)), wanted),
@@ -72,6 +81,7 @@ fn is_so(accepted: &Accepted, fact: Fact) -> bool {
         }
         Fact::Text(text, wanted) => accepted.is_text(text) == wanted,
         Fact::Whole(count, text) => accepted.count() == count && accepted.is_text(text),
+        Fact::Printed(wanted) => is_printed(alloc, accepted, wanted),
     }
 }
 
@@ -79,7 +89,7 @@ fn is_so(accepted: &Accepted, fact: Fact) -> bool {
 pub(super) fn answers(alloc: Global, schema: &Schema, file: &[u8], fact: Fact) -> bool {
     match accepted_of(alloc, schema, file) {
         Some(accepted) => {
-            is_so(&accepted, fact) && is_counted_so(alloc, schema, file, &accepted)
+            is_so(alloc, &accepted, fact) && is_counted_so(alloc, schema, file, &accepted)
         }
         None => false,
     }
@@ -104,6 +114,11 @@ pub(super) fn wrong_fact(alloc: Global, schema: &Schema, rows: Facts) -> Wrong {
 const COUNTS: Facts = &[
     (DEMO, "", Fact::Counts(0, 152)),
     (DEMO, "#2 = POINT($, 1.0, 10.E-1);", Fact::Counts(1, 171)),
+    (
+        DEMO,
+        "#2 = POINT($, 1.0, 10.E-1);",
+        Fact::Printed("Accepted { count: 1, len: 171 }"),
+    ),
     (
         SECTIONS,
         "DATA('b',('DEMO'));#1=POINT($,1.,1.);ENDSEC;DATA('a',('demo'));#2=POINT($,2.0,1.);ENDSEC;",
