@@ -80,6 +80,12 @@ expect 'an argument that is no text' 2 '' 'error: an argument is not UTF-8'
 run param "$here/none"
 expect 'a file that is not there' 3 '' "cannot open $here/none"
 
+run param "$here/$(printf 'a\nb\r\t\033[31m\177\302\233\342\200\256\303\251\\n')"
+expect 'a path that breaks a line' 3 '' "cannot open $here/"'a\\nb\\r\\t\\x1b[[]31m\\x7f\\x9b\\u202eé\\n'
+
+run faults "$(printf 'a\nb')"
+expect 'a word that breaks a line' 2 '' "error: invalid value ""'a\\\\nb' for*"
+
 run param "$here"
 expect 'a folder' 3 '' 'read fault'
 

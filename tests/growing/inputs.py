@@ -2,7 +2,7 @@
 
 A generator takes a size and a folder, writes what it makes there, and answers the program's arguments. Where a schema may cost
 more than its bytes, an `Input` says by how much: how many pairs of an entity and a supertype it has, how many things its selects
-offer, and how many entities are in the sets that a file uses.
+offer, how many entities are in the sets that a file uses, and how many words are printed.
 """
 import collections
 import itertools
@@ -10,7 +10,7 @@ import pathlib
 import random
 import subprocess
 
-Input = collections.namedtuple("Input", "arguments pairs offered used", defaults=(0, 0, 0))
+Input = collections.namedtuple("Input", "arguments pairs offered used printed", defaults=(0, 0, 0, 0))
 
 DEMO = pathlib.Path(__file__).resolve().parent.parent.parent / "examples" / "demo.exp"
 START = "ISO-10303-21;\nHEADER;\nFILE_DESCRIPTION((''),'2;1');\nFILE_NAME('','',(''),(''),'','','');\nFILE_SCHEMA(('%s'));\nENDSEC;\n"
@@ -33,12 +33,21 @@ def data(folder, pieces, schema="DEMO", name="f.step"):
     return write(folder, name, [START % schema, "DATA;\n", *pieces, "ENDSEC;\n", END])
 
 
+def data_named(section, folder, name, pieces):
+    """A file with one data section of this name."""
+    return write(folder, name, [START % "DEMO", "DATA('", section, "',('DEMO'));\n", *pieces, "ENDSEC;\n", END])
+
+
 def check_demo(folder, pieces):
     return ["check", str(DEMO), data(folder, pieces)]
 
 
 def check(folder, declarations, pieces):
     return ["check", schema_of(folder, declarations), data(folder, pieces, "S")]
+
+
+def check_all(folder, declarations, pieces):
+    return ["check", "--all", *check(folder, declarations, pieces)[1:]]
 
 
 def schema(folder, pieces):
@@ -116,6 +125,20 @@ def sections_with_long_names(n, folder):
     stem = "a" * 1000
     each = ("DATA('%s%d',('DEMO'));\nENDSEC;\n" % (stem, 10 ** 6 + k) for k in range(n))
     return ["check", str(DEMO), write(folder, "f.step", [START % "DEMO", *each, END])]
+
+
+def same_section_with_a_long_name(n, folder):
+    """Two files whose instances stand in a section with a name as long as all of them."""
+    texts = (data_named("a" * (20 * n), folder, name, (POINT % k for k in range(n))) for name in ("f.step", "g.step"))
+    return ["same", str(DEMO), *texts]
+
+
+def same_sections_in_turn(n, folder):
+    """The same with two sections of long names, of which each has every other name."""
+    def each(name):
+        sections = ("DATA('%s%d',('DEMO'));\n%sENDSEC;\n" % ("a" * (10 * n), odd, "".join(POINT % k for k in range(odd, n, 2))) for odd in (0, 1))
+        return write(folder, name, [START % "DEMO", *sections, END])
+    return ["same", str(DEMO), each("f.step"), each("g.step")]
 
 
 def references_ahead(n, folder):
@@ -262,6 +285,30 @@ def references_ahead_by_a_select(n, folder):
     return Input(check(folder, declarations, ["#2=Q((" + ",".join(["#5"] * 8 * n) + "));\n", "#5=ZZ();\n"]), pairs=n, used=n)
 
 
+def refused_references_to_a_large_set(n, folder):
+    names = numbered("e", n)
+    declarations = [*entities(names), below_all("zz", names), "ENTITY w; END_ENTITY; ENTITY q; x : w; END_ENTITY;\n"]
+    return Input(check_all(folder, declarations, ["#1=ZZ();\n", *("#%d=Q(#1);\n" % (k + 2) for k in range(4 * n))]), pairs=n, used=n)
+
+
+def refused_references_by_a_select(n, folder):
+    names = numbered("e", n)
+    declarations = [*entities(names), below_all("zz", names), "ENTITY w; END_ENTITY; TYPE t = SELECT (w, q); END_TYPE; ENTITY q; x : t; END_ENTITY;\n"]
+    return Input(check_all(folder, declarations, ["#1=ZZ();\n", *("#%d=Q(#1);\n" % (k + 2) for k in range(4 * n))]), pairs=n, used=n)
+
+
+def refused_records_of_an_abstract_set(n, folder):
+    names = numbered("e", n)
+    leaf = "ENTITY zz ABSTRACT SUPERTYPE SUBTYPE OF (%s); END_ENTITY;\n" % ",".join(names)
+    return Input(check_all(folder, [*entities(names), leaf], ("#%d=ZZ();\n" % (k + 1) for k in range(n))), pairs=n, used=n)
+
+
+def refused_records_of_a_set_that_clashes(n, folder):
+    names = numbered("e", n)
+    declarations = ["ENTITY r SUPERTYPE OF (ONEOF (%s, %s)); END_ENTITY;\n" % (names[-2], names[-1]), *entities(names), below_all("zz", names)]
+    return Input(check_all(folder, declarations, ("#%d=ZZ();\n" % (k + 1) for k in range(n))), pairs=n, used=n)
+
+
 def sets_that_take_turns(n, folder):
     """Records of 40 parts each, whose sets are 17."""
     names = numbered("e", 57)
@@ -319,6 +366,12 @@ def records_under_oneof_lists(n, folder):
 
 
 # Schemas with a file that uses little of them.
+
+def attributes_in_the_line_of_each_subtype(n, folder):
+    names = ",".join("attribute_%06d" % k for k in range(n))
+    lower = ("ENTITY e%d SUBTYPE OF (b); END_ENTITY;\n" % k for k in range(n))
+    return Input(schema(folder, ["ENTITY b; " + names + " : REAL; END_ENTITY;\n", *lower]), pairs=n, printed=n * n)
+
 
 def wide_subtypes(n, folder):
     names = numbered("e", n)

@@ -7,7 +7,8 @@ For each input a size is looked for at which a run takes as long as `--second` s
 last of three doublings takes one); then it is doubled three times, and the exponent of the growth of time over bytes is fitted.
 Each run is held against what its input may cost (docs/PERFORMANCE.md): for each byte 40 times what sha256sum takes for one, and 45
 bytes of memory; for each pair of an entity and a supertype, and each thing that a select offers, 20 ns and 4 bytes; for each
-entity of a set that a file uses 50 ns and 8 bytes. Memory is that of the program alone (alone.c).
+entity of a set that a file uses 50 ns and 8 bytes; for each word that is printed 20 ns and no memory. Memory is that of the program
+alone (alone.c).
 
 An input that is over its bounds today has a mark in OPEN, with how many times over the bounds it is. The status is 1 where one
 without a mark is over the bounds, and where one with a mark is worse than its mark says. `--table` prints the marks as they
@@ -37,6 +38,7 @@ SECONDS_ALWAYS, BYTES_ALWAYS = 0.02, 4_000_000
 SHA_TIMES, BYTES_A_BYTE = 40, 45
 SECONDS_A_PAIR, BYTES_A_PAIR = 20e-9, 4
 SECONDS_OF_USE, BYTES_OF_USE = 50e-9, 8
+SECONDS_A_WORD = 20e-9
 # A machine at work measures up to so many times what it does alone; a mark says what was seen once.
 NOISE = 1.5
 # A run ends after so many seconds. No larger one is tried behind one that took so many seconds, or read or took so many bytes.
@@ -74,6 +76,7 @@ ROWS = [
     *(Row(name, 2_000) for name in ("bag_of_numbers", "lists_of_one", "list_of_digits", "lists_of_two", "records_of_one_keyword")),
     Row("sections", 1_000),
     Row("sections_with_long_names", 50),
+    *(Row(name, 1_000) for name in ("same_section_with_a_long_name", "same_sections_in_turn")),
     Row("lists_in_lists", 200),
     Row("lists_nested_with_a_second_element", 50),
     Row("parts_of_one_instance", 500, ENTITIES),
@@ -86,12 +89,15 @@ ROWS = [
     *(Row(name, 200, ENTITIES // 2) for name in ("sections_with_a_large_set", "chain_in_use", "large_sets_in_turn")),
     *(Row(name, 200, ENTITIES // 2) for name in ("references_by_a_select", "references_to_a_large_set", "references_ahead_by_a_select")),
     Row("references_to_large_sets_in_turn", 200, ENTITIES // 2),
+    *(Row(name, 200, ENTITIES // 2) for name in ("refused_references_to_a_large_set", "refused_references_by_a_select")),
+    *(Row(name, 200, ENTITIES // 2) for name in ("refused_records_of_an_abstract_set", "refused_records_of_a_set_that_clashes")),
     Row("sets_that_take_turns", 200),
     Row("sets_of_four", 1_000, 600_000),
     Row("colliding_sets", 500),
     *(Row(name, 100, ENTITIES // 2) for name in ("record_of_many_parts", "parts_that_redeclare", "chain_that_redeclares_one_place")),
     Row("records_under_oneof_lists", 50, ENTITIES // 17),
     *(Row(name, 50, ENTITIES // 3) for name in ("wide_subtypes", "redeclared_fan", "one_redeclared", "redeclared_by_many")),
+    Row("attributes_in_the_line_of_each_subtype", 100, ENTITIES // 3),
     Row("wide_subtypes_behind_their_own", 50, ENTITIES // 4),
     *(Row(name, 50, ENTITIES // 3) for name in ("redeclared_of_many", "owners_by_a_lower_name", "owners_by_a_lower_name_each")),
     *(Row(name, 200, 400_000) for name in ("all_redeclared", "all_derived", "deep_attributes", "deep_redeclared")),
@@ -174,7 +180,7 @@ def measured(launcher, row, size, a_byte):
     with input_of(row, size) as made:
         read = sum(os.path.getsize(word) for word in made.arguments[1:] if os.path.isfile(word))
         pairs = made.pairs + made.offered
-        time_bound = SECONDS_ALWAYS + SHA_TIMES * a_byte * read + SECONDS_A_PAIR * pairs + SECONDS_OF_USE * made.used
+        time_bound = SECONDS_ALWAYS + SHA_TIMES * a_byte * read + SECONDS_A_PAIR * pairs + SECONDS_OF_USE * made.used + SECONDS_A_WORD * made.printed
         memory_bound = BYTES_ALWAYS + BYTES_A_BYTE * read + BYTES_A_PAIR * pairs + BYTES_OF_USE * made.used
         found = least(launcher, [PROGRAM, *made.arguments], time_bound)
     if found is None:

@@ -11,12 +11,14 @@ ghost use Rattle.p21_commands.specs.Status.{done, usage, failed};
 mod commands;
 mod progress;
 mod refusals;
+mod shown;
 
 use clap::error::{Error, ErrorKind};
 use commands::{Stopped, run_command};
 use p21_command_line::command_line;
 use p21_commands::{CommandFault, DONE, FAILED, USAGE, report};
 use p21_stream_io::Watched;
+use shown::Shown;
 use std::process::ExitCode;
 use std::{env, io};
 
@@ -136,6 +138,7 @@ fn names_show(words: &[String]) -> bool {
 fn explain_sign(rt: &HostRuntime, number: &str) -> u8
     ensures { IsOfMistake result }
 {
+    let number = Shown(number);
     mistake(eprintln!(rt;
         "error: invalid value '{number}' for '--name <N>': invalid digit found in string\n\nFor more information, try '--help'.\n{NAME_OF_INSTANCE}"
     ))
@@ -145,6 +148,7 @@ fn explain_sign(rt: &HostRuntime, number: &str) -> u8
 fn explain_refusal(rt: &HostRuntime, word: &str) -> u8
     ensures { IsOfMistake result }
 {
+    let word = Shown(word);
     mistake(eprintln!(rt;
         "error: invalid value '{word}' for '[N]': no refusal has this number or name; p21 faults lists them\n\nFor more information, try '--help'."
     ))
@@ -174,6 +178,7 @@ fn explain_open(rt: &HostRuntime, path: &str, error: &io::Error) -> u8
     if error.kind() == io::ErrorKind::OutOfMemory {
         return out_of_memory(rt);
     }
+    let path = Shown(path);
     // The status is the same where the line can't be written.
     let _ = eprintln!(rt; "cannot open {path}");
     FAILED

@@ -467,7 +467,8 @@ again. Mostly the name is that of a folder.
 was written is a beginning of the answer.
 
 `cannot open FILE` has no number: there is no such file, or it may not be read. The
-first file that can't be opened is named.
+first file that can't be opened is named. A control character of its path is shown by
+its number, as `\n` or `\x1b`, so that the line stays one.
 ### S1 Token
 
     SCHEMA s; (* not closed END_SCHEMA;

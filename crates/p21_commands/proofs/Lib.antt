@@ -1,7 +1,6 @@
 pub mod Failing
 pub mod Reporting
 mod TransferLemmas
-pub mod Commas
 pub mod Comparing
 pub mod Counting
 pub mod FileFailing
@@ -10,3 +9,4 @@ pub mod Writing
 pub mod Surveys
 pub mod Checking
 mod OwnWords
+mod SchemaTexts

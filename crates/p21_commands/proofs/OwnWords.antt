@@ -13,7 +13,7 @@ use Rattle.p21_spec_file.specs.ValueText.{with_commas, with_commas_between}
 use Rattle.p21_spec_schema.specs.Order.{own_places}
 use Rattle.p21_spec_schema.specs.Schema.{Schema, Place}
 
-with_commas-append : (texts others : List (List ℕ)) → with_commas (texts ++ others) ≡ with_commas texts ++ with_commas others
+pub with_commas-append : (texts others : List (List ℕ)) → with_commas (texts ++ others) ≡ with_commas texts ++ with_commas others
 with_commas-append [] others = refl
 with_commas-append (text ∷ texts) others = ap (λ zs. codes "," ++ zs) (ap (λ zs. text ++ zs) (with_commas-append texts others) ∙ sym (append_assoc text (with_commas texts) (with_commas others)))
 
@@ -37,38 +37,9 @@ module _ (R : Place → List ℕ → Type 0) where
       let next : places_from e 0 (k + 1) ≡ places_from e 0 k ++ record { entity = e; index = k } ∷ [] = places-more e 0 k ∙ ap (λ i. places_from e 0 k ++ record { entity = e; index = i } ∷ []) zero_ in
       subst P (sym next) (behind-both (places_from e 0 k) (record { entity = e; index = k } ∷ []) old now new so_far (word ∷ [], (is, tt), new_is ∙ ap (λ zs. now ++ (codes "," ++ zs)) (sym (append-nil word))))
 
-  -- the places of one owner more
-  pub behind-owner : {X : Type 0} (s : Schema) (number : X → ℕ) (xs : List X) (k : ℕ) (d : X) (old now new : List ℕ) → k < length xs → StandBehind (flat_map (own_places s) (map number (take k xs))) old now → StandBehind (own_places s (number (get_or xs k d))) now new
-      → StandBehind (flat_map (own_places s) (map number (take (k + 1) xs))) old new
-  behind-owner s number xs k d old now new below so_far one =
-      let e : ℕ = number (get_or xs k d) in
-      let P : List Place → Type 0 = λ ps. StandBehind ps old new in
-      let next : flat_map (own_places s) (map number (take (k + 1) xs)) ≡ flat_map (own_places s) (map number (take k xs)) ++ own_places s e =
-      ap (flat_map (own_places s)) (numbers-more number xs k d below) ∙ flat_map-append (own_places s) (map number (take k xs)) (e ∷ []) ∙ ap (λ ps. flat_map (own_places s) (map number (take k xs)) ++ ps) (append-nil (own_places s e)) in
-      subst P (sym next) (behind-both (flat_map (own_places s) (map number (take k xs))) (own_places s e) old now new so_far one)
-
 -- names of places that no entity derives are their words, whatever the entity
 pub plain-words : (s : Schema) (e : ℕ) (ps : List Place) (names : List (List ℕ)) → AllZip (IsPlainWord s) ps names → AllZip (IsPlaceWord s e) ps names
 plain-words s e [] [] all = tt
 plain-words s e [] (name ∷ names) all = absurd all
 plain-words s e (p ∷ ps) [] all = absurd all
 plain-words s e (p ∷ ps) (name ∷ names) ((stored, named), all) = (inr (λ (f, x, among, at, derives). stored (f, (x, at, derives)), named), plain-words s e ps names all)
-
--- ---- the parenthesis before the words
-
-set-behind : (before : List ℕ) (x y : ℕ) (rest : List ℕ) → slice_set (before ++ x ∷ rest) (length before) y ≡ before ++ y ∷ rest
-set-behind [] x y rest = refl
-set-behind (b ∷ before) x y rest = ap (λ zs. b ∷ zs) (set-behind before x y rest)
-
-pub opened-there : (before : List ℕ) (words : List (List ℕ)) (old new : List ℕ) (start : ℕ) → length before ≡ start → old ≡ before ++ with_commas words → start < length old → new ≡ slice_set old start 40 → new ≡ before ++ (codes "(" ++ with_commas_between words)
-opened-there before [] old new start long old_is below new_is =
-    let same : length old ≡ length before + 0 = ap length old_is ∙ length-append before [] in
-    absurd (omega (arith, same, long, below))
-opened-there before (word ∷ words) old new start long old_is below new_is =
-    new_is ∙ ap (λ zs. slice_set zs start 40) old_is ∙ ap (λ k. slice_set (before ++ with_commas (word ∷ words)) k 40) (sym long) ∙ set-behind before 44 40 (word ++ with_commas words)
-
-pub opened-behind : (before : List ℕ) (words : List (List ℕ)) (old new : List ℕ) (start : ℕ) → length before ≡ start → old ≡ before ++ with_commas words → (start < length old → ⊥) → new ≡ old ++ 40 ∷ [] → new ≡ before ++ (codes "(" ++ with_commas_between words)
-opened-behind before [] old new start long old_is past new_is = new_is ∙ ap (λ zs. zs ++ 40 ∷ []) (old_is ∙ append-nil before)
-opened-behind before (word ∷ words) old new start long old_is past new_is =
-    let same : length old ≡ length before + suc (length (word ++ with_commas words)) = ap length old_is ∙ length-append before (with_commas (word ∷ words)) in
-    absurd (past (omega (arith, same, long)))

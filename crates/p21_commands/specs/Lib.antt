@@ -8,6 +8,7 @@ pub mod Status
 pub mod Transfer
 pub mod Load
 pub mod Print
+pub mod SchemaText
 pub mod Canon
 pub mod Check
 pub mod CheckAll

@@ -3,14 +3,15 @@ ghost use Rattle.std.specs.Prelude.{◌≡◌, [], ◌∷◌, IfErr, IfOk, OnOk}
 ghost use Rattle.p21_commands.specs.Command.{Ends, FailsBy, written_by};
 ghost use Rattle.p21_commands.specs.Failures.{FailedBy, NoneFailed, failures_of};
 ghost use Rattle.p21_commands.specs.Transfer.{ConsumesAtMost, Writes};
-ghost use Rattle.p21_commands.specs.Load.{IsSchemaRefused, RefusesRead};
+ghost use Rattle.p21_commands.specs.Load.{DeclaresRead, IsSchemaRefused, RefusesRead};
+ghost use Rattle.p21_commands.specs.OwnTexts.{AreOwnTexts};
 ghost use Rattle.p21_commands.specs.Print.{IsPrinted};
 
 use crate::fault::{CommandFault, report};
 use crate::load::load_schema;
-use crate::print::schema_text;
+use crate::print::{own_texts, write_text};
 use crate::status::DONE;
-use crate::transfer::write_whole;
+use p21_express_tables::Schema;
 use p21_stream_io::Watched;
 use std::alloc::Global;
 use std::io::{Read, Write};
@@ -50,22 +51,29 @@ fn write_schema<S: Read, W: Write>(
     ensures unfailed { OnOk result (NoneFailed (failures_of reader.old reader.new ∷ failures_of output.old output.new ∷ [])) }
     ensures failed { IfErr result (FailedBy (failures_of reader.old reader.new ∷ []) (failures_of output.old output.new ∷ [])) }
 {
-    let text = load_text(alloc, reader)?;
-    write_whole(output, &text)
+    let (schema, texts) = load_texts(alloc, reader)?;
+    match write_text(output, &schema, &texts) {
+        Ok(()) => Ok(()),
+        Err(_) => Err(CommandFault::Write),
+    }
 }
 
-/// The text that is printed of the schema that `reader` holds.
-fn load_text<S: Read>(alloc: Global, reader: &mut Watched<S>) -> Result<Vec<u8>, CommandFault>
+/// The schema that `reader` holds, and the texts of its entities of which its lines are put together.
+fn load_texts<S: Read>(
+    alloc: Global,
+    reader: &mut Watched<S>,
+) -> Result<(Schema, Vec<Option<Vec<u8>>>), CommandFault>
     ensures consumed { ConsumesAtMost (S.remaining reader.old.inner) (S.remaining reader.new.inner) }
-    ensures ok { IfOk result (λ text. IsPrinted (S.remaining reader.old.inner) text.items) }
+    ensures declares { IfOk result (λ found. DeclaresRead (S.remaining reader.old.inner) found.0) }
+    ensures texts { IfOk result (λ found. AreOwnTexts found.0 found.1.items) }
     ensures err { IfErr result (RefusesRead (S.remaining reader.old.inner)) }
 
     ensures read { OnOk result (reader.new.failures ≡ reader.old.failures) }
     ensures failed { IfErr result (FailedBy (failures_of reader.old reader.new ∷ []) []) }
 {
     let schema = load_schema(alloc, reader)?;
-    match schema_text(alloc, &schema) {
-        Ok(text) => Ok(text),
+    match own_texts(alloc, &schema) {
+        Ok(texts) => Ok((schema, texts)),
         Err(_no_memory) => Err(CommandFault::NoMemory),
     }
 }

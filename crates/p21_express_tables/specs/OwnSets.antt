@@ -1,10 +1,9 @@
 -- What holds of the set that an entity and its supertypes make.
 use Rattle.std.specs.Prelude.{◌≡◌, ◌↔◌, ℕ, Bool, IsTrue, List, Some, slice_get, Contains}
-use Rattle.p21_spec_schema.specs.Schema.{Schema, Place, IsAbstract}
+use Rattle.p21_spec_schema.specs.Schema.{Schema, Place}
 use Rattle.p21_spec_schema.specs.OneOf.{Clashes}
 use Rattle.p21_spec_schema.specs.Order.{order, places}
 use Rattle.p21_spec_schema.specs.PlaceType.{two_redeclarations, TypeAt}
-use Rattle.p21_express_tables.specs.declared.own_sets.OwnFaults.{OwnFaults}
 
 -- redeclarations leave the place of the set open
 abbrev pub IsOpenAt : Schema → ℕ → Place → Type 0
@@ -13,11 +12,6 @@ IsOpenAt s e place = Contains (places s e) place × TypeAt s (order s e) place t
 -- and leave a place of it open
 abbrev pub LeavesOpen : Schema → ℕ → Type 0
 LeavesOpen s e = (place : Place) × IsOpenAt s e place
-
-pub record HasOwnFaults (s : Schema) (e : ℕ) (faults : OwnFaults) : Type 0 where
-  pub abstract_is : IsTrue faults.is_abstract ↔ IsAbstract s e
-  pub open_is : IsTrue faults.leaves_open ↔ LeavesOpen s e
-  pub clash_is : IsTrue faults.clashes ↔ Clashes s (order s e)
 
 -- each says whether the own set of the entity of its number clashes
 abbrev pub AreOwnClashes : Schema → List Bool → Type 0

@@ -17,5 +17,4 @@ mod words;
 
 pub use base::Base;
 pub use ids::Ids;
-pub use own_sets::OwnFaults;
 pub use schema::Schema;

@@ -10,7 +10,7 @@ ghost use Rattle.p21_express_graph.specs.Orders.{numbers};
 ghost use Rattle.p21_express_graph.specs.Resolved.{IsEntity, IsPlace};
 ghost use Rattle.p21_express_graph.specs.Rising.{IsOwnRising};
 ghost use Rattle.p21_express_tables.specs.Decisions.{IsDecision};
-ghost use Rattle.p21_express_tables.specs.OwnSets.{AreOwnClashes, HasOwnFaults, LeavesOpen};
+ghost use Rattle.p21_express_tables.specs.OwnSets.{AreOwnClashes, LeavesOpen};
 ghost use Rattle.p21_express_tables.specs.Redeclarers.{RedeclaresPlace};
 
 use crate::holders::Holders;
@@ -20,31 +20,7 @@ use crate::schema::Schema;
 use p21_express_graph::{EntityId, Place, PlaceType};
 use p21_values::NoMemory;
 
-/// What makes the set of an entity and its supertypes no set of an instance.
-#[derive(Clone, Copy, Debug, Drop, PartialEq, Eq)]
-pub struct OwnFaults {
-    /// The entity is abstract (ISO 10303-11, Abstract supertypes).
-    pub is_abstract: bool,
-    /// Entities redeclare a place, and none of them is a subtype of all others that do (ISO 10303-11, Attribute
-    /// redeclaration).
-    pub leaves_open: bool,
-    /// Two entities stand in one ONEOF list (ISO 10303-11, Subtype/supertype constraints).
-    pub clashes: bool,
-}
-
 impl Schema {
-    /// What makes the set of an entity and its supertypes no set of an instance. It takes no memory.
-    pub fn own_faults(&self, entity: EntityId) -> OwnFaults
-        requires { IsEntity self.now entity.0 }
-        ensures { HasOwnFaults self.now entity.0 result }
-    {
-        OwnFaults {
-            is_abstract: self.is_abstract(entity),
-            leaves_open: self.leaves_open(entity),
-            clashes: self.own_clashes(entity),
-        }
-    }
-
     /// An entity and its supertypes, rising by name. It takes no memory where they are 64 at most.
     ///
     /// # Errors
@@ -181,8 +157,9 @@ impl Schema {
         Ok(clashes)
     }
 
-    /// Whether two entities of the own set stand in one ONEOF list.
-    fn own_clashes(&self, entity: EntityId) -> bool
+    /// Whether two entities of the set of an entity and its supertypes stand in one ONEOF list (ISO 10303-11, Subtype/supertype
+    /// constraints): no instance has such a set. It takes no memory.
+    pub fn own_clashes(&self, entity: EntityId) -> bool
         requires { IsEntity self.now entity.0 }
         ensures { IsTrue result ↔ Clashes self.now (order self.now entity.0) }
     {
@@ -200,8 +177,10 @@ impl Schema {
         self.rising(self.order_of(entity))
     }
 
-    /// Whether redeclarations leave a place of the own set open.
-    fn leaves_open(&self, entity: EntityId) -> bool
+    /// Whether redeclarations leave a place of the set of an entity and its supertypes open: entities redeclare it, and none of
+    /// them is a subtype of all others that do (ISO 10303-11, Attribute redeclaration). No instance has such a set. All of the set
+    /// is walked for it. It takes no memory.
+    pub fn leaves_open(&self, entity: EntityId) -> bool
         requires { IsEntity self.now entity.0 }
         ensures { IsTrue result ↔ LeavesOpen self.now entity.0 }
     {

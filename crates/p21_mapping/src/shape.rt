@@ -105,14 +105,13 @@ fn check_own_set(schema: &Schema, entity: EntityId) -> Result<(), CheckFault>
     requires { IsEntity schema.now entity.0 }
     ensures { MatchResult result (λ _. PassesOwnSet schema.now entity.0) (RefusesOwnSet schema.now entity.0) }
 {
-    let faults = schema.own_faults(entity);
-    if faults.is_abstract {
+    if schema.is_abstract(entity) {
         return Err(CheckFault::Abstract);
     }
-    if faults.clashes {
+    if schema.own_clashes(entity) {
         return Err(CheckFault::OneOf);
     }
-    if faults.leaves_open {
+    if schema.leaves_open(entity) {
         return Err(CheckFault::TwoRedeclarations);
     }
     Ok(())

@@ -1,13 +1,19 @@
 -- References that no instance serves, as they are gone through.
-use Rattle.std.proofs.Common.{◌≡◌, ◌≤◌, ◌⊎◌, ℕ, List, [], ◌∷◌, ◌++◌, length, Some, None, inl, inr, refl, sym, ap, subst, ◌∙◌, append_assoc, append-nil, arith}
+use Rattle.std.proofs.Common.{◌≡◌, ◌<◌, ◌≤◌, ◌⊎◌, get_or, ℕ, Option, List, [], ◌∷◌, ◌++◌, length, Some, None, inl, inr, refl, sym, ap, subst, ◌∙◌, append_assoc, append-nil, arith}
 use Rattle.std.proofs.lemmas.List.Elements.{Contains-append_left, Contains-append_right}
 use Rattle.std.specs.BTreeSet.{BTreeSet}
-use Rattle.std.specs.List.{AllByRecursion as Each}
+use Rattle.std.proofs.lemmas.Option.{same_Some, slice_get-get_or, slice_get-map, slice_get_read}
+use Rattle.std.specs.List.{AllZip, AllByRecursion as Each}
+use Rattle.std.specs.Option.{option_map}
 use Rattle.std.specs.Prelude.{Contains}
 use Rattle.p21_spec_basics.proofs.Members.{Contains-cases, Contains-first, Contains-later, Contains-none, Each-append, Each-of_members, Each-weaker}
 use Rattle.p21_spec_laws.specs.Keeping.{Kept}
 use Rattle.p21_spec_laws.specs.Waiting.{Reference}
 use Rattle.p21_spec_schema.specs.Schema.{Schema}
+use Rattle.p21_stream_kept.proofs.Zipping.{AllZip-beside_at}
+use Rattle.p21_stream_kept.specs.Inside.{reference_of, references_of}
+use Rattle.p21_stream_kept.specs.Judgements.{AnswersNeedOf}
+use Rattle.p21_stream_kept.specs.declared.kept.Reference as held
 use Rattle.p21_stream_statements.specs.declared.fault.Fault.{Fault}
 use Rattle.p21_stream_statements.specs.declared.refusal.Refusal.{Refusal}
 use Rattle.p21_stream.specs.Sifting.{at_instance}
@@ -30,6 +36,15 @@ adds-one s kept names reference old new fault answers is = record {
   right = ((fault, answers, refl), tt);
   answered = inr (inr (at_instance fault reference.0, Contains-first (at_instance fault reference.0) [], (fault, answers, refl)));
 }
+
+-- what is found for a reference answers it
+pub answered-at : (s : Schema) (kept : Kept) (waiting : List held.Reference) (found : List (Option Fault)) (k : ℕ) (x : held.Reference) (otherwise : Option Fault) → x ≡ get_or waiting k x → k < length waiting → k < length found
+    → AllZip (AnswersNeedOf s kept.stored) (references_of waiting) found → AnswersNeedOf s kept.stored (reference_of x) (get_or found k otherwise)
+answered-at s kept waiting found k x otherwise is low within all =
+    let here = slice_get-map reference_of waiting k ∙ ap (option_map reference_of) (slice_get_read waiting (length waiting) k x refl low is) in
+    let (own, there, answers) = AllZip-beside_at (AnswersNeedOf s kept.stored) (references_of waiting) found k (reference_of x) all here in
+    let same : own ≡ get_or found k otherwise = same_Some own (get_or found k otherwise) (sym there ∙ slice_get-get_or found k otherwise within) in
+    subst (AnswersNeedOf s kept.stored (reference_of x)) same answers
 
 -- ---- all of them
 

@@ -14,7 +14,7 @@ use crate::read::feed_all;
 use p21_express_tables::Schema;
 use p21_stream_io::Watched;
 use p21_stream_kept::Kept;
-use p21_stream_statements::Refusal;
+use p21_stream_statements::{Fault, Refusal};
 use p21_values::Limits;
 use std::alloc::Global;
 use std::io::Read;
@@ -57,17 +57,21 @@ pub fn same_meaning<R: Read, S: Read>(
     headline(schema, limits);
     let keeping = AnySession::keeping(alloc, schema, limits);
     let earlier = match read_whole(keeping, limits, first) {
-        Ok(kept) => kept,
+        Ok((kept, _)) => kept,
         Err(refusal) => return Err((Which::First, refusal)),
     };
     let beside = AnySession::beside(alloc, schema, limits, earlier);
     match read_whole(beside, limits, second) {
-        Ok(kept) => Ok(kept.is_same()),
+        Ok((kept, no_memory)) => match kept.is_same() {
+            Ok(same) => Ok(same),
+            Err(_) => Err((Which::Second, no_memory)),
+        },
         Err(refusal) => Err((Which::Second, refusal)),
     }
 }
 
-/// What a session that is new keeps of what a reader gives, where that is a whole file.
+/// What a session that is new keeps of what a reader gives, where that is a whole file, and the refusal where memory is wanted
+/// behind it.
 ///
 /// # Errors
 ///
@@ -76,11 +80,12 @@ fn read_whole<R: Read>(
     mut session: AnySession<'_>,
     limits: Limits,
     reader: &mut Watched<R>,
-) -> Result<Kept, Refusal>
+) -> Result<(Kept, Refusal), Refusal>
     requires new { Stands session nothing_taken }
     requires limits { limits_of session ≡ limits }
-    ensures ok { IfOk result (λ kept. IsWholeInput (schema_of session.entry) limits (R.remaining reader.old.inner) (R.remaining reader.new.inner) kept) }
-    ensures lines { (lines : KeptLines) → KeepsLines lines session.entry.refused session.entry.kept → IfOk result (λ kept. kept.lines ≡ lines) }
+    ensures ok { IfOk result (λ found. IsWholeInput (schema_of session.entry) limits (R.remaining reader.old.inner) (R.remaining reader.new.inner) found.0) }
+    ensures no_memory { IfOk result (λ found. found.1.fault ≡ Fault.NoMemory) }
+    ensures lines { (lines : KeptLines) → KeepsLines lines session.entry.refused session.entry.kept → IfOk result (λ found. found.0.lines ≡ lines) }
     ensures err { IfErr result (λ refusal. RefusesRead (schema_of session.entry) limits (R.remaining reader.old.inner) (R.remaining reader.new.inner) refusal.fault) }
     ensures consumed { ConsumesAtMost limits (R.remaining reader.old.inner) (R.remaining reader.new.inner) }
 
@@ -92,8 +97,9 @@ fn read_whole<R: Read>(
         Ok(()) => {}
         Err(refusal) => return Err(refusal),
     }
+    let no_memory = session.refusal(Fault::NoMemory);
     match session.whole() {
-        Ok(kept) => Ok(kept),
+        Ok(kept) => Ok((kept, no_memory)),
         Err(refusal) => Err(refusal),
     }
 }

@@ -1,7 +1,11 @@
 //! The references that no instance serves.
 ghost use Rattle.std.specs.Prelude.{◌≡◌, ◌≤◌, ◌+◌, length, OnOk};
+ghost use Rattle.std.specs.List.{AllZip};
+ghost use Rattle.p21_spec_laws.specs.Keeping.{Kept as MeantKept};
+ghost use Rattle.p21_spec_schema.specs.Schema.{Schema as Meant};
 ghost use Rattle.p21_stream_kept.specs.Inside.{reference_of, references_of};
-ghost use Rattle.p21_stream.specs.Unserved.{AddsRefusal, AnswersReference, ListsUnserved};
+ghost use Rattle.p21_stream_kept.specs.Judgements.{AnswersNeedOf};
+ghost use Rattle.p21_stream.specs.Unserved.{AddsRefusal, ListsUnserved};
 
 use p21_express_tables::Schema;
 use p21_stream_kept::{Kept, Reference};
@@ -20,64 +24,51 @@ pub(crate) fn list_unserved(
     ensures lists { OnOk result (ListsUnserved schema.now kept.now names.now most refusals.old.items refusals.new.items) }
     ensures counted { length refusals.old.items ≤ most → OnOk result (length refusals.new.items ≤ most) }
 {
-    list_each(kept, names, schema, most, kept.waiting(), refusals)
+    let found = kept.waiting_refusals(schema)?;
+    list_each(names, most, kept.waiting(), &found, refusals)
 }
 
-/// Lists those of these references, which are all that wait: so the loop is over a parameter.
+/// Lists those of these references, by why no instance serves each: so the loop is over parameters.
 fn list_each(
-    kept: &Kept,
     names: &BTreeSet<u64>,
-    schema: &Schema,
     most: u64,
     waiting: &[Reference],
+    found: &[Option<Fault>],
     refusals: &mut Vec<Refusal>,
 ) -> Result<(), NoMemory>
-    requires { references_of waiting.now ≡ kept.now.waiting }
-    ensures lists { OnOk result (ListsUnserved schema.now kept.now names.now most refusals.old.items refusals.new.items) }
+    requires { length found.now ≡ length waiting.now }
+    ensures lists { (s : Meant) (kept : MeantKept) → references_of waiting.now ≡ kept.waiting → AllZip (AnswersNeedOf s kept.stored) (references_of waiting.now) found.now → OnOk result (ListsUnserved s kept names.now most refusals.old.items refusals.new.items) }
     ensures counted { length refusals.old.items ≤ most → OnOk result (length refusals.new.items ≤ most) }
 {
-    for reference in waiting {
+    for index in 0..waiting.len() {
         if refusals.len() as u64 >= most {
             return Ok(());
         }
-        list_one(kept, names, schema, reference, refusals)?;
+        list_one(names, &waiting[index], found[index], refusals)?;
     }
     Ok(())
 }
 
-/// Lists a reference that no instance serves.
+/// Lists a reference that no instance serves for the reason found, if there is one, unless its target has one of these names.
 fn list_one(
-    kept: &Kept,
     names: &BTreeSet<u64>,
-    schema: &Schema,
     reference: &Reference,
+    found: Option<Fault>,
     refusals: &mut Vec<Refusal>,
 ) -> Result<(), NoMemory>
-    ensures adds { OnOk result (AddsRefusal schema.now kept.now names.now (reference_of reference.now) refusals.old.items refusals.new.items) }
+    ensures adds { (s : Meant) (kept : MeantKept) → AnswersNeedOf s kept.stored (reference_of reference.now) found → OnOk result (AddsRefusal s kept names.now (reference_of reference.now) refusals.old.items refusals.new.items) }
     ensures counted { OnOk result (length refusals.new.items ≤ length refusals.old.items + 1) }
 {
-    let Some(fault) = refusal_of(kept, names, schema, reference) else {
+    let Some(fault) = found else {
         return Ok(());
     };
+    if names.contains(&reference.need.target.0) {
+        return Ok(());
+    }
     let refusal = Refusal {
         fault,
         at: At::Instance(reference.holder),
     };
     refusals.push(refusal)?;
     Ok(())
-}
-
-/// Why no instance serves a reference; nothing where its target has one of these names.
-fn refusal_of(
-    kept: &Kept,
-    names: &BTreeSet<u64>,
-    schema: &Schema,
-    reference: &Reference,
-) -> Option<Fault>
-    ensures { AnswersReference schema.now kept.now names.now (reference_of reference.now) result }
-{
-    if names.contains(&reference.need.target.0) {
-        return None;
-    }
-    kept.refusal_of(schema, &reference.need)
 }

@@ -1,17 +1,22 @@
 -- What is found in a file that was read before.
 use Rattle.std.proofs.Common.{◌≡◌, ◌+◌, ◌<◌, ◌≤◌, arith, inl, inr, length, ℕ, zero, suc, Bool, true, List, [], ◌∷◌, map, slice_get, Option, Some, None, refl, sym, ap, subst, ◌∙◌}
 use Rattle.std.proofs.lemmas.Bool.Decides.{eqb_tells, leb_tells}
-use Rattle.std.specs.List.{IsDistinct}
+use Rattle.std.proofs.lemmas.Option.{same_Some}
+use Rattle.std.proofs.lemmas.List.{length-map}
+use Rattle.std.specs.List.{IsDistinct, AllByRecursion as Each}
 use Rattle.std.specs.Prelude.{◌↔◌, Contains, IsTrue, nat_eq}
-use Rattle.p21_spec_basics.proofs.Members.{Contains-mapped, Contains-unmapped}
+use Rattle.p21_spec_basics.proofs.Members.{Contains-found, Contains-mapped, Contains-unmapped}
 use Rattle.p21_spec_basics.proofs.Shuffles.{distinct-none_twice, one-keyed}
-use Rattle.p21_spec_laws.specs.Beside.{IsInSameSection}
+use Rattle.p21_spec_laws.specs.Beside.{IsInSameSection, IsSameBeside}
 use Rattle.p21_spec_laws.specs.CompleteFile.{Line}
 use Rattle.p21_spec_laws.specs.Stored.{Earlier, StoredEntry, lines_of}
 use Rattle.p21_spec_exchange.specs.DataSection.{Heading}
 use Rattle.p21_stream_kept.proofs.ByMembership.{stored-found}
 use Rattle.p21_stream_kept.proofs.Instances.{stored-names}
+use Rattle.p21_stream_kept.proofs.Zipping.{AllZip-beside_at}
+use Rattle.p21_stream_kept.specs.Earlier.{HasCounts}
 use Rattle.p21_stream_kept.specs.Inside.{stored_of, stored_with}
+use Rattle.p21_stream_kept.specs.Sections.{HaveNumbers}
 use Rattle.p21_stream_store.specs.Memberships.{Membership}
 use Rattle.p21_stream_store.specs.StoredInstance.{StoredInstance, instance_names}
 
@@ -83,7 +88,7 @@ no-section earlier headings memberships names y none x at name =
 
 -- ---- an instance of it, by what is found
 
-at-below : {X : Type 0} (xs : List X) (k : ℕ) → k < length xs → (x : X) × (slice_get xs k ≡ Some x)
+pub at-below : {X : Type 0} (xs : List X) (k : ℕ) → k < length xs → (x : X) × (slice_get xs k ≡ Some x)
 at-below [] k below = absurd (omega (arith, below))
 at-below (x ∷ xs) zero below = (x, refl)
 at-below (x ∷ xs) (suc k) below = at-below xs k (omega (arith, below))
@@ -124,6 +129,21 @@ module _ (header : List ℕ) (own : List Heading) (memberships : List Membership
       let told = tells h g at_h at_g in
       subst (λ (z : StoredEntry). IsTrue result ↔ Stands z) (one-entry x y at_x at_y same) (λ yes. to (told.0 yes), λ is. told.1 (from is))
 
+-- a section and one whose number stands for another begin alike, if that one does
+pub number-tells : (own headings : List Heading) (numbers : List ℕ) → HaveNumbers own headings numbers → (its number : ℕ) → slice_get numbers its ≡ Some number → (result : Bool) (k : ℕ)
+    → ((a b : Heading) → slice_get own number ≡ Some a → slice_get own k ≡ Some b → IsTrue result ↔ (a ≡ b)) → (h g : Heading) → slice_get headings its ≡ Some h → slice_get own k ≡ Some g → IsTrue result ↔ (h ≡ g)
+number-tells own headings numbers have its number at result k tells h g at_h at_g =
+    let (n, at_n, own_n) = AllZip-beside_at (λ (x : Heading) (m : ℕ). slice_get own m ≡ Some x) headings numbers its h have at_h in
+    let same : n ≡ number = same_Some n number (sym at_n ∙ at) in
+    tells h g (subst (λ (m : ℕ). slice_get own m ≡ Some h) same own_n) at_g
+
+-- each of these sections has its number
+pub has-number : (own headings : List Heading) (numbers : List ℕ) → HaveNumbers own headings numbers → (its : ℕ) → its < length headings → (number : ℕ) × (slice_get numbers its ≡ Some number)
+has-number own headings numbers have its below =
+    let (h, at) = at-below headings its below in
+    let (n, at_n, own_n) = AllZip-beside_at (λ (x : Heading) (m : ℕ). slice_get own m ≡ Some x) headings numbers its h have at in
+    (n, at_n)
+
 -- ---- all of them, by rising names
 
 pub told-next : (Stands : StoredEntry → Type 0) (names : List ℕ) (stored : List StoredEntry) → ((y : StoredEntry) → Contains stored y → Contains names y.name) → (least name : ℕ) → ((y : StoredEntry) → Contains stored y → y.name < least → Stands y)
@@ -135,3 +155,24 @@ told-next Stands names stored among least name before between here y at below = 
     | inr other ↦ absurd (between y.name from.1 (omega (arith, below, other.1)) (among y at))
   ]
 ]
+
+-- ---- a whole file beside it
+
+numbers-each : (own headings : List Heading) (numbers : List ℕ) → HaveNumbers own headings numbers → Each (Contains own) headings
+numbers-each own [] numbers have = tt
+numbers-each own (h ∷ headings) [] have = absurd have
+numbers-each own (h ∷ headings) (n ∷ numbers) have = (Contains-found own n h have.0, numbers-each own headings numbers have.1)
+
+pub same-beside : (earlier : Earlier) (equal : Bool) (header : List ℕ) (headings : List Heading) (memberships : List Membership) (names : List StoredInstance) (numbers : List ℕ) → HasCounts earlier equal header headings names → HaveNumbers earlier.headings headings numbers
+    → (result : Bool) → IsTrue result ↔ ((y : StoredEntry) → Contains earlier.stored y → IsInSameSection earlier headings (stored_of memberships names) y) → IsTrue result ↔ IsSameBeside earlier equal header headings (stored_of memberships names)
+same-beside earlier equal header headings memberships names numbers counts have result tells = (
+  λ holds. record {
+    lines_are = counts.lines_are;
+    as_many_lines = length-map names (λ (x : StoredInstance). stored_with (slice_get memberships x.membership) x) ∙ counts.as_many_lines;
+    header_is = counts.header_is;
+    headings_are = numbers-each earlier.headings headings numbers have;
+    as_many_headings = counts.as_many_headings;
+    sections_are = tells.0 holds;
+  },
+  λ same. tells.1 same.sections_are,
+)

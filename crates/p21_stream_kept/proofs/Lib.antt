@@ -11,3 +11,4 @@ pub mod Finding
 pub mod Following
 pub mod Dropping
 pub mod EarlierLemmas
+pub mod Zipping

@@ -1,16 +1,16 @@
 -- The sections by their names.
-use Rattle.std.proofs.Common.{◌≡◌, ◌⊎◌, ℕ, zero, suc, Bool, true, false, cond, List, [], ◌∷◌, ◌++◌, length, drop, get_or, ◌+◌, ◌<◌, add-one, slice_get, Option, Some, None, inl, inr, refl, sym, ap, subst, ◌∙◌}
+use Rattle.std.proofs.Common.{◌≡◌, ◌⊎◌, ℕ, zero, suc, Bool, true, false, cond, List, [], ◌∷◌, ◌++◌, length, drop, take, get_or, ◌+◌, ◌<◌, add-one, slice_get, Option, Some, None, inl, inr, refl, sym, ap, subst, ◌∙◌}
 use Rattle.std.proofs.Math.Seq.{drop-cons}
-use Rattle.std.proofs.lemmas.List.{length-map, map-append}
+use Rattle.std.proofs.lemmas.List.{length-map, map-append, take_more}
 use Rattle.std.proofs.lemmas.Map.Text.{is_eq-slice_cmp}
-use Rattle.std.proofs.lemmas.Option.{none-some, same_Some}
+use Rattle.std.proofs.lemmas.Option.{none-some, same_Some, slice_get-map, slice_get_read}
 use Rattle.std.proofs.lemmas.Slice.Eq.{bytes_eq-Decides}
 use Rattle.std.specs.BTreeMap.{BTreeMap, IsEmpty, Updates, is_at}
 use Rattle.std.specs.Cmp.Lexicographic.{slice_cmp}
 use Rattle.std.specs.List.{Contains}
 use Rattle.std.specs.Prelude.{IfSome}
 use Rattle.std.specs.Map.{lookup}
-use Rattle.std.specs.Option.{is_some}
+use Rattle.std.specs.Option.{is_some, option_map}
 use Rattle.std.specs.Ordering.{is_eq, nat_cmp}
 use Rattle.std.specs.Prelude as std
 use Rattle.std.specs.declared.alloc.Global.{Global}
@@ -119,6 +119,11 @@ named-parts name schema own text same = (cc, cc)
 pub not-unnamed : (name schema : List ℕ) → named name schema ≡ unnamed → ⊥
 not-unnamed name schema same = cc
 
+-- of two sections that begin alike and have a name there is one
+pub alike-numbers : (numbers : BTreeMap Text ℕ) (headings : List Heading) → AreNamedBy numbers headings → (k j : ℕ) (h : Heading) → slice_get headings k ≡ Some h → slice_get headings j ≡ Some h → (h ≡ unnamed) ⊎ (k ≡ j)
+alike-numbers numbers headings are k j unnamed at there = inl refl
+alike-numbers numbers headings are k j (named name schema) at there = inr (same_Some k j (sym (are.kept name schema k at) ∙ are.kept name schema j there))
+
 -- ---- sections that come
 
 -- there is no section
@@ -193,6 +198,14 @@ section-named numbers added all new x key number is own absent last updates are 
     (named-more numbers added (headings_of all) (heading_in x.part) key own (absent key.items there) (subst (λ (n : ℕ). Updates by_text numbers added key (Some n)) size updates) are)
 
 -- ---- sections one by one
+
+-- the heading of the section at a place
+pub heading-at : (sections : List Section) (k : ℕ) (x : Section) → x ≡ get_or sections k x → k < length sections → slice_get (headings_of sections) k ≡ Some (heading_in x.part)
+heading-at sections k x is low = slice_get-map (λ (y : Section). heading_in y.part) sections k ∙ ap (option_map (λ (y : Section). heading_in y.part)) (slice_get_read sections (length sections) k x refl low is)
+
+-- with one section more
+pub headings-more : (sections : List Section) (k : ℕ) (x : Section) → x ≡ get_or sections k x → k < length sections → headings_of (take (k + 1) sections) ≡ headings_of (take k sections) ++ heading_in x.part ∷ []
+headings-more sections k x is low = ap headings_of (take_more sections k x low ∙ ap (λ (y : Section). take k sections ++ y ∷ []) (sym is)) ∙ map-append (λ (y : Section). heading_in y.part) (take k sections) (x ∷ [])
 
 pub headings-from : (sections : List Section) (k : ℕ) (x : Section) → x ≡ get_or sections k x → k < length sections → headings_of (drop k sections) ≡ heading_in x.part ∷ headings_of (drop (k + 1) sections)
 headings-from sections k x is low =

@@ -120,6 +120,9 @@ unserved-not_accepted s formed limits bytes given kept keeps structure same laid
 needs-more : (xs : List need.Need) (i : ℕ) (x : need.Need) → x ≡ get_or xs i x → i < length xs → needs_view (take (i + 1) xs) ≡ needs_view (take i xs) ++ need_view x ∷ []
 needs-more xs i x is low = ap needs_view (take_more xs i x low ∙ ap (λ (y : need.Need). take i xs ++ y ∷ []) (sym is)) ∙ map-append need_view (take i xs) (x ∷ [])
 
+pub references-more : (xs : List held.Reference) (i : ℕ) (x : held.Reference) → x ≡ get_or xs i x → i < length xs → references_of (take (i + 1) xs) ≡ references_of (take i xs) ++ reference_of x ∷ []
+references-more xs i x is low = ap references_of (take_more xs i x low ∙ ap (λ (y : held.Reference). take i xs ++ y ∷ []) (sym is)) ∙ map-append reference_of (take i xs) (x ∷ [])
+
 -- with a reference for one need more
 pub waiting-more : (holder : ℕ) (needs : List need.Need) (i : ℕ) (x : need.Need) → x ≡ get_or needs i x → i < length needs → (old : List Reference) (before after : List held.Reference) → after ≡ before ++ record { holder = holder; need = x } ∷ []
     → references_of before ≡ with_needs holder (needs_view (take i needs)) old → references_of after ≡ with_needs holder (needs_view (take (i + 1) needs)) old

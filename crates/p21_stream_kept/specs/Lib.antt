@@ -6,5 +6,7 @@ pub mod Earlier
 pub mod KeptInstances
 pub mod Inside
 pub mod Served
+pub mod Judgements
+pub mod Servers
 pub mod Steps
 pub mod Taking

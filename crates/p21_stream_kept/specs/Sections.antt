@@ -3,6 +3,7 @@ use Rattle.std.specs.Prelude.{◌≡◌, ℕ, List, [], ◌∷◌, map, Option, 
 use Rattle.std.specs.Prelude as std
 use Rattle.std.specs.BTreeMap.{BTreeMap, get_by}
 use Rattle.std.specs.Cmp.Lexicographic.{slice_cmp}
+use Rattle.std.specs.List.{AllZip}
 use Rattle.std.specs.Ordering.{nat_cmp}
 use Rattle.std.specs.declared.alloc.Global.{Global}
 use Rattle.p21_spec_exchange.specs.DataSection.{Heading, heading_of, named, unnamed}
@@ -22,6 +23,10 @@ headings_of sections = map (λ (x : Section). heading_in x.part) sections
 abbrev pub names_in : Option (std.Vec ℕ Global) → List (List ℕ)
 names_in None = []
 names_in (Some name) = name.items ∷ []
+
+-- for each of the others the number of one that is the same
+abbrev pub HaveNumbers : List Heading → List Heading → List ℕ → Type 0
+HaveNumbers headings others numbers = AllZip (λ (its : Heading) (number : ℕ). slice_get headings number ≡ Some its) others numbers
 
 -- the number by a name
 abbrev pub number_of : BTreeMap (std.Vec ℕ Global) ℕ → List ℕ → Option ℕ

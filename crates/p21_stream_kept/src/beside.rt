@@ -1,8 +1,9 @@
 //! The instances of a file that is read beside an earlier one.
-ghost use Rattle.std.specs.Prelude.{◌≡◌, ◌↔◌, ℕ, List, [], ◌∷◌, Contains, IsPermutation, IsTrue, OnErr, OnOk, length, nat_eq, true};
+ghost use Rattle.std.specs.Prelude.{◌≡◌, ◌↔◌, ℕ, List, [], ◌∷◌, Contains, IfOk, IsPermutation, IsTrue, OnErr, OnOk, length, nat_eq, true};
 ghost use Rattle.std.specs.List.{IsDistinct};
 ghost use Rattle.p21_spec_laws.specs.Beside.{IsSameBeside};
 ghost use Rattle.p21_spec_laws.specs.Stored.{lines_of};
+ghost use Rattle.p21_stream_kept.specs.Earlier.{HasCounts};
 ghost use Rattle.p21_stream_kept.specs.Inside.{AreOfSections, HaveMemberships, stored_of};
 ghost use Rattle.p21_stream_store.specs.StoredInstance.{instance_names};
 
@@ -55,25 +56,43 @@ impl Beside {
         Ok(())
     }
 
-    /// Whether the file with these header lines, sections and memberships is the same as the earlier one. It takes no memory.
+    /// Whether the file with these header lines, sections and memberships is the same as the earlier one.
+    ///
+    /// # Errors
+    ///
+    /// `NoMemory`, which wants the numbers of the sections.
     pub(crate) fn is_same(
         &self,
+        alloc: Global,
         header: &[u8],
         sections: &Sections,
         memberships: &Memberships,
-    ) -> bool
+    ) -> Result<bool, NoMemory>
         requires once { IsDistinct nat_eq (instance_names self.now.names) }
         requires memberships { HaveMemberships memberships.now self.now.names }
         requires sections { AreOfSections (length sections.now) memberships.now }
-        ensures { IsTrue result ↔ IsSameBeside self.now.earlier self.now.equal header.now sections.now (stored_of memberships.now self.now.names) }
+        ensures { IfOk result (λ same. IsTrue same ↔ IsSameBeside self.now.earlier self.now.equal header.now sections.now (stored_of memberships.now self.now.names)) }
+    {
+        if !self.has_counts(header, sections) {
+            return Ok(false);
+        }
+        let found = self.earlier.numbers_of(alloc, sections)?;
+        match found {
+            Some(numbers) => Ok(
+                self.earlier
+                    .has_sections(&numbers, memberships, &self.names),
+            ),
+            None => Ok(false),
+        }
+    }
+
+    /// Whether each line was one of the earlier file, the header lines are its own, and there are as many instances and sections.
+    fn has_counts(&self, header: &[u8], sections: &Sections) -> bool
+        ensures { IsTrue result ↔ HasCounts self.now.earlier self.now.equal header.now sections.now self.now.names }
     {
         self.equal
             && self.names.len() == self.earlier.count()
             && self.earlier.has_header(header)
             && sections.items().len() == self.earlier.section_count()
-            && self.earlier.has_headings(sections)
-            && self
-                .earlier
-                .has_sections(sections, memberships, &self.names)
     }
 }

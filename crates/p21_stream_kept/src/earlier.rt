@@ -1,13 +1,17 @@
 //! A file that was read before, beside which another one is read.
-ghost use Rattle.std.specs.Prelude.{◌≡◌, ◌↔◌, ◌<◌, ℕ, List, Contains, IsTrue, length, nat_eq};
+ghost use Rattle.std.specs.Prelude.{◌≡◌, ◌↔◌, ◌<◌, ℕ, List, Contains, IfOk, IfSome, IsNone, IsTrue, length, nat_eq};
 ghost use Rattle.std.specs.List.{IsDistinct, AllByRecursion as Each};
 ghost use Rattle.p21_spec_laws.specs.Beside.{IsInSameSection};
 ghost use Rattle.p21_spec_laws.specs.Stored.{StoredEntry, lines_of};
+ghost use Rattle.p21_spec_exchange.specs.DataSection.{Heading};
 ghost use Rattle.p21_stream_kept.specs.Inside.{AreOfSections, HaveMemberships, stored_of};
+ghost use Rattle.p21_stream_kept.specs.Sections.{HaveNumbers};
 ghost use Rattle.p21_stream_store.specs.StoredInstance.{instance_names};
 
 use crate::sections::Sections;
 use p21_stream_store::{Instances, Memberships, NamedMemberships};
+use p21_values::NoMemory;
+use std::alloc::Global;
 use std::marker::Model;
 
 /// What an earlier file left: the canonical lines of its header records, its data sections, and its instances with their lines.
@@ -82,30 +86,33 @@ impl Earlier {
         }
     }
 
-    /// Whether each of these sections begins as one of its own.
-    pub(crate) fn has_headings(&self, sections: &Sections) -> bool
-        ensures { IsTrue result ↔ Each (Contains self.now.headings) sections.now }
+    /// For each of these sections the number of one of its own that begins so; nothing where one begins as none of them.
+    ///
+    /// # Errors
+    ///
+    /// `NoMemory`.
+    pub(crate) fn numbers_of(
+        &self,
+        alloc: Global,
+        sections: &Sections,
+    ) -> Result<Option<Vec<usize>>, NoMemory>
+        ensures some { IfOk result (λ found. IfSome found (λ numbers. HaveNumbers self.now.headings sections.now numbers.items)) }
+        ensures none { IfOk result (λ found. IsNone found → Each (Contains self.now.headings) sections.now → ⊥) }
     {
-        for section in sections.items() {
-            if !self.sections.has_heading(section) {
-                return false;
-            }
-        }
-        true
+        self.sections.numbers_of(alloc, sections)
     }
 
     /// Whether each of its instances stands in a section that begins as the one does in which the later instance of its name
-    /// stands, if there is one.
+    /// stands, if there is one, by the numbers of its own sections that begin as the later ones.
     pub(crate) fn has_sections(
         &self,
-        sections: &Sections,
+        numbers: &[usize],
         memberships: &Memberships,
         names: &NamedMemberships,
     ) -> bool
         requires once { IsDistinct nat_eq (instance_names names.now) }
         requires memberships { HaveMemberships memberships.now names.now }
-        requires sections { AreOfSections (length sections.now) memberships.now }
-        ensures { IsTrue result ↔ ((y : StoredEntry) → Contains self.now.stored y → IsInSameSection self.now sections.now (stored_of memberships.now names.now) y) }
+        ensures { (headings : List Heading) → HaveNumbers self.now.headings headings numbers.now → AreOfSections (length headings) memberships.now → IsTrue result ↔ ((y : StoredEntry) → Contains self.now.stored y → IsInSameSection self.now headings (stored_of memberships.now names.now) y) }
     {
         let mut least = 0;
         loop {
@@ -113,7 +120,7 @@ impl Earlier {
                 return true;
             };
             let (own, _) = self.memberships.get(membership);
-            if !self.has_section(name, own, sections, memberships, names) {
+            if !self.has_section(name, own, numbers, memberships, names) {
                 return false;
             }
             let Some(next) = name.checked_add(1) else {
@@ -128,7 +135,7 @@ impl Earlier {
         &self,
         name: u64,
         own: usize,
-        sections: &Sections,
+        numbers: &[usize],
         memberships: &Memberships,
         names: &NamedMemberships,
     ) -> bool
@@ -136,13 +143,15 @@ impl Earlier {
         requires stored { (entities : List ℕ) × (text : List ℕ) × Contains self.now.stored (record { name = name; section = own; entities = entities; text = text }) }
         requires once { IsDistinct nat_eq (instance_names names.now) }
         requires memberships { HaveMemberships memberships.now names.now }
-        requires sections { AreOfSections (length sections.now) memberships.now }
-        ensures { (y : StoredEntry) → Contains self.now.stored y → y.name ≡ name → IsTrue result ↔ IsInSameSection self.now sections.now (stored_of memberships.now names.now) y }
+        ensures { (headings : List Heading) → HaveNumbers self.now.headings headings numbers.now → AreOfSections (length headings) memberships.now → (y : StoredEntry) → Contains self.now.stored y → y.name ≡ name → IsTrue result ↔ IsInSameSection self.now headings (stored_of memberships.now names.now) y }
     {
         let Some(later) = names.membership_of(name) else {
             return true;
         };
         let (its, _) = memberships.get(later);
-        sections.same_at(its, &self.sections, own)
+        match numbers.get(its) {
+            Some(number) => self.sections.begin_alike(*number, own),
+            None => false,
+        }
     }
 }

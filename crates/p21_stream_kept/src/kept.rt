@@ -1,5 +1,5 @@
 ghost use Rattle.std.specs.Prelude.{◌≡◌, ◌≢◌, ◌≤◌, ◌↔◌, ◌+◌, [], Contains, IfErr, IsTrue, OnErr, OnOk, length, map, nat_eq, true, vec_capacity};
-ghost use Rattle.std.specs.List.{IsDistinct};
+ghost use Rattle.std.specs.List.{AllZip, IsDistinct};
 ghost use Rattle.p21_spec_basics.specs.Limits.{Limits as MeantLimits};
 ghost use Rattle.p21_spec_laws.specs.Beside.{IsSameAs, earlier_of};
 ghost use Rattle.p21_spec_laws.specs.Keeping.{Keeps, nothing_counted, nothing_kept, nothing_with};
@@ -8,13 +8,14 @@ ghost use Rattle.p21_spec_exchange.specs.Statement.{Statement, data_start, heade
 ghost use Rattle.p21_grammar.specs.Statements.{line_of};
 ghost use Rattle.p21_grammar_tree.specs.View.{items_of, part_view, record_view, views};
 ghost use Rattle.p21_mapping.specs.Checked.{needs_view};
-ghost use Rattle.p21_mapping_values.specs.TypedView.{ids_view, need_view};
+ghost use Rattle.p21_mapping_values.specs.TypedView.{ids_view};
 ghost use Rattle.p21_spec_schema.specs.Schema.{Schema as MeantSchema};
 ghost use Rattle.p21_stream_output.specs.Ending.{IsFileOfKept};
 ghost use Rattle.p21_stream_statements.specs.Source.{IsOfBytes};
 ghost use Rattle.p21_stream_kept.specs.Inside.{references_of};
 ghost use Rattle.p21_stream_kept.specs.KeptInstances.{are_equal, instances_of, lines_kept};
-ghost use Rattle.p21_stream_kept.specs.Served.{AnswersNeed, AnswersUnserved};
+ghost use Rattle.p21_stream_kept.specs.Judgements.{AnswersNeedOf};
+ghost use Rattle.p21_stream_kept.specs.Served.{AnswersUnserved};
 ghost use Rattle.p21_stream_kept.specs.Steps.{FoundGives, StepGives, StepKeepsBound, TakesLine};
 ghost use Rattle.p21_stream_kept.specs.Taking.{Follows, FollowsFound, IsKeptOfFile};
 
@@ -23,10 +24,11 @@ use crate::canonical_limits::fits_limits;
 use crate::earlier::Earlier;
 use crate::end::named_sections_of;
 use crate::found::{FoundInstance, find_instance};
+use crate::judgements::refusals_of;
 use crate::kept_instances::KeptInstances;
 use crate::schema_name::names_schema;
 use crate::sections::Sections;
-use crate::served::{first_unserved, learn_waiting, refusal_of};
+use crate::served::{first_unserved, learn_waiting};
 use crate::servers::Servers;
 use crate::shape::{heading, line_size, schema_text};
 use crate::stored::Stored;
@@ -406,9 +408,10 @@ impl Kept {
     ///
     /// # Errors
     ///
-    /// `NoMemory`, which changes nothing.
+    /// `NoMemory`, which changes nothing; not where no reference waits.
     pub fn prepare_unserved(&mut self, schema: &Schema) -> Result<(), NoMemory>
-        ensures { self.new ≡ self.old }
+        ensures unchanged { self.new ≡ self.old }
+        ensures none { self.old.waiting ≡ [] → OnErr result ⊥ }
     {
         learn_waiting(
             schema,
@@ -433,24 +436,37 @@ impl Kept {
         self.waiting.items()
     }
 
-    /// Why no instance that is kept serves a need: `Dangling` where none has its name, `WrongTarget` where the one that has it
-    /// isn't of the type. It takes no memory.
-    pub fn refusal_of(&self, schema: &Schema, need: &Need) -> Option<Fault>
-        ensures { AnswersNeed schema.now self.now.stored (need_view need.now) result }
+    /// Why no instance serves each of the references that wait, in the order of the file: `Dangling` where none has its name,
+    /// `WrongTarget` where the one that has it isn't of the type; none where one serves.
+    ///
+    /// # Errors
+    ///
+    /// `NoMemory`.
+    pub fn waiting_refusals(&self, schema: &Schema) -> Result<Vec<Option<Fault>>, NoMemory>
+        ensures { IfOk result (λ refusals. AllZip (AnswersNeedOf schema.now self.now.stored) self.now.waiting refusals.items) }
     {
-        refusal_of(schema, &self.stored, need)
+        refusals_of(self.alloc, schema, &self.stored, self.waiting.items())
     }
 
-    /// Whether the file is the same as the one that was read before it, where there is such a one. It takes no memory.
-    pub fn is_same(&self) -> bool
+    /// Whether the file is the same as the one that was read before it, where there is such a one.
+    ///
+    /// # Errors
+    ///
+    /// `NoMemory`.
+    pub fn is_same(&self) -> Result<bool, NoMemory>
         requires { IsDistinct nat_eq (map (λ (x : StoredEntry). x.name) self.now.stored) }
-        ensures { (earlier : MeantEarlier) → self.now.lines ≡ beside earlier → IsTrue result ↔ IsSameAs earlier self.now }
+        ensures { (earlier : MeantEarlier) → self.now.lines ≡ beside earlier → IfOk result (λ same. IsTrue same ↔ IsSameAs earlier self.now) }
     {
         match &self.stored.instances {
             KeptInstances::Beside(later) => {
-                later.is_same(&self.header, &self.sections, &self.stored.memberships)
+                later.is_same(
+                    self.alloc,
+                    &self.header,
+                    &self.sections,
+                    &self.stored.memberships,
+                )
             }
-            _ => false,
+            _ => Ok(false),
         }
     }
 

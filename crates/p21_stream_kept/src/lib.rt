@@ -6,6 +6,7 @@ mod canonical_limits;
 mod earlier;
 mod end;
 mod found;
+mod judgements;
 mod kept;
 mod kept_instances;
 mod schema_name;

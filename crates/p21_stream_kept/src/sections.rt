@@ -1,10 +1,11 @@
 //! The data sections of a file, with their names.
 ghost use Rattle.std.specs.Prelude.{◌≡◌, ◌<◌, ◌≤◌, ◌+◌, ◌++◌, ◌∷◌, ◌↔◌, [], length, Contains, IfOk, IfSome, IsNone, IsTrue, List, OnOk, Some, slice_get, ℕ};
+ghost use Rattle.std.specs.List.{AllByRecursion as Each};
 ghost use Rattle.p21_spec_laws.specs.Keeping.{headings_behind};
 ghost use Rattle.p21_spec_exchange.specs.DataSection.{Heading, heading_names, named, section_names, heading_of, unnamed};
 ghost use Rattle.p21_grammar.specs.Statements.{line_of};
 ghost use Rattle.p21_grammar_tree.specs.View.{items_of, views};
-ghost use Rattle.p21_stream_kept.specs.Sections.{heading_in, headings_of, names_in};
+ghost use Rattle.p21_stream_kept.specs.Sections.{HaveNumbers, heading_in, headings_of, names_in};
 
 use crate::shape::heading;
 use p21_grammar::Line;
@@ -73,34 +74,72 @@ impl Sections {
         self.numbers.get(name.chars()).copied()
     }
 
-    /// Whether a section begins as this one.
-    pub fn has_heading(&self, section: &Section) -> bool
-        ensures { IsTrue result ↔ Contains self.now (heading_in section.now.part) }
+    /// The number of a section that begins as this one, if there is one.
+    fn number_of(&self, section: &Section) -> Option<usize>
+        ensures some { IfSome result (λ number. slice_get self.now number ≡ Some (heading_in section.now.part)) }
+        ensures none { IsNone result → Contains self.now (heading_in section.now.part) → ⊥ }
     {
         match heading_parts(section) {
-            Some((name, schema)) => self.has_named(name, schema),
-            None => has_unnamed(&self.all),
+            Some((name, schema)) => self.named_number(name, schema),
+            None => unnamed_number(&self.all),
         }
     }
 
-    /// Whether a section has this name and this schema text.
-    fn has_named(&self, name: &Text, schema: &Text) -> bool
-        ensures { IsTrue result ↔ Contains self.now (named name.now schema.now) }
+    /// The number of the section with this name and this schema text, if there is one.
+    fn named_number(&self, name: &Text, schema: &Text) -> Option<usize>
+        ensures some { IfSome result (λ number. slice_get self.now number ≡ Some (named name.now schema.now)) }
+        ensures none { IsNone result → Contains self.now (named name.now schema.now) → ⊥ }
     {
-        match self.find(name) {
-            Some(number) => begins_with(&self.all[number], name, schema),
+        let Some(number) = self.find(name) else {
+            return None;
+        };
+        if begins_with(&self.all[number], name, schema) {
+            Some(number)
+        } else {
+            None
+        }
+    }
+
+    /// For each of other sections the number of one that begins as it; nothing where one begins as none.
+    ///
+    /// # Errors
+    ///
+    /// `NoMemory`.
+    pub fn numbers_of(
+        &self,
+        alloc: Global,
+        others: &Sections,
+    ) -> Result<Option<Vec<usize>>, NoMemory>
+        ensures some { IfOk result (λ found. IfSome found (λ numbers. HaveNumbers self.now others.now numbers.items)) }
+        ensures none { IfOk result (λ found. IsNone found → Each (Contains self.now) others.now → ⊥) }
+    {
+        let mut numbers = Vec::with_capacity(alloc, others.items().len())?;
+        for section in others.items() {
+            let Some(number) = self.number_of(section) else {
+                return Ok(None);
+            };
+            numbers.push(number)?;
+        }
+        Ok(Some(numbers))
+    }
+
+    /// Whether the sections of two numbers begin alike. No two sections have one name, so no names are compared.
+    pub fn begin_alike(&self, number: usize, other: usize) -> bool
+        ensures { (own its : Heading) → slice_get self.now number ≡ Some own → slice_get self.now other ≡ Some its → IsTrue result ↔ (own ≡ its) }
+    {
+        // Looked at, so that the proof knows that each name leads to one section.
+        let _numbers = &self.numbers;
+        number == other || (self.is_unnamed_at(number) && self.is_unnamed_at(other))
+    }
+
+    /// Whether the section of this number has no name.
+    fn is_unnamed_at(&self, number: usize) -> bool
+        ensures { (own : Heading) → slice_get self.now number ≡ Some own → IsTrue result ↔ (own ≡ unnamed) }
+    {
+        match self.all.get(number) {
+            Some(section) => is_unnamed(section),
             None => false,
         }
-    }
-
-    /// Whether the section of this number begins as that of another number among others.
-    pub fn same_at(&self, number: usize, others: &Sections, other: usize) -> bool
-        ensures { (own its : Heading) → slice_get self.now number ≡ Some own → slice_get others.now other ≡ Some its → IsTrue result ↔ (own ≡ its) }
-    {
-        let (Some(section), Some(its)) = (self.all.get(number), others.all.get(other)) else {
-            return false;
-        };
-        same_heading(section, its)
     }
 
     /// The number of the last section, counted from the first.
@@ -170,16 +209,6 @@ fn begins_with(section: &Section, name: &Text, schema: &Text) -> bool
     }
 }
 
-/// Whether two sections begin alike.
-fn same_heading(section: &Section, other: &Section) -> bool
-    ensures { IsTrue result ↔ (heading_in section.now.part ≡ heading_in other.now.part) }
-{
-    match heading_parts(other) {
-        Some((name, schema)) => begins_with(section, name, schema),
-        None => is_unnamed(section),
-    }
-}
-
 /// Whether a section has no name.
 fn is_unnamed(section: &Section) -> bool
     ensures { IsTrue result ↔ (heading_in section.now.part ≡ unnamed) }
@@ -187,16 +216,17 @@ fn is_unnamed(section: &Section) -> bool
     heading_parts(section).is_none()
 }
 
-/// Whether one of the sections has no name.
-fn has_unnamed(sections: &[Section]) -> bool
-    ensures { IsTrue result ↔ Contains (headings_of sections.now) unnamed }
+/// The number of the first section that has no name, if there is one.
+fn unnamed_number(sections: &[Section]) -> Option<usize>
+    ensures some { IfSome result (λ number. slice_get (headings_of sections.now) number ≡ Some unnamed) }
+    ensures none { IsNone result → Contains (headings_of sections.now) unnamed → ⊥ }
 {
-    for section in sections {
-        if is_unnamed(section) {
-            return true;
+    for number in 0..sections.len() {
+        if is_unnamed(&sections[number]) {
+            return Some(number);
         }
     }
-    false
+    None
 }
 
 /// The characters of the name with which the record begins a section, if it has one.

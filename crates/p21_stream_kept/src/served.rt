@@ -1,9 +1,9 @@
 //! The needs of instances, and the instances that serve them.
-ghost use Rattle.std.specs.Prelude.{◌≡◌, ◌+◌, ◌/◌, ◌<◌, ◌≤◌, [], IsTrue, drop, false, length, min, take, true, vec_capacity, vec_len};
-ghost use Rattle.p21_spec_laws.specs.Keeping.{IsServedBy, IsServedByNone};
+ghost use Rattle.std.specs.Prelude.{◌≡◌, ◌+◌, ◌/◌, ◌<◌, ◌≤◌, [], IsTrue, OnErr, drop, false, length, min, take, true, vec_capacity, vec_len};
+ghost use Rattle.p21_spec_laws.specs.Keeping.{IsServedBy};
 ghost use Rattle.p21_mapping_values.specs.TypedView.{need_view};
 ghost use Rattle.p21_stream_kept.specs.Inside.{AreStored, references_of, stored_in};
-ghost use Rattle.p21_stream_kept.specs.Served.{AnswersNeed, AnswersUnserved, DropsBehind};
+ghost use Rattle.p21_stream_kept.specs.Served.{AnswersNeed, AnswersUnserved, DropsBehind, StaysUnserved};
 
 use crate::kept::Reference;
 use crate::servers::Servers;
@@ -15,7 +15,7 @@ use p21_stream_statements::Fault;
 use p21_values::{Name, NoMemory};
 
 /// Why no instance serves a need: none has its name, or the one that has it isn't of the type. It takes no memory.
-pub(crate) fn refusal_of(schema: &Schema, stored: &Stored, need: &Need) -> Option<Fault>
+fn refusal_of(schema: &Schema, stored: &Stored, need: &Need) -> Option<Fault>
     requires { AreStored stored.now }
     ensures { AnswersNeed schema.now (stored_in stored.now) (need_view need.now) result }
 {
@@ -56,6 +56,10 @@ fn is_served(schema: &Schema, stored: &Stored, servers: &Servers, need: &Need) -
 }
 
 /// Has it remembered which entity of a large set serves a need.
+///
+/// # Errors
+///
+/// `NoMemory`.
 #[inline(never)]
 fn learn(
     schema: &Schema,
@@ -73,6 +77,10 @@ fn learn(
 }
 
 /// The same for the references that wait.
+///
+/// # Errors
+///
+/// `NoMemory`; not where no set is large, or no reference waits.
 pub(crate) fn learn_waiting(
     schema: &Schema,
     stored: &Stored,
@@ -80,6 +88,8 @@ pub(crate) fn learn_waiting(
     waiting: &[Reference],
 ) -> Result<(), NoMemory>
     requires { AreStored stored.now }
+    ensures small { servers.old.has_large_sets ≡ false → OnErr result ⊥ }
+    ensures none { waiting.now ≡ [] → OnErr result ⊥ }
 {
     if !servers.has_large_sets() {
         return Ok(());
@@ -134,13 +144,13 @@ fn give_back(waiting: &mut Vec<Reference>)
     }
 }
 
-/// Whether an instance that is stored serves a need: mostly by the entity that is guessed, and else by what is found, which is
-/// guessed from then on. It takes no memory.
+/// Whether an instance that is stored is known to serve a need: mostly by the entity that is guessed, and else by what is found,
+/// which is guessed from then on, or remembered of a large set. It takes no memory.
 #[inline(always)]
 fn is_served_now(schema: &Schema, stored: &Stored, servers: &mut Servers, need: &Need) -> bool
     requires { AreStored stored.now }
     ensures served { result ≡ true → IsServedBy schema.now (stored_in stored.now) (need_view need.now) }
-    ensures unserved { result ≡ false → IsServedByNone schema.now (stored_in stored.now) (need_view need.now) }
+    ensures unserved { result ≡ false → StaysUnserved schema.now (stored_in stored.now) (need_view need.now) }
 {
     let Some(membership) = stored.instances.membership_of(need.target.0) else {
         return false;
@@ -150,10 +160,8 @@ fn is_served_now(schema: &Schema, stored: &Stored, servers: &mut Servers, need: 
         return true;
     }
     servers.guess(schema, need, membership, entities);
-    if servers.has_large_sets() && is_served(schema, stored, servers, need) {
-        return true;
-    }
-    serves(schema, need, entities)
+    let set = stored.memberships.set(membership);
+    servers.serve(schema, need, set, entities)
 }
 
 /// The first reference that no instance serves, by the name of the instance that has it, and why. It takes no memory.

@@ -1,8 +1,9 @@
 //! Which entity of a set serves a need, as it was found before.
-ghost use Rattle.std.specs.Prelude.{◌<◌, length, IfSome, IsTrue};
+ghost use Rattle.std.specs.Prelude.{◌≡◌, ◌<◌, ◌≤◌, false, length, IfSome, IsSome, IsTrue, OnErr};
 ghost use Rattle.p21_express_graph.specs.Meaning.{member};
 ghost use Rattle.p21_spec_file.specs.Reference.{Serves};
 ghost use Rattle.p21_mapping_values.specs.TypedView.{ids_view};
+ghost use Rattle.p21_stream_kept.specs.Servers.{Remembers};
 
 use p21_express_graph::{EntityId, Member};
 use p21_express_tables::Schema;
@@ -14,7 +15,7 @@ use std::collections::BTreeMap;
 use std::slice::from_ref;
 
 /// A set of so many entities is looked through for each reference.
-const MOST_LOOKED_THROUGH: usize = 16;
+pub(crate) const MOST_LOOKED_THROUGH: usize = 16;
 
 /// So many places are guessed.
 const GUESSES: usize = 1024;
@@ -55,7 +56,9 @@ impl Servers {
 
     /// Whether an instance has a large set.
     #[inline(always)]
-    pub(crate) fn has_large_sets(&self) -> bool {
+    pub(crate) fn has_large_sets(&self) -> bool
+        ensures { result ≡ self.now.has_large_sets }
+    {
         self.has_large_sets
     }
 
@@ -101,14 +104,17 @@ impl Servers {
     ///
     /// # Errors
     ///
-    /// `NoMemory`, which changes nothing.
+    /// `NoMemory`, which changes nothing; not where the set isn't large, or it is remembered already.
     pub(crate) fn learn(
         &mut self,
         schema: &Schema,
         need: &Need,
         set: usize,
         entities: &[EntityId],
-    ) -> Result<(), NoMemory> {
+    ) -> Result<(), NoMemory>
+        ensures small { length entities.now ≤ 16 → OnErr result ⊥ }
+        ensures known { Remembers self.old need.now.wanted set → OnErr result ⊥ }
+    {
         if entities.len() <= MOST_LOOKED_THROUGH || self.remembered(need, set).is_some() {
             return Ok(());
         }
@@ -119,7 +125,8 @@ impl Servers {
         }
     }
 
-    /// Whether an entity of the set of this number serves a need. It takes no memory.
+    /// Whether an entity of the set of this number is known to serve a need. What is remembered of a large set counts, also where
+    /// it says that none serves. It takes no memory.
     pub(crate) fn serve(
         &self,
         schema: &Schema,
@@ -127,7 +134,8 @@ impl Servers {
         set: usize,
         entities: &[EntityId],
     ) -> bool
-        ensures { IsTrue result → Serves schema.now (member need.now.wanted) (ids_view entities.now) }
+        ensures served { IsTrue result → Serves schema.now (member need.now.wanted) (ids_view entities.now) }
+        ensures unserved { result ≡ false → length entities.now ≤ 16 → ¬ Serves schema.now (member need.now.wanted) (ids_view entities.now) }
     {
         if entities.len() <= MOST_LOOKED_THROUGH {
             return serves(schema, need, entities);
@@ -140,7 +148,9 @@ impl Servers {
     }
 
     /// What is remembered for a need and the set of this number, if anything is.
-    fn remembered(&self, need: &Need, set: usize) -> Option<Option<usize>> {
+    fn remembered(&self, need: &Need, set: usize) -> Option<Option<usize>>
+        ensures { Remembers self.now need.now.wanted set → IsSome result }
+    {
         match need.wanted {
             Member::Entity(entity) => self.of_entities.get(&(set, entity.0)).copied(),
             Member::Defined(select) => self.of_selects.get(&(set, select.0)).copied(),

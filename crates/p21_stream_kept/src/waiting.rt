@@ -1,5 +1,5 @@
 //! References that wait for the instances that serve them.
-ghost use Rattle.std.specs.Prelude.{◌≡◌, ◌<◌, ◌≤◌, ◌+◌, ◌-◌, ◌^◌, [], drop, length, max, min, take, vec_capacity, vec_len, IsOk, OnErr, OnOk};
+ghost use Rattle.std.specs.Prelude.{◌≡◌, ◌<◌, ◌≤◌, ◌+◌, ◌-◌, ◌^◌, [], drop, false, length, max, min, take, vec_capacity, vec_len, IsOk, OnErr, OnOk};
 ghost use Rattle.p21_mapping.specs.Checked.{needs_view};
 ghost use Rattle.p21_stream_kept.specs.Inside.{AreStored, HasLooked, references_of, stored_in};
 ghost use Rattle.p21_stream_kept.specs.Served.{DropsBehind, DropsServed, with_needs};
@@ -73,7 +73,8 @@ impl Waiting {
     ///
     /// # Errors
     ///
-    /// `NoMemory`, where which entities serve can't be remembered; the references are looked at all the same.
+    /// `NoMemory`, where which entities serve can't be remembered; the references are looked at all the same. Not where no set is
+    /// large.
     pub(crate) fn look_again(
         &mut self,
         schema: &Schema,
@@ -91,6 +92,7 @@ impl Waiting {
         ensures next { self.old.due < come → self.new.due ≡ min (come + max 1024 (length self.new.references.items)) (2 ^ 64 - 1) }
         ensures looked { HasLooked self.new }
         ensures ahead { come ≤ self.new.due }
+        ensures small { servers.old.has_large_sets ≡ false → OnErr result ⊥ }
     {
         if come > self.due {
             let learned = self.look_from(schema, stored, servers, 0);
@@ -122,6 +124,7 @@ impl Waiting {
         ensures short { self.new.references.items ≡ [] → vec_capacity self.new.references ≤ 2048 }
         ensures looked { self.new.looked ≡ length self.new.references.items }
         ensures due { self.new.due ≡ self.old.due }
+        ensures small { servers.old.has_large_sets ≡ false → OnErr result ⊥ }
     {
         let learned = learn_waiting(schema, stored, servers, &self.references[from..]);
         drop_served(schema, stored, servers, &mut self.references, from);

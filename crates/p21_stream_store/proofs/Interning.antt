@@ -9,7 +9,7 @@ use Rattle.std.specs.Option.{IsSome}
 use Rattle.std.specs.Ordering.{nat_cmp}
 use Rattle.p21_spec_basics.proofs.Members.{Contains-unmapped, Each-append, Each-member, Each-weaker}
 use Rattle.p21_stream_store.proofs.Numbering.{behind, is-absent, known, mapped-at, none-numbered, one-more}
-use Rattle.p21_stream_store.specs.Memberships.{AreNumberedRows, HaveSets, Membership, by_pair, membership_in, memberships_in}
+use Rattle.p21_stream_store.specs.Memberships.{AreNumberedRows, HaveOneSet, HaveSets, Membership, by_pair, membership_in, memberships_in}
 use Rattle.p21_stream_store.specs.Numbering.{AreNumbered, AreOnce, Interns}
 
 abbrev Row : Type 0
@@ -48,6 +48,16 @@ membership-at sets rows number row membership at section set =
     let entities : get_or sets row.1 [] ≡ membership.entities = get_or_from_slice_get sets row.1 membership.entities [] set in
     let same : membership_in sets row ≡ membership = λ i. record { section = section i; entities = entities i } in
     mapped-at (membership_in sets) rows number row at ∙ ap (λ (m : Membership). Some m) same
+
+-- memberships whose rows have one set
+pub one-set : (sets : List (List ℕ)) (rows : List Row) (number other : ℕ) (row its_row : Row) → slice_get rows number ≡ Some row → slice_get rows other ≡ Some its_row → row.1 ≡ its_row.1 → HaveOneSet (memberships_in sets rows) number other
+one-set sets rows number other row its_row at there same = (
+  membership_in sets row,
+  membership_in sets its_row,
+  mapped-at (membership_in sets) rows number row at,
+  mapped-at (membership_in sets) rows other its_row there,
+  ap (λ (set : ℕ). (membership_in sets (0, set)).entities) same,
+)
 
 -- a membership that is remembered, with its row
 pub remembered-interned : (sets : List (List ℕ)) (rows : List Row) (number : ℕ) (row : Option Row) (membership : Membership) → IfSome row (λ r. slice_get rows number ≡ Some r) → IfSome row (λ r. r.0 ≡ membership.section)

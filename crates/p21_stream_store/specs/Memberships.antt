@@ -1,5 +1,5 @@
 -- Memberships of instances, each with its number.
-use Rattle.std.specs.Prelude.{◌<◌, ℕ, List, [], map, slice_index_or}
+use Rattle.std.specs.Prelude.{◌≡◌, ◌<◌, ℕ, List, [], Some, map, slice_get, slice_index_or}
 use Rattle.std.specs.BTreeMap.{BTreeMap}
 use Rattle.std.specs.List.{AllByRecursion as Each}
 use Rattle.std.specs.Ordering.{nat_cmp, ordering_then}
@@ -33,3 +33,7 @@ AreNumberedRows rows numbers = AreNumbered (λ (row : ℕ × ℕ). row) by_pair 
 -- each is of one of so many sets
 abbrev pub HaveSets : ℕ → List (ℕ × ℕ) → Type 0
 HaveSets many rows = Each (λ (row : ℕ × ℕ). row.1 < many) rows
+
+-- the memberships of two numbers have the same entities
+abbrev pub HaveOneSet : List Membership → ℕ → ℕ → Type 0
+HaveOneSet all number other = (own : Membership) × (its : Membership) × (slice_get all number ≡ Some own) × (slice_get all other ≡ Some its) × (own.entities ≡ its.entities)

@@ -1,6 +1,6 @@
 ghost use Rattle.std.specs.Prelude.{◌≡◌, ◌+◌, ◌<◌, [], length, slice_get, Some, IfOk, IfSome, IsSome, IsTrue, OnErr};
 ghost use Rattle.p21_mapping_values.specs.TypedView.{ids_view};
-ghost use Rattle.p21_stream_store.specs.Memberships.{AreNumberedRows, HaveSets, membership_of};
+ghost use Rattle.p21_stream_store.specs.Memberships.{AreNumberedRows, HaveOneSet, HaveSets, membership_of};
 ghost use Rattle.p21_stream_store.specs.Numbering.{Interns};
 
 use crate::entity_sets::EntitySets;
@@ -68,6 +68,16 @@ impl Memberships {
         requires { number < length self.now }
     {
         self.rows[number].1
+    }
+
+    /// Whether two memberships have one set, by its number. It takes no memory.
+    pub fn have_one_set(&self, number: usize, other: usize) -> bool
+        ensures { IsTrue result → HaveOneSet self.now number other }
+    {
+        let (Some(row), Some(its_row)) = (self.rows.get(number), self.rows.get(other)) else {
+            return false;
+        };
+        row.1 == its_row.1
     }
 
     /// The number of a membership, which stays. A membership that isn't there yet is added behind the others.

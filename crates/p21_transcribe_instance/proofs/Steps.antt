@@ -14,8 +14,7 @@ use Rattle.p21_express_graph.specs.DirectRenaming.{ComesTo, at_itself}
 use Rattle.p21_express_tables.specs.Base.{HasBase, IsBase}
 use Rattle.p21_express_tables.specs.declared.base.Base.{Base}
 use Rattle.p21_express_tables.specs.declared.base.Base.TheVariants.{Plain}
-use Rattle.p21_express_tables.specs.OwnSets.{HasOwnFaults, LeavesOpen}
-use Rattle.p21_express_tables.specs.declared.own_sets.OwnFaults.{OwnFaults}
+use Rattle.p21_express_tables.specs.OwnSets.{LeavesOpen}
 use Rattle.p21_express_graph.specs.Resolved.{HoldsTogether, IsEntity, IsPlace, IsTypeUse}
 use Rattle.p21_express_graph.specs.Meaning.{type_use}
 use Rattle.p21_express_graph.specs.declared.type_use.TypeUse as code
@@ -105,20 +104,3 @@ pub row_at : (s : Schema) (rows : List (Option Row)) (e : ℕ) (found_ : Option 
     → (e < length rows) × ((d : Option Row) → found_ ≡ get_or rows e d) → found_ ≡ Some row → IsRow s e (row_view row)
 row_at s rows e found_ row are (below, at) is =
     are e (row_view row) (slice_get-map (option_map row_view) rows e ∙ ap (option_map (option_map row_view)) (found_back rows e row below (sym (at None) ∙ is)))
-
--- ---- sets of their own
-
-not_true : (b : Bool) → (IsTrue b → ⊥) → b ≡ false
-not_true true not = absurd (not refl)
-not_true false not = refl
-
-pub stands_alone : (s : Schema) (e : ℕ) (faults : OwnFaults) (none : Bool) → HasOwnFaults s e faults
-    → IsTrue none ↔ ((faults.is_abstract ≡ false) × (faults.leaves_open ≡ false) × (faults.clashes ≡ false)) → IsTrue none ↔ MayStandAlone s e
-stands_alone s e faults none has are = (
-  λ yes. let (concrete, decided, agrees) = are.0 yes in record {
-    concrete = λ h. let t = has.abstract_is.1 h in cc;
-    decided = λ h. let t = has.open_is.1 h in cc;
-    agrees = λ h. let t = has.clash_is.1 h in cc;
-  },
-  λ may. are.1 (not_true faults.is_abstract (λ t. may.concrete (has.abstract_is.0 t)), not_true faults.leaves_open (λ t. may.decided (has.open_is.0 t)), not_true faults.clashes (λ t. may.agrees (has.clash_is.0 t))),
-)

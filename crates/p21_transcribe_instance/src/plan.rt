@@ -1,4 +1,4 @@
-ghost use Rattle.std.specs.Prelude.{◌↔◌, false, ◌≡◌, IfOk, IfSome, IsTrue};
+ghost use Rattle.std.specs.Prelude.{◌↔◌, IfOk, IfSome, IsTrue};
 ghost use Rattle.p21_express_graph.specs.Resolved.{IsEntity};
 ghost use Rattle.p21_spec_schema.specs.Schema.{EntityNamed, Schema as Meant};
 ghost use Rattle.p21_transcribe_instance.specs.Steps.{IsPlanOf, IsRow, MayStandAlone, row_view, rows_view};
@@ -6,7 +6,7 @@ ghost use Rattle.p21_transcribe_instance.specs.Steps.{IsPlanOf, IsRow, MayStandA
 use crate::guess::Guesses;
 use crate::row::{Row, find_row};
 use p21_express_graph::EntityId;
-use p21_express_tables::{OwnFaults, Schema};
+use p21_express_tables::Schema;
 use p21_values::NoMemory;
 use std::alloc::Global;
 use std::marker::Model;
@@ -109,13 +109,10 @@ fn may_stand_alone(schema: &Schema, entity: EntityId) -> bool
     requires { IsEntity schema.now entity.0 }
     ensures { IsTrue result ↔ MayStandAlone schema.now entity.0 }
 {
-    has_no_faults(schema.own_faults(entity))
-}
-
-fn has_no_faults(faults: OwnFaults) -> bool
-    ensures { IsTrue result ↔ ((faults.is_abstract ≡ false) × (faults.leaves_open ≡ false) × (faults.clashes ≡ false)) }
-{
-    !faults.is_abstract && !faults.leaves_open && !faults.clashes
+    if schema.is_abstract(entity) || schema.own_clashes(entity) {
+        return false;
+    }
+    !schema.leaves_open(entity)
 }
 
 /// Puts the row of an entity in its place.

@@ -244,10 +244,11 @@ fn finds_clashes(rt: HostRuntime) {
 /// Whether an entity is abstract, and whether its own set leaves something open, and clashes.
 pub(super) fn lacks_of(schema: &Schema, name: &str) -> Option<[bool; 3]> {
     match entity_named(schema, name) {
-        Some(entity) => {
-            let faults = schema.own_faults(entity);
-            Some([faults.is_abstract, faults.leaves_open, faults.clashes])
-        }
+        Some(entity) => Some([
+            schema.is_abstract(entity),
+            schema.leaves_open(entity),
+            schema.own_clashes(entity),
+        ]),
         None => None,
     }
 }

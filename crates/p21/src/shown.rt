@@ -1,0 +1,41 @@
+//! Paths and words of the command line as they are printed.
+use std::fmt;
+
+/// A text on one line. What would break the line, or have a terminal do something, stands as its number: `\n`, `\x1b`, `\u202e`.
+#[derive(Clone, Copy, Drop)]
+pub(crate) struct Shown<'a>(pub(crate) &'a str);
+
+impl fmt::Display for Shown<'_> {
+    fn fmt<W: fmt::Write>(&self, f: &mut fmt::Formatter<W>) -> fmt::Result {
+        for letter in self.0.chars() {
+            write_letter(letter, f)?;
+        }
+        Ok(())
+    }
+}
+
+/// A character, or its number where it isn't shown.
+fn write_letter<W: fmt::Write>(letter: char, f: &mut fmt::Formatter<W>) -> fmt::Result {
+    let code = letter as u32;
+    match letter {
+        '\n' => f.write_str("\\n"),
+        '\r' => f.write_str("\\r"),
+        '\t' => f.write_str("\\t"),
+        _ if is_control(code) => write!(f, "\\x{code:02x}"),
+        _ if has_effect(code) => write!(f, "\\u{code:04x}"),
+        _ => f.write_char(letter),
+    }
+}
+
+/// Whether a character is a control character (Unicode, general category Cc).
+fn is_control(code: u32) -> bool {
+    code < 0x20 || (0x7f <= code && code < 0xa0)
+}
+
+/// Whether a character ends a line, or turns the direction of the others (Unicode, Zl, Zp and Bidi_Control).
+fn has_effect(code: u32) -> bool {
+    code == 0x61c
+        || (0x200e <= code && code <= 0x200f)
+        || (0x2028 <= code && code <= 0x202e)
+        || (0x2066 <= code && code <= 0x2069)
+}

@@ -1,0 +1,181 @@
+//! Why no instance serves the references that wait, where what is found of a large set is remembered.
+ghost use Rattle.std.specs.Prelude.{◌≡◌, ◌↔◌, ◌<◌, ◌++◌, ◌∷◌, [], List, Some, length, slice_get, IfOk, IfSome, IsTrue, OnOk};
+ghost use Rattle.std.specs.List.{AllZip};
+ghost use Rattle.p21_express_graph.specs.Meaning.{member};
+ghost use Rattle.p21_spec_file.specs.Reference.{Serves};
+ghost use Rattle.p21_spec_schema.specs.Schema.{Schema as Meant};
+ghost use Rattle.p21_mapping_values.specs.TypedView.{need_view};
+ghost use Rattle.p21_stream_kept.specs.Inside.{AreStored, references_of, stored_in};
+ghost use Rattle.p21_stream_kept.specs.Judgements.{AnswersNeedOf, AreRight, Serving};
+ghost use Rattle.p21_stream_kept.specs.Served.{AnswersNeed};
+
+use crate::kept::Reference;
+use crate::servers::MOST_LOOKED_THROUGH;
+use crate::stored::Stored;
+use p21_express_graph::Member;
+use p21_express_tables::Schema;
+use p21_mapping::serves;
+use p21_mapping_values::Need;
+use p21_stream_statements::Fault;
+use p21_stream_store::Memberships;
+use p21_values::NoMemory;
+use std::alloc::Global;
+use std::collections::BTreeMap;
+
+/// The number of a set, whether a select is wanted of it, and the number of the select or of the entity that is.
+type Key = (usize, bool, u32);
+
+/// Whether large sets serve what was wanted of them.
+#[derive(Drop)]
+struct Judgements {
+    all: Vec<Judgement>,
+    // Where one of them stands. It is held against what is wanted before it counts.
+    numbers: BTreeMap<Key, usize>,
+}
+
+/// Whether the set of a membership serves what is wanted.
+#[derive(Clone, Copy, Drop)]
+struct Judgement {
+    wanted: Member,
+    membership: usize,
+    serves: bool,
+}
+
+impl Judgements {
+    /// None. It takes no memory.
+    fn new(alloc: Global) -> Judgements
+        ensures { result.all.items ≡ [] }
+    {
+        Judgements {
+            all: Vec::new(alloc),
+            numbers: BTreeMap::new(alloc),
+        }
+    }
+
+    /// Why no instance serves a need, if none does.
+    fn answer(
+        &mut self,
+        schema: &Schema,
+        stored: &Stored,
+        need: &Need,
+    ) -> Result<Option<Fault>, NoMemory>
+        requires stored { AreStored stored.now }
+        requires right { AreRight schema.now stored.now.memberships self.old.all.items }
+        ensures answers { IfOk result (AnswersNeed schema.now (stored_in stored.now) (need_view need.now)) }
+        ensures right { OnOk result (AreRight schema.now stored.now.memberships self.new.all.items) }
+    {
+        let Some(membership) = stored.instances.membership_of(need.target.0) else {
+            return Ok(Some(Fault::Dangling));
+        };
+        let served = self.judge(schema, &stored.memberships, need, membership)?;
+        if served {
+            Ok(None)
+        } else {
+            Ok(Some(Fault::WrongTarget))
+        }
+    }
+
+    /// Whether the set of a membership serves a need. That of a large set is looked through once for all that want the same.
+    fn judge(
+        &mut self,
+        schema: &Schema,
+        memberships: &Memberships,
+        need: &Need,
+        membership: usize,
+    ) -> Result<bool, NoMemory>
+        requires membership { membership < length memberships.now }
+        requires right { AreRight schema.now memberships.now self.old.all.items }
+        ensures serves { IfOk result (Serving schema.now memberships.now (member need.now.wanted) membership) }
+        ensures right { OnOk result (AreRight schema.now memberships.now self.new.all.items) }
+    {
+        let (_, entities) = memberships.get(membership);
+        if entities.len() <= MOST_LOOKED_THROUGH {
+            return Ok(serves(schema, need, entities));
+        }
+        let key = key_of(memberships.set(membership), need.wanted);
+        if let Some(known) = self.find(memberships, key, need.wanted, membership) {
+            return Ok(known);
+        }
+        let found = serves(schema, need, entities);
+        let judgement = Judgement {
+            wanted: need.wanted,
+            membership,
+            serves: found,
+        };
+        self.remember(key, judgement)?;
+        Ok(found)
+    }
+
+    /// What is remembered of the set of a membership, if anything is.
+    fn find(
+        &self,
+        memberships: &Memberships,
+        key: Key,
+        wanted: Member,
+        membership: usize,
+    ) -> Option<bool>
+        ensures { (s : Meant) → AreRight s memberships.now self.now.all.items → IfSome result (Serving s memberships.now (member wanted) membership) }
+    {
+        let number = *self.numbers.get(&key)?;
+        let judgement = *self.all.get(number)?;
+        if !is_same(judgement.wanted, wanted) {
+            return None;
+        }
+        if !memberships.have_one_set(judgement.membership, membership) {
+            return None;
+        }
+        Some(judgement.serves)
+    }
+
+    /// Remembers what was found.
+    fn remember(&mut self, key: Key, judgement: Judgement) -> Result<(), NoMemory>
+        ensures { OnOk result (self.new.all.items ≡ self.old.all.items ++ judgement ∷ []) }
+    {
+        let number = self.all.len();
+        self.all.push(judgement)?;
+        let _before = self.numbers.insert(key, number)?;
+        Ok(())
+    }
+}
+
+/// What is remembered stands at this.
+fn key_of(set: usize, wanted: Member) -> Key {
+    match wanted {
+        Member::Entity(entity) => (set, false, entity.0),
+        Member::Defined(select) => (set, true, select.0),
+    }
+}
+
+/// Whether the same is wanted.
+fn is_same(wanted: Member, other: Member) -> bool
+    ensures { IsTrue result → member wanted ≡ member other }
+{
+    match (wanted, other) {
+        (Member::Entity(entity), Member::Entity(its)) => entity.0 == its.0,
+        (Member::Defined(select), Member::Defined(its)) => select.0 == its.0,
+        _ => false,
+    }
+}
+
+/// Why no instance serves each of these references, in their order; none where one does.
+///
+/// # Errors
+///
+/// `NoMemory`.
+pub(crate) fn refusals_of(
+    alloc: Global,
+    schema: &Schema,
+    stored: &Stored,
+    waiting: &[Reference],
+) -> Result<Vec<Option<Fault>>, NoMemory>
+    requires { AreStored stored.now }
+    ensures { IfOk result (λ refusals. AllZip (AnswersNeedOf schema.now (stored_in stored.now)) (references_of waiting.now) refusals.items) }
+{
+    let mut judgements = Judgements::new(alloc);
+    let mut refusals = Vec::with_capacity(alloc, waiting.len())?;
+    for reference in waiting {
+        let refusal = judgements.answer(schema, stored, &reference.need)?;
+        refusals.push(refusal)?;
+    }
+    Ok(refusals)
+}
