@@ -72,8 +72,7 @@ run check demo.exp ''
 expect 'an empty path' 3 '' 'cannot open '
 run check demo.exp 'no
 where'
-expect 'a path with a line break' 3 '' 'cannot open no
-where'
+expect 'a path with a line break' 3 '' 'cannot open no\nwhere'
 long=$(printf '%05000d' 0)
 run check demo.exp "$long"
 expect 'a path of 5,000 bytes' 3 '' "cannot open $long"
