@@ -3,7 +3,7 @@ use Rattle.std.proofs.lemmas.List.{drop_all}
 use Rattle.p21_spec_laws.specs.Waiting.{Reference}
 use Rattle.p21_stream_kept.proofs.Unserved.{references-from}
 use Rattle.p21_stream_kept.specs.Inside.{reference_of, references_of}
-use Rattle.p21_stream.proofs.UnservedListing.{AddsSoFar, adds-next, adds-nothing, answered-at, lists-all, lists-most}
+use Rattle.p21_stream.proofs.UnservedListing.{AddsSoFar, adds-next, adds-nothing, answered-at, lists-all}
 use Rattle.p21_stream.proofs.unserved.list_each.Goals as goal
 
 pub loop-index-init : goal.loop-index-init
