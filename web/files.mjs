@@ -7,10 +7,9 @@
 import { oneByOne, together } from "./asking.mjs";
 import { alike } from "./likeness.mjs";
 import { Text, Trouble } from "./program.mjs";
-import { Lines, behindString, brief, bytesOf, lexemes, lineNumber, listed, readParts, textOf } from "./reading.mjs";
+import { Lines, QUOTE, behindString, brief, bytesOf, lexemes, lineNumber, listed, readParts, textOf } from "./reading.mjs";
 import { Outline, firstCount } from "./schemas.mjs";
 
-const QUOTE = 0x27;
 const STAR = 0x2a;
 const SLASH = 0x2f;
 const SEMICOLON = 0x3b;

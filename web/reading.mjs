@@ -95,7 +95,7 @@ export function namesOfValues(attributes, part, alone) {
 
 // --- Statements ---
 
-const QUOTE = 0x27;
+export const QUOTE = 0x27;
 const BACKSLASH = 0x5c;
 // What begins with a backslash in a string as the reader takes it, of which the last sign begins nothing else, by the sign behind it.
 const DIRECTIVES = [/^\\\\/, /^\\S\\[ -~]/, /^\\PA\\/, /^\\X[024]?\\/];
