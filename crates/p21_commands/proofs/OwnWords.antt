@@ -1,16 +1,14 @@
 -- The words of places in the line of an entity, place by place and owner by owner.
-use Rattle.std.specs.Prelude.{◌≡◌, ◌<◌, ℕ, suc, ◌+◌, List, [], ◌∷◌, ◌++◌, codes, length, map, take, slice_set, refl}
-use Rattle.std.specs.List.{AllZip, flat_map}
-use Rattle.std.proofs.Common.{arith, ap, sym, ◌∙◌, subst, inr, append_assoc, get_or}
-use Rattle.std.proofs.lemmas.List.{append-nil, length-append}
-use Rattle.std.proofs.lemmas.Grind.{flat_map-append}
+use Rattle.std.specs.Prelude.{◌≡◌, ℕ, ◌+◌, List, [], ◌∷◌, ◌++◌, codes, refl}
+use Rattle.std.specs.List.{AllZip}
+use Rattle.std.proofs.Common.{arith, ap, sym, ◌∙◌, subst, inr, append_assoc}
+use Rattle.std.proofs.lemmas.List.{append-nil}
 use Rattle.p21_commands.specs.OwnTexts.{IsPlainWord}
 use Rattle.p21_commands.specs.Print.{IsPlaceWord}
 use Rattle.p21_express_graph.specs.Lookups.{places_from}
-use Rattle.p21_express_graph.proofs.Lookups.{numbers-more, places-more}
+use Rattle.p21_express_graph.proofs.Lookups.{places-more}
 use Rattle.p21_express_outline.proofs.Finding.{AllZip-append}
-use Rattle.p21_spec_file.specs.ValueText.{with_commas, with_commas_between}
-use Rattle.p21_spec_schema.specs.Order.{own_places}
+use Rattle.p21_spec_file.specs.ValueText.{with_commas}
 use Rattle.p21_spec_schema.specs.Schema.{Schema, Place}
 
 pub with_commas-append : (texts others : List (List ℕ)) → with_commas (texts ++ others) ≡ with_commas texts ++ with_commas others

@@ -12,12 +12,11 @@ use Rattle.p21_spec_basics.proofs.Members.{Contains-cases, Contains-first, Conta
 use Rattle.p21_express_graph.proofs.Gatherings.{eqb-same}
 use Rattle.p21_express_graph.proofs.Lookups.{own-places-are, places-more}
 use Rattle.p21_express_graph.specs.Lookups.{places_from}
-use Rattle.p21_express_graph.specs.Resolved.{IsPlace}
-use Rattle.p21_spec_file.specs.ValueText.{list_text, with_commas, with_commas_between}
+use Rattle.p21_spec_file.specs.ValueText.{with_commas}
 use Rattle.p21_spec_schema.proofs.OwnPlaces.{own_places-within}
 use Rattle.p21_spec_schema.specs.Order.{order, own_places, places}
 use Rattle.p21_spec_schema.specs.PlaceType.{IsDerivedIn}
-use Rattle.p21_spec_schema.specs.Schema.{Attribute, Entity, Place, Schema, EntityNamed, IsAbstract, PlaceNamed, attribute_at, attributes_of}
+use Rattle.p21_spec_schema.specs.Schema.{Attribute, Entity, Place, Schema, EntityNamed, IsAbstract, attribute_at, attributes_of}
 use Rattle.p21_stream_io.specs.Transfer.{AppendsAllBut, AppendsPartOf}
 use Rattle.p21_stream_output.proofs.Putting.{part_more, then_all, then_part}
 use Rattle.p21_commands.proofs.OwnWords.{plain-words, with_commas-append}

@@ -1,4 +1,4 @@
-use Rattle.std.proofs.Common.{◌≡◌, ◌++◌, ℕ, List, ap, arith, length, subst, ◌∙◌}
+use Rattle.std.proofs.Common.{◌≡◌, ◌++◌, List, ap, arith, length, subst, ◌∙◌}
 use Rattle.p21_commands.specs.SchemaText.{are_some, joined, words_of}
 use Rattle.p21_commands.proofs.SchemaTexts.{own-next, own-part, some-next}
 use Rattle.p21_express_graph.specs.Lookups.{places_from}

@@ -1,9 +1,5 @@
-use Rattle.std.specs.Prelude.{◌≡◌, ◌∷◌, ◌++◌, ℕ, List, Some, length, slice_get, refl, OnOk, OnErr, IfOk}
-use Rattle.std.proofs.Common.{arith, ap, subst, ◌∙◌}
-use Rattle.std.proofs.lemmas.Option.{slice_get_read}
-use Rattle.p21_commands.specs.OwnTexts.{AreOwnTexts}
-use Rattle.p21_commands.specs.SchemaText.{are_some, joined, words_of}
-use Rattle.p21_commands.proofs.OwnWords.{plain-words}
+use Rattle.std.proofs.Common.{◌∙◌}
+use Rattle.p21_commands.specs.SchemaText.{words_of}
 use Rattle.p21_commands.proofs.SchemaTexts.{own-words}
 use Rattle.p21_spec_schema.specs.Order.{own_places}
 use Rattle.p21_commands.proofs.print.put_owner.Goals as goal

@@ -1,4 +1,4 @@
-use Rattle.std.proofs.Common.{ℕ, List, [], ◌++◌, codes, subst, append_assoc, ap, ◌∙◌}
+use Rattle.std.proofs.Common.{ℕ, List, ◌++◌, codes, subst}
 use Rattle.p21_commands.proofs.SchemaTexts.{head-text}
 use Rattle.p21_commands.specs.SchemaText.{entity_lines}
 use Rattle.std.specs.Io.KnownBytes.{Appends}
