@@ -41,7 +41,7 @@ OTHERWISE = {
     WINDOWS: [
         "the version",
         "an argument that is no text",
-        *(f"progress of {what}" for what in ("a check", "a canonical file", "a comparison")),
+        *(f"progress of {what}" for what in ("a check", "a canonical file", "a comparison", "130,000,000 bytes")),
     ],
 }
 # This one closes and fills streams, so it starts the program by itself; under Wine it has several attempts.
