@@ -13,13 +13,14 @@ from p21_reading import shown
 # How a canonical file begins and ends, and what is said of a program that gives something else.
 BEGIN, END = b"ISO-10303-21;\n", b"\nEND-ISO-10303-21;\n"
 NOT_WHOLE = "the canonical file isn't whole"
-FORM = re.compile(r"p21 \S+ \(canonical form (\d+)\)\n")
+# A program for another system names it on a second line.
+FORM = re.compile(r"p21 \S+ \(canonical form (\d+)\)\n(?:[\w-]+: [^\n]*\n)?")
 
 
 def form_of(program: str) -> int:
     """The version of the canonical form that the program writes, as the program says it."""
     answer = reading.run(program, "--version")
-    said = answer.output[:80].decode("ascii", "replace")
+    said = answer.output[:200].decode("ascii", "replace")
     found = FORM.fullmatch(said)
     if answer.status != reading.Status.DONE or found is None:
         raise reading.Trouble(f"{program} doesn't say which canonical form it writes: it says {answer.error or said or 'nothing'}")
