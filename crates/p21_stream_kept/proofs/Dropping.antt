@@ -9,7 +9,7 @@ use Rattle.p21_spec_basics.proofs.Members.{Each-member, Each-of_members, Each-we
 use Rattle.p21_spec_basics.specs.Limits.{Limits}
 use Rattle.p21_spec_laws.specs.CompleteFile.{Entry, SectionEntries, entries_in, entity_sets_in}
 use Rattle.p21_spec_laws.proofs.Storing.{stored-serves}
-use Rattle.p21_spec_laws.specs.Keeping.{IsServedBy, Keeps, Kept}
+use Rattle.p21_spec_laws.specs.Keeping.{IsServedBy, IsServedByNone, Keeps, Kept}
 use Rattle.p21_spec_laws.specs.Stored.{StoredEntry}
 use Rattle.p21_spec_laws.specs.Waiting.{Reference, references_in}
 use Rattle.p21_spec_exchange.specs.Statement.{Statement}
@@ -18,7 +18,7 @@ use Rattle.p21_mapping_values.specs.TypedView.{need_view}
 use Rattle.p21_spec_schema.specs.Schema.{Schema}
 use Rattle.p21_stream_kept.proofs.Unserved.{left-among, left-or_served, references-from}
 use Rattle.p21_stream_kept.specs.Inside.{reference_of, references_of}
-use Rattle.p21_stream_kept.specs.Served.{DropsBehind, DropsServed, StaysUnserved}
+use Rattle.p21_stream_kept.specs.Served.{DropsBehind, DropsServed}
 use Rattle.p21_stream_kept.specs.Steps.{StepGives}
 use Rattle.p21_stream_kept.specs.declared.kept.Reference as held
 
@@ -52,8 +52,8 @@ module _ (s : Schema) (stored : List StoredEntry) (front old : List Reference) (
         (are.follow rest (subst (λ (rs : List Reference). DropsServed s stored rs rest) (sym (references-from now index x is low)) (inl (served, next-left x rest drops))));
   }
 
-  -- the next one waits on
-  pub looked-unserved : (x : held.Reference) → x ≡ get_or now index x → index < length now → StaysUnserved s stored (need_view x.need) → AreLooked s stored front old (set now left x) (left + 1) (index + 1)
+  -- none serves the next one
+  pub looked-unserved : (x : held.Reference) → x ≡ get_or now index x → index < length now → IsServedByNone s stored (need_view x.need) → AreLooked s stored front old (set now left x) (left + 1) (index + 1)
   looked-unserved x is low none = record {
     in_front = omega (arith, are.in_front);
     follow = λ rest drops.

@@ -1,5 +1,5 @@
 -- The needs of instances, by what is stored: those that are served, those that wait, and the first that none serves.
-use Rattle.std.specs.Prelude.{◌≡◌, ◌<◌, ◌⊎◌, ℕ, List, [], ◌∷◌, ◌++◌, length, map, Option, Some, None, Contains}
+use Rattle.std.specs.Prelude.{◌≡◌, ◌⊎◌, ℕ, List, [], ◌∷◌, ◌++◌, map, Option, Some, None, Contains}
 use Rattle.std.specs.List.{AllByRecursion as Each}
 use Rattle.p21_spec_laws.specs.Keeping.{IsServedBy, IsServedByNone}
 use Rattle.p21_spec_laws.specs.Stored.{StoredEntry}
@@ -20,21 +20,13 @@ abbrev pub AnswersNeed : Schema → List StoredEntry → Need → Option Fault �
 AnswersNeed s stored need None = IsServedBy s stored need
 AnswersNeed s stored need (Some fault) = RefusesNeed s stored need fault
 
--- an instance of the name has more than 16 entities: of such a set it is remembered whether it serves
-abbrev pub IsOfLargeSet : List StoredEntry → Need → Type 0
-IsOfLargeSet stored need = (x : StoredEntry) × Contains stored x × (x.name ≡ need.target) × (16 < length x.entities)
-
--- a need waits on: it is served by none, or by a large set of which that isn't known
-abbrev pub StaysUnserved : Schema → List StoredEntry → Need → Type 0
-StaysUnserved s stored need = IsServedByNone s stored need ⊎ IsOfLargeSet stored need
-
--- Of these, each with its need, the ones are left that wait on, in their order; an instance serves each of the others
+-- Of these, each with its need, the ones are left that none serves, in their order; an instance serves each of the others
 abbrev pub LeavesUnserved : {X : Type 0} → Schema → List StoredEntry → (X → Need) → List X → List X → Type 0
 LeavesUnserved s stored need [] left = left ≡ []
 LeavesUnserved {X} s stored need (x ∷ xs) left =
-    (IsServedBy s stored (need x) × LeavesUnserved s stored need xs left) ⊎ (StaysUnserved s stored (need x) × ((rest : List X) × (left ≡ x ∷ rest) × LeavesUnserved s stored need xs rest))
+    (IsServedBy s stored (need x) × LeavesUnserved s stored need xs left) ⊎ (IsServedByNone s stored (need x) × ((rest : List X) × (left ≡ x ∷ rest) × LeavesUnserved s stored need xs rest))
 
--- the references that wait on are left, in their order
+-- the references that none serves are left, in their order
 abbrev pub DropsServed : Schema → List StoredEntry → List Reference → List Reference → Type 0
 DropsServed s stored old left = LeavesUnserved s stored (λ (r : Reference). r.1) old left
 

@@ -1,9 +1,9 @@
 //! The needs of instances, and the instances that serve them.
 ghost use Rattle.std.specs.Prelude.{◌≡◌, ◌+◌, ◌/◌, ◌<◌, ◌≤◌, [], IsTrue, OnErr, drop, false, length, min, take, true, vec_capacity, vec_len};
-ghost use Rattle.p21_spec_laws.specs.Keeping.{IsServedBy};
+ghost use Rattle.p21_spec_laws.specs.Keeping.{IsServedBy, IsServedByNone};
 ghost use Rattle.p21_mapping_values.specs.TypedView.{need_view};
 ghost use Rattle.p21_stream_kept.specs.Inside.{AreStored, references_of, stored_in};
-ghost use Rattle.p21_stream_kept.specs.Served.{AnswersNeed, AnswersUnserved, DropsBehind, StaysUnserved};
+ghost use Rattle.p21_stream_kept.specs.Served.{AnswersNeed, AnswersUnserved, DropsBehind};
 
 use crate::kept::Reference;
 use crate::servers::Servers;
@@ -144,13 +144,14 @@ fn give_back(waiting: &mut Vec<Reference>)
     }
 }
 
-/// Whether an instance that is stored is known to serve a need: mostly by the entity that is guessed, and else by what is found,
-/// which is guessed from then on, or remembered of a large set. It takes no memory.
+/// Whether an instance that is stored serves a need: mostly by the entity that is guessed, and else by what is found, which is
+/// guessed from then on, or remembered of a large set. What is remembered counts where it says that an entity serves; else the set
+/// is looked through, since nothing binds what is remembered to this schema. It takes no memory.
 #[inline(always)]
 fn is_served_now(schema: &Schema, stored: &Stored, servers: &mut Servers, need: &Need) -> bool
     requires { AreStored stored.now }
     ensures served { result ≡ true → IsServedBy schema.now (stored_in stored.now) (need_view need.now) }
-    ensures unserved { result ≡ false → StaysUnserved schema.now (stored_in stored.now) (need_view need.now) }
+    ensures unserved { result ≡ false → IsServedByNone schema.now (stored_in stored.now) (need_view need.now) }
 {
     let Some(membership) = stored.instances.membership_of(need.target.0) else {
         return false;
@@ -160,8 +161,10 @@ fn is_served_now(schema: &Schema, stored: &Stored, servers: &mut Servers, need: 
         return true;
     }
     servers.guess(schema, need, membership, entities);
-    let set = stored.memberships.set(membership);
-    servers.serve(schema, need, set, entities)
+    if servers.has_large_sets() && is_served(schema, stored, servers, need) {
+        return true;
+    }
+    serves(schema, need, entities)
 }
 
 /// The first reference that no instance serves, by the name of the instance that has it, and why. It takes no memory.

@@ -125,8 +125,7 @@ impl Servers {
         }
     }
 
-    /// Whether an entity of the set of this number is known to serve a need. What is remembered of a large set counts, also where
-    /// it says that none serves. It takes no memory.
+    /// Whether an entity of the set of this number is known to serve a need. It takes no memory.
     pub(crate) fn serve(
         &self,
         schema: &Schema,
