@@ -15,3 +15,5 @@ pub mod FoundEdges
 pub mod UseWalks
 pub mod Terminated
 pub mod FileGraphs
+pub mod Renamings
+pub mod LabelRows

@@ -5,3 +5,4 @@ pub mod PlacedUses
 pub mod Nodes
 pub mod Edges
 pub mod NodesOf
+pub mod NewNames

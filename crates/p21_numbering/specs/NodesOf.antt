@@ -5,6 +5,9 @@ use Rattle.p21_spec_exchange.specs.DataSection.{Heading}
 use Rattle.p21_spec_file.specs.File.{FileMeaning}
 use Rattle.p21_spec_file.specs.Meaning.{Typed}
 use Rattle.p21_spec_schema.specs.Schema.{Schema}
+use Rattle.p21_express_graph.specs.Lookups.{AreEntities}
+use Rattle.p21_mapping_values.specs.KnownTypes.{HaveKnownTypes}
+use Rattle.std.specs.List.{AllByRecursion as Each}
 use Rattle.p21_spec_numbering.specs.Numbered.{heading_label, unnamed_text}
 use Rattle.p21_spec_numbering.specs.Renamed.{names}
 use Rattle.p21_spec_numbering.specs.Uses.{typed_uses}
@@ -15,6 +18,11 @@ use Rattle.std.specs.Prelude.{Some}
 abbrev pub row_of_texts : List (List ℕ) → List ℕ
 row_of_texts [] = []
 row_of_texts (t ∷ ts) = map suc t ++ (0 ∷ row_of_texts ts)
+
+-- the entities are of the schema, and so are the types in the values beside them
+pub record HasKnownParts (s : Schema) (x : Typed) : Type 0 where
+  pub entities_are : AreEntities s x.entities
+  pub known : Each (HaveKnownTypes s) x.values
 
 -- the node of an instance
 pub record IsNodeOf (s : Schema) (m : FileMeaning) (node : Node) : Type 0 where

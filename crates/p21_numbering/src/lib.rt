@@ -6,10 +6,13 @@ mod edges;
 mod ending;
 mod graph;
 mod key_rows;
+mod labels;
 mod parts;
+mod renaming;
 mod rounds;
 mod rows;
 mod uses;
 
 pub use graph::{Node, ranks};
+pub use labels::node;
 pub use uses::{PlacedUse, uses_in};
