@@ -10,7 +10,7 @@ Windows, as far as a Python for Linux can (platforms/as_windows.py): some comman
 their tests with that for Linux.
 
 P21 names another program for Linux than ./p21. It wants `rt`, which makes what is compiled where it is missing or old, and Debian's
-packages wine64, qemu-user, gcc-mingw-w64-x86-64 and gcc-aarch64-linux-gnu. Where one of them isn't here, the status is 77.
+packages wine64, qemu-user, gcc-mingw-w64-x86-64, gcc-aarch64-linux-gnu and libc6-dev-arm64-cross. Where one of them isn't here, the status is 77.
 """
 
 import contextlib
@@ -588,7 +588,10 @@ def tried(name, tally):
 def main():
     """Tries what is made for each system."""
     asked = sys.argv[1:] or [WINDOWS, ARM]
-    needs.wanted("rt", "qemu-aarch64", *(systems.SYSTEMS[name].compiler for name in (WINDOWS, ARM)))
+    needs.wanted("rt", "qemu-aarch64")
+    for name in asked:
+        if why := systems.missing(systems.SYSTEMS[name]):
+            needs.skipped(why)
     if not (shutil.which("wine64") or os.path.exists("/usr/lib/wine/wine64")):
         needs.skipped("there is no wine64")
     os.environ["P21"] = str(pathlib.Path(os.environ.get("P21", ROOT / "crates" / "p21" / "out" / "p21")).resolve())
