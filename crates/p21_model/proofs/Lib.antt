@@ -4,3 +4,4 @@ pub mod Lines
 pub mod Meanings
 pub mod Keywords
 pub mod Handing
+pub mod Finding

@@ -1,8 +1,10 @@
 //! The attributes of an instance, with their values.
-ghost use Rattle.std.specs.Prelude.{◌≡◌, ◌<◌, ◌∷◌, [], ℕ, true, List, length, IfSome, IsNone, MatchOption};
+ghost use Rattle.std.specs.Prelude.{◌≡◌, ◌<◌, ◌∷◌, [], ℕ, true, List, length, IfSome, IsNone, MatchBool, MatchOption};
 ghost use Rattle.p21_spec_exchange.specs.Record.{Part, Record};
 ghost use Rattle.p21_spec_schema.specs.Order.{places};
-ghost use Rattle.p21_model.specs.Left.{AreLeftParts, HandsOutRow, IsRecordText, NoKeywordFirst, TellsRows};
+ghost use Rattle.p21_express_graph.specs.Meaning.{place as place_of};
+ghost use Rattle.p21_model.specs.Found.{HasAt};
+ghost use Rattle.p21_model.specs.Left.{AreLeftParts, HandsOutRow, IsRecordText, NoKeywordFirst, TellsRows, left_size};
 ghost use Rattle.p21_model_values.specs.Ends.{is_at_end};
 ghost use Rattle.p21_model.specs.Rows.{ArePartRows, ArePartsRows, AreRowsOf, Row};
 
@@ -99,7 +101,8 @@ impl<'a> Attributes<'a> {
 
     /// The next attribute, with its value. It takes no memory.
     pub fn next(&mut self) -> Option<Attribute<'a>>
-        ensures { (rows : List Row) → TellsRows self.old rows → HandsOutRow rows result self.new }
+        ensures handed { (rows : List Row) → TellsRows self.old rows → HandsOutRow rows result self.new }
+        ensures shorter { IfSome result (λ attribute. left_size self.new < left_size self.old) }
     {
         while self.values.is_empty() {
             match self.behind_part() {
@@ -116,6 +119,18 @@ impl<'a> Attributes<'a> {
         Some(Attribute { place, value })
     }
 
+    /// The value at an attribute that is left, if it is there. It takes no memory.
+    pub fn find(&mut self, place: Place) -> Option<Value<'a>>
+        ensures { (rows : List Row) → TellsRows self.old rows → HasAt rows (place_of place) result }
+    {
+        while let Some(attribute) = self.next() {
+            if is_same(attribute.place, place) {
+                return Some(attribute.value);
+            }
+        }
+        None
+    }
+
     /// The attributes behind those of a simple record that is at its end, if there are any.
     fn behind_part(&self) -> Option<Attributes<'a>>
         ensures schema { IfSome result (λ found. found.places.schema.now ≡ self.now.places.schema.now) }
@@ -127,4 +142,14 @@ impl<'a> Attributes<'a> {
         };
         Attributes::of_part(self.places.schema, behind)
     }
+}
+
+/// Whether two places are the same.
+fn is_same(place: Place, other: Place) -> bool
+    ensures { MatchBool result (place_of place ≡ place_of other) (place_of place ≡ place_of other → ⊥) }
+{
+    if place.entity.0 != other.entity.0 {
+        return false;
+    }
+    place.index == other.index
 }

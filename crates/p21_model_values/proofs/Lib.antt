@@ -2,3 +2,4 @@ pub mod Scanning
 pub mod FirstBytes
 pub mod Handing
 pub mod TypedValues
+pub mod Shortening

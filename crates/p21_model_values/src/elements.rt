@@ -1,5 +1,5 @@
 //! Values one by one.
-ghost use Rattle.std.specs.Prelude.{◌≡◌, ℕ, List};
+ghost use Rattle.std.specs.Prelude.{◌≡◌, ◌<◌, ℕ, List, length, IfSome};
 ghost use Rattle.p21_spec_exchange.specs.Parameter.{Params};
 ghost use Rattle.p21_model_values.specs.Ends.{behind_comma, is_at_end};
 ghost use Rattle.p21_model_values.specs.Written.{AreLeft, HandsOut};
@@ -27,7 +27,8 @@ impl<'a> Elements<'a> {
 
     /// The next value. It takes no memory.
     pub fn next(&mut self) -> Option<Value<'a>>
-        ensures { (ps : Params) (after : List ℕ) → AreLeft ps after self.old.rest.now → HandsOut ps after result self.new.rest.now }
+        ensures handed { (ps : Params) (after : List ℕ) → AreLeft ps after self.old.rest.now → HandsOut ps after result self.new.rest.now }
+        ensures shorter { IfSome result (λ value. length self.new.rest.now < length self.old.rest.now) }
     {
         if self.is_empty() {
             return None;

@@ -17,6 +17,7 @@ struct Within {
 /// parentheses of its own.
 pub(crate) fn value_size(bytes: &[u8]) -> usize
     ensures within { result ≤ length bytes.now }
+    ensures counted { result ≡ size_within bytes.now false 0 }
     ensures size { (p : Param) (rest : List ℕ) → IsWritten p → EndsValue rest → bytes.now ≡ param_text p ++ rest → result ≡ length (param_text p) }
 {
     size_to_end(bytes)

@@ -1,4 +1,5 @@
-use p21_model::{AcceptedModel, Attribute, Instance, Kind, Value};
+use p21_express_graph::Place;
+use p21_model::{AcceptedModel, Instance, Kind, Value};
 use p21_stream::{Accepted, Limits, Name, Schema, Session, read_schema};
 use std::alloc::Global;
 use std::process::Abort;
@@ -116,8 +117,7 @@ fn put_value(shown: &mut Vec<u8>, value: &Value<'_>) {
     }
 }
 
-fn put_attribute(shown: &mut Vec<u8>, schema: &Schema, attribute: &Attribute<'_>) {
-    let place = attribute.place;
+fn put_attribute(shown: &mut Vec<u8>, schema: &Schema, place: Place, value: &Value<'_>) {
     if place.entity.0 as usize >= schema.entities() {
         return;
     }
@@ -128,7 +128,7 @@ fn put_attribute(shown: &mut Vec<u8>, schema: &Schema, attribute: &Attribute<'_>
     put(shown, b".");
     put(shown, schema.place_name(place));
     put(shown, b" ");
-    put_value(shown, &attribute.value);
+    put_value(shown, value);
     put(shown, b";");
 }
 
@@ -136,7 +136,9 @@ fn put_instance(shown: &mut Vec<u8>, schema: &Schema, instance: &Instance<'_>) {
     let mut attributes = instance.attributes();
     for _ in 0..9 {
         if let Some(attribute) = attributes.next() {
-            put_attribute(shown, schema, &attribute);
+            if let Some(value) = instance.value(attribute.place) {
+                put_attribute(shown, schema, attribute.place, &value);
+            }
         }
     }
 }
