@@ -1,0 +1,5 @@
+pub mod Rows
+pub mod Left
+pub mod Line
+pub mod Told
+pub mod Kept

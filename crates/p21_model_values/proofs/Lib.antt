@@ -1,0 +1,4 @@
+pub mod Scanning
+pub mod FirstBytes
+pub mod Handing
+pub mod TypedValues
