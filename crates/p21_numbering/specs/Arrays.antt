@@ -59,12 +59,18 @@ IsPlace uses users i = (u : Use) × Contains (uses.uses.items ++ users.uses.item
 pub record Represents (g : Graph) (place : ℕ → List ℕ) (count : ℕ) (uses users : Adjacency) : Type 0 where
   pub nodes : g.nodes ≡ range_with_len 0 count
   pub ordered : (i j : ℕ) → IsPlace uses users i → IsPlace uses users j → slice_cmp nat_cmp (place i) (place j) ≡ nat_cmp i j
-  pub onto : (n : ℕ) → n < count → Shuffled (map (placed place) (uses_of uses n)) (flat_map (λ m. map (beside m) (g.places n m)) g.nodes)
-  pub from : (n : ℕ) → n < count → Shuffled (map (placed place) (uses_of users n)) (flat_map (λ m. map (beside m) (g.places m n)) g.nodes)
+  pub onto : (n : ℕ) → n < count
+      → Shuffled (map (placed place) (uses_of uses n)) (flat_map (λ m. map (beside m) (g.places n m)) g.nodes)
+  pub from : (n : ℕ) → n < count
+      → Shuffled (map (placed place) (uses_of users n)) (flat_map (λ m. map (beside m) (g.places m n)) g.nodes)
 
 -- the rank at a position
 abbrev pub rank_at : List ℕ → ℕ → ℕ
 rank_at rank n = slice_index_or rank n 0
+
+-- the first positions have these ranks
+abbrev pub AreRanksBy : (ℕ → ℕ) → ℕ → List ℕ → Type 0
+AreRanksBy rank count ranks = (n : ℕ) → n < count → rank_at ranks n ≡ rank n
 
 -- the mark at a position
 abbrev pub marked : List Bool → ℕ → Bool

@@ -7,6 +7,7 @@ use Rattle.p21_spec_file.specs.Sorting.{is_below}
 use Rattle.p21_spec_numbering.specs.Graph.{Graph}
 use Rattle.p21_spec_numbering.specs.Uses.{Use, places_to}
 use Rattle.p21_numbering.specs.declared.graph.Node.{Node as Code}
+use Rattle.p21_numbering.specs.Arrays.{AreRanksBy}
 use Rattle.p21_numbering.specs.PlacedUses.{held_uses}
 
 -- the name, the label as a row of numbers, and the references with the ways to them
@@ -15,6 +16,7 @@ pub record Node : Type 0 where
   pub label : List ℕ
   pub uses : List Use
 
+-- the node without addresses
 abbrev pub held_node : Code → Node
 held_node n = record { name = n.name; label = n.label.items; uses = held_uses n.uses.items }
 
@@ -32,6 +34,10 @@ node_at nodes k = slice_index_or nodes k no_node
 abbrev pub name_at : List Node → ℕ → ℕ
 name_at nodes k = (node_at nodes k).name
 
+-- each node has the rank of its name
+abbrev pub HaveRanks : (ℕ → ℕ) → List Node → List ℕ → Type 0
+HaveRanks rank nodes ranks = AreRanksBy (λ k. rank (name_at nodes k)) (length nodes) ranks
+
 abbrev pub names : List Node → List ℕ
 names nodes = map (λ n. n.name) nodes
 
@@ -41,6 +47,7 @@ pub record IsGraph (g : Graph) (nodes : List Node) : Type 0 where
   pub names_are : Shuffled (names nodes) g.nodes
   pub differ : NoneTwice (names nodes)
   pub labels : (j k : ℕ) → j < length nodes → k < length nodes
-      → is_lt (slice_cmp (slice_cmp nat_cmp) (g.label (name_at nodes j)) (g.label (name_at nodes k))) ≡ is_below (node_at nodes j).label (node_at nodes k).label
+      → is_lt (slice_cmp (slice_cmp nat_cmp) (g.label (name_at nodes j)) (g.label (name_at nodes k)))
+      ≡ is_below (node_at nodes j).label (node_at nodes k).label
   pub places : (j k : ℕ) → j < length nodes → k < length nodes
       → g.places (name_at nodes j) (name_at nodes k) ≡ places_to (name_at nodes k) (node_at nodes j).uses

@@ -33,6 +33,12 @@ pub record IsNodeOf (s : Schema) (m : FileMeaning) (node : Node) : Type 0 where
   pub label_is : node.label ≡ row_of_texts (heading_label (Some heading) ++ (unnamed_text s typed.entities typed.values ∷ []))
   pub uses_are : node.uses ≡ typed_uses typed
 
+-- the node of a record of this name, in whatever file, in a section whose heading has these texts
+abbrev pub IsNodeFor : Schema → ℕ → Typed → List (List ℕ) → Node → Type 0
+IsNodeFor s name typed texts node =
+    (m : FileMeaning) (heading : Heading) → Contains m.instances (name, typed) → Contains m.instance_sections (name, heading)
+    → texts ≡ heading_label (Some heading) → IsNodeOf s m node
+
 -- a node for each instance of the file
 pub record AreNodesOf (s : Schema) (m : FileMeaning) (nodes : List Node) : Type 0 where
   pub names_are : Shuffled (names_of nodes) (names m)

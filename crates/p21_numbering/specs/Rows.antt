@@ -5,9 +5,11 @@ use Rattle.p21_spec_numbering.specs.Graph.{how_many}
 use denote.Ref.{Bor}
 use Rattle.std.specs.Global.{Vec}
 
+-- the rows without addresses
 abbrev pub held_rows : List (Vec ℕ) → List (List ℕ)
 held_rows rows = map (λ row. row.items) rows
 
+-- the rows that are lent
 abbrev pub lent_rows : List (Bor (List ℕ)) → List (List ℕ)
 lent_rows rows = map (λ row. row.now) rows
 

@@ -1,12 +1,10 @@
 //! The node of an instance, and what it says without names.
-ghost use Rattle.std.specs.Prelude.{◌≡◌, ◌++◌, ◌∷◌, [], map, suc, Contains, IfOk, OnOk, Some};
-ghost use Rattle.p21_spec_exchange.specs.DataSection.{Heading};
-ghost use Rattle.p21_spec_file.specs.File.{FileMeaning};
-ghost use Rattle.p21_spec_numbering.specs.Numbered.{entity_name, heading_label, unnamed_text as text_of};
+ghost use Rattle.std.specs.Prelude.{◌≡◌, ◌++◌, ◌∷◌, [], map, suc, IfOk, OnOk};
+ghost use Rattle.p21_spec_numbering.specs.Numbered.{entity_name, unnamed_text as text_of};
 ghost use Rattle.p21_express_graph.specs.Resolved.{IsEntity};
 ghost use Rattle.p21_mapping_values.specs.TypedView.{ids_view, rows_view, typed_view};
 ghost use Rattle.p21_numbering.specs.Nodes.{held_node};
-ghost use Rattle.p21_numbering.specs.NodesOf.{HasKnownParts, IsNodeOf, row_of_texts};
+ghost use Rattle.p21_numbering.specs.NodesOf.{HasKnownParts, IsNodeFor, row_of_texts};
 ghost use Rattle.p21_numbering.specs.Rows.{lent_rows};
 
 use crate::graph::Node;
@@ -32,7 +30,7 @@ pub fn node(
     typed: Typed<'_>,
 ) -> Result<Node, NoMemory>
     requires { HasKnownParts schema.now (typed_view typed) }
-    ensures { IfOk result (λ node. (m : FileMeaning) (h : Heading) → Contains m.instances (name, typed_view typed.entry) → Contains m.instance_sections (name, h) → lent_rows heading.now ≡ heading_label (Some h) → IsNodeOf schema.now m (held_node node)) }
+    ensures { IfOk result (λ node. IsNodeFor schema.now name (typed_view typed.entry) (lent_rows heading.now) (held_node node)) }
 {
     let uses = uses_in(alloc, &typed)?;
     let text = unnamed_text(alloc, schema, typed)?;
