@@ -16,7 +16,7 @@ import sys
 
 ROOT = pathlib.Path(__file__).resolve().parent.parent
 CRATES = ROOT / "crates"
-DEFINITIONS = ("p21_spec_basics", "p21_spec_exchange", "p21_spec_schema", "p21_spec_file")
+DEFINITIONS = ("p21_spec_basics", "p21_spec_exchange", "p21_spec_schema", "p21_spec_file", "p21_spec_syntax")
 COLUMNS = ["Rule", "Definition", "Example or law", "Code", "Test", "Wrong body", "Plain reading"]
 # Where the table of tokens has a further column: behind the code, what scans the token where it stands whole
 WHOLE = COLUMNS.index("Code") + 1

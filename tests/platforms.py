@@ -6,14 +6,16 @@ QEMU's user mode. What each answers is what the program for Linux on x86-64 answ
 
 program.sh, every_refusal.py, two_ways.py, fuzz.py and hostile/large.py are run over each program; then names, pipes, streams in
 bytes, each allocation of some commands refused, and the C programs of bindings over each library. The tools are run as on
-Windows, as far as a Python for Linux can (platforms/as_windows.py).
+Windows, as far as a Python for Linux can (platforms/as_windows.py): some command lines with the program for Windows, and all of
+their tests with that for Linux.
 
 P21 names another program for Linux than ./p21. It wants `rt`, which makes what is compiled where it is missing or old, and Debian's
-packages wine64, qemu-user, gcc-mingw-w64-x86-64 and gcc-aarch64-linux-gnu. Where one of them isn't here, the status is 77.
+packages wine64, qemu-user, gcc-mingw-w64-x86-64, gcc-aarch64-linux-gnu and libc6-dev-arm64-cross. Where one of them isn't here, the status is 77.
 """
 
 import contextlib
 import hashlib
+import ntpath
 import os
 import pathlib
 import re
@@ -21,6 +23,8 @@ import shutil
 import subprocess
 import sys
 import tempfile
+import types
+from unittest import mock
 
 import needs
 
@@ -28,6 +32,9 @@ ROOT = pathlib.Path(__file__).resolve().parent.parent
 TESTS = ROOT / "tests"
 OUT = ROOT / "platforms" / "out"
 sys.path[:0] = [str(ROOT / "tools"), str(TESTS / "hostile")]
+import p21_manifest  # noqa: E402
+import p21_sarif  # noqa: E402
+import p21_system  # noqa: E402
 from cases import DEMO, file_of, write_all  # noqa: E402
 from release import systems  # noqa: E402
 from rigged import OUT_OF_MEMORY, Rigged, Tally  # noqa: E402
@@ -87,6 +94,23 @@ TOOLS = [
 # These are given the refused file by a pipe.
 BY_A_PIPE = [["p21-where", PRODUCT, "-"], ["p21-table", PRODUCT, "-"], ["p21-where", "--all", "--format", "json", PRODUCT, "-"]]
 
+
+# What tries the tools on Linux tries them as on Windows too, with the program for Linux; and the rows that are otherwise there, of
+# programs that a signal ends.
+TOOLS_TESTS = ("adapt", "diff", "inputs", "manifest", "names", "shelf", "table", "where")
+TOOLS_OTHERWISE = [
+    "a signal: its row",
+    *(f"{what}a signal, {how}" for what in ("", "a refusal, and ") for how in ("with names", "--names")),
+    "no answer",
+    "of the schema",
+]
+# How files are named on Windows, and the same in a reference and in a manifest of BagIt.
+REFERENCES = {
+    r"C:\parts\a b.step": "file:///C:/parts/a%20b.step",
+    r"\\server\share\ü.step": "file://server/share/%C3%BC.step",
+    r"parts\a%.step": "parts/a%25.step",
+}
+OF_BAGIT = {r"parts\a.step": b"parts/a.step", r"parts\a%.step": b"parts/a%25.step"}
 
 # Of Wine: what would be fetched from the network, what starts devices, and what would wait for somebody where that fails.
 LEFT_OUT = "mscoree,mshtml,winedevice.exe,winedbg.exe="
@@ -519,8 +543,30 @@ def tools(made, tally, here):
     tally.part(f"{made.name}, the tools", f": {again} command lines made again")
 
 
+def paths(made, tally):
+    """How a tool writes the paths of Windows, where other systems read them too."""
+    there = types.SimpleNamespace(path=ntpath, fsencode=os.fsencode)
+    blank = p21_manifest.Entry("", 0, "0" * 64, None, None, 1, None, None, None, "")
+    with mock.patch.object(p21_system, "IS_WINDOWS", True), mock.patch.object(p21_sarif, "os", there):
+        for path, wanted in REFERENCES.items():
+            tally.check(f"a reference to {path}", p21_sarif.uri_of(path), wanted)
+        for path, wanted in OF_BAGIT.items():
+            tally.check(f"BagIt of {path}", p21_manifest.bagit_line(blank._replace(path=path)), b"0" * 64 + b"  " + wanted + b"\n")
+    tally.part(f"{made.name}, paths of Windows")
+
+
+def tools_tests(made, tally):
+    """The tests of the tools, as on Windows."""
+    run_by = f"{sys.executable} {TESTS / 'platforms' / 'as_windows.py'}"
+    environment = {**os.environ, "P21_TOOLS_RUN_BY": run_by, "P21_TOOLS_OTHERWISE": "".join(f"|{name}|" for name in TOOLS_OTHERWISE)}
+    for name in TOOLS_TESTS:
+        done = subprocess.run([TESTS / f"tools_{name}.py"], stdout=subprocess.PIPE, stderr=subprocess.STDOUT, check=False, env=environment, text=True)
+        tally.check(f"tools_{name}.py: {done.stdout[-2000:] if done.returncode else ''}", done.returncode, 0)
+        tally.part(f"{made.name}, tools_{name}.py", f": {done.stdout.rstrip().rpartition(chr(10))[2][:100]}")
+
+
 PARTS = {
-    WINDOWS: (files, versions, scripts, names, bytes_as_they_are, closed_pipes, of_windows, starters, refusals, library, tools),
+    WINDOWS: (files, versions, scripts, names, bytes_as_they_are, closed_pipes, of_windows, starters, refusals, library, tools, paths, tools_tests),
     ARM: (files, versions, scripts, names, bytes_as_they_are, closed_pipes, refusals, library),
 }
 
@@ -542,7 +588,10 @@ def tried(name, tally):
 def main():
     """Tries what is made for each system."""
     asked = sys.argv[1:] or [WINDOWS, ARM]
-    needs.wanted("rt", "qemu-aarch64", *(systems.SYSTEMS[name].compiler for name in (WINDOWS, ARM)))
+    needs.wanted("rt", "qemu-aarch64")
+    for name in asked:
+        if why := systems.missing(systems.SYSTEMS[name]):
+            needs.skipped(why)
     if not (shutil.which("wine64") or os.path.exists("/usr/lib/wine/wine64")):
         needs.skipped("there is no wine64")
     os.environ["P21"] = str(pathlib.Path(os.environ.get("P21", ROOT / "crates" / "p21" / "out" / "p21")).resolve())

@@ -29,6 +29,8 @@ BUILT = ("crates/p21/out/p21", "crates/p21/out/p21.o", "crates/p21_c/out/libp21_
 # What is compiled for other systems, with a note of what it was made of.
 OTHERS = ("aarch64-linux", "x86_64-windows")
 FOR_OTHERS = [f"platforms/out/{system}/{name}" for system in OTHERS for name in ("p21.o", "p21.made-of", "p21_c.o", "p21_c.made-of")]
+# What is compiled for the page, which else a release compiles again.
+FOR_PAGE = ["web/out/program.o", "web/out/program.made-of"]
 # Of the files of a release the tarball and the wheel of this system.
 TARBALL, WHEEL = "*-x86_64-linux.tar.gz", "*manylinux*_x86_64.whl"
 # What wheels call the other systems, and the files in their packages that are other than here.
@@ -121,7 +123,7 @@ def clone(folder):
     must(*git, "init", "-q", cwd=folder)
     must(*git, "add", "-A", cwd=folder)
     must(*git, "commit", "-q", "-m", "What stands here", cwd=folder)
-    for name in filter(lambda name: (ROOT / name).is_file(), (*BUILT, *FOR_OTHERS)):
+    for name in filter(lambda name: (ROOT / name).is_file(), (*BUILT, *FOR_OTHERS, *FOR_PAGE)):
         (folder / name).parent.mkdir(parents=True, exist_ok=True)
         shutil.copy2(ROOT / name, folder / name)
 

@@ -17,6 +17,10 @@ MOST_SECONDS = 300
 # What runs a command without the right of root to read whatever it is, so that root too may not read what is forbidden.
 AS_OTHERS = ["setpriv", "--bounding-set=-dac_override,-dac_read_search"] if os.geteuid() == 0 else []
 
+# What runs a tool in place of the system, and the rows that are otherwise then, each between bars, which are left out.
+RUN_BY = os.environ.get("P21_TOOLS_RUN_BY", "").split()
+OTHERWISE = os.environ.get("P21_TOOLS_OTHERWISE", "")
+
 # The files that stand in the repository are named from its top.
 os.chdir(ROOT)
 os.environ.setdefault("P21", str(ROOT / "p21"))
@@ -60,7 +64,7 @@ class Tests:
     def run(self, arguments, text=None, file=None, program=None, before=()):
         """What the tool writes to each stream, and its status. It is given a text by a pipe, or an open file. It may run another
         program, and be run by the words of another one before it."""
-        command = [*before, f"tools/{self.tool}", *(argument.format(here=self.here) for argument in arguments)]
+        command = [*before, *RUN_BY, f"tools/{self.tool}", *(argument.format(here=self.here) for argument in arguments)]
         given = {"input": text} if file is None else {"stdin": file}
         given["env"] = dict(os.environ, P21=program or self.program)
         done = subprocess.run(command, capture_output=True, check=False, timeout=MOST_SECONDS, **given)
@@ -77,7 +81,7 @@ class Tests:
     def full_disk(self, arguments):
         """What the tool says where nothing can be written to its output, and its status."""
         with open("/dev/full", "wb") as full:
-            done = subprocess.run([f"tools/{self.tool}", *arguments], stdout=full, stderr=subprocess.PIPE, check=False)
+            done = subprocess.run([*RUN_BY, f"tools/{self.tool}", *arguments], stdout=full, stderr=subprocess.PIPE, check=False)
         return done.stderr.decode(), done.returncode
 
     def peak(self, arguments):
@@ -93,6 +97,8 @@ class Tests:
 
     def judge(self, name, wanted, found):
         """One row: what is found is what is wanted."""
+        if f"|{name}|" in OTHERWISE:
+            return
         if wanted == found:
             self.passed += 1
         else:

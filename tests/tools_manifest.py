@@ -10,7 +10,7 @@ import signal
 import subprocess
 import time
 
-from tooling import AS_OTHERS, ROOT, Tests, file_of
+from tooling import AS_OTHERS, ROOT, RUN_BY, Tests, file_of
 
 BLOCK = "5d11fa2abae65fa2bff1265d357ae88c5adf85242cd77e53a1c8b9877eff411c"
 SCHEMA = str(ROOT / "examples" / "product.exp")
@@ -426,7 +426,7 @@ def writers(tests):
     program = tests.rigged("slow", f"case $1 in canon) touch {tests.here}/begun; sleep 60 ;; esac")
     command = ["tools/p21-table", "--manifest", str(manifest), SCHEMA, str(folder)]
     streams = {"stdout": subprocess.DEVNULL, "stderr": subprocess.DEVNULL}
-    first = subprocess.Popen(command, **streams, env=dict(os.environ, P21=program), start_new_session=True)
+    first = subprocess.Popen([*RUN_BY, *command], **streams, env=dict(os.environ, P21=program), start_new_session=True)
     try:
         end = time.monotonic() + 60
         while not (tests.here / "begun").exists() and time.monotonic() < end:

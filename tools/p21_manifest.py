@@ -10,7 +10,6 @@ A manifest may come from a stranger. Whatever it holds, nothing but plain files 
 
 import contextlib
 import enum
-import fcntl
 import hashlib
 import json
 import os
@@ -20,6 +19,7 @@ from typing import Any, Callable, Dict, Iterable, Iterator, List, NamedTuple, Op
 
 import p21_reading as reading
 import p21_shelf
+import p21_system as system
 from p21_reading import Status
 
 MANIFEST = 1
@@ -210,7 +210,7 @@ def is_hash(value: Any) -> bool:
 
 def bagit_line(entry: Entry) -> bytes:
     """The line of a file in a manifest of BagIt, in which line ends and % in paths are numbers."""
-    path = re.sub(b"[%\r\n]", lambda found: b"%%%02X" % ord(found[0]), os.fsencode(entry.path))
+    path = re.sub(b"[%\r\n]", lambda found: b"%%%02X" % ord(found[0]), os.fsencode(system.with_slashes(entry.path)))
     return entry.sha256.encode("ascii") + b"  " + path + b"\n"
 
 
@@ -249,7 +249,13 @@ class Base:
 
     def has(self, file: str) -> bool:
         """Does a file stand below the folder, where there is one, links resolved?"""
-        return self.folder is None or os.path.commonpath([self.top, os.path.realpath(file)]) == self.top
+        if self.folder is None:
+            return True
+        try:
+            return os.path.commonpath([self.top, os.path.realpath(file)]) == self.top
+        except ValueError:
+            # It stands on another drive of Windows.
+            return False
 
     def path_of(self, file: str) -> str:
         """The path by which a manifest names a file."""
@@ -258,7 +264,7 @@ class Base:
         if not self.has(file):
             raise reading.Trouble(f"{file} doesn't stand below {self.folder}")
         folder, name = os.path.split(os.path.abspath(file))
-        return os.path.relpath(os.path.join(os.path.realpath(folder), name), self.top)
+        return system.with_slashes(os.path.relpath(os.path.join(os.path.realpath(folder), name), self.top))
 
 
 # --- Verifying ---
@@ -443,7 +449,7 @@ class Written:
     def opened(self, flag: int) -> int:
         """The descriptor of the manifest, which is a plain file."""
         try:
-            descriptor = os.open(self.path, os.O_RDWR | os.O_APPEND | os.O_CREAT | os.O_NONBLOCK | flag, 0o666)
+            descriptor = os.open(self.path, os.O_RDWR | os.O_APPEND | os.O_CREAT | system.AS_IT_IS | flag, 0o666)
         except FileExistsError:
             raise reading.Trouble(f"{self.path} is there already: --resume goes on with it") from None
         except OSError as error:
@@ -455,7 +461,7 @@ class Written:
     def lock(self) -> None:
         """Takes the manifest for this process, at whose end it is free again, however it ends."""
         try:
-            fcntl.flock(self.file, fcntl.LOCK_EX | fcntl.LOCK_NB)
+            system.lock(self.file)
         except BlockingIOError:
             raise reading.Trouble(f"{self.path} is being written by another run") from None
         except OSError as error:

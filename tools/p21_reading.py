@@ -310,7 +310,7 @@ def plain(path: str) -> BinaryIO:
     descriptor = -1
     reason = why_not_plain(path)
     if reason not in (FOLDER, NOT_PLAIN):
-        descriptor = os.open(path, os.O_RDONLY | os.O_NONBLOCK)
+        descriptor = os.open(path, os.O_RDONLY | system.AS_IT_IS)
         if stat.S_ISREG(os.fstat(descriptor).st_mode):
             return open(descriptor, "rb", buffering=0)
         os.close(descriptor)
@@ -331,7 +331,7 @@ def why_not(path: str) -> Optional[str]:
         return FOLDER if os.access(path, os.R_OK | os.X_OK) else FORBIDDEN
     try:
         # A pipe isn't waited for.
-        os.close(os.open(path, os.O_RDONLY | os.O_NONBLOCK))
+        os.close(os.open(path, os.O_RDONLY | system.AS_IT_IS))
     except OSError as error:
         return reason_of(error)
     return None

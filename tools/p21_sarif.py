@@ -6,6 +6,7 @@ import urllib.parse
 from typing import Any, Callable, Dict, Sequence, Tuple
 
 import p21_reading as reading
+import p21_system as system
 
 Json = Dict[str, Any]
 SCHEMA = "https://docs.oasis-open.org/sarif/sarif/v2.1.0/errata01/os/schemas/sarif-schema-2.1.0.json"
@@ -13,8 +14,13 @@ SCHEMA = "https://docs.oasis-open.org/sarif/sarif/v2.1.0/errata01/os/schemas/sar
 
 def uri_of(file: str) -> str:
     """The name of a file as a reference: relative where the name is, with each byte that has no place there by its number."""
-    escaped = urllib.parse.quote(os.fsencode(file))
-    return f"file://{escaped}" if os.path.isabs(file) else escaped
+    path = system.with_slashes(file)
+    if not os.path.isabs(file):
+        return urllib.parse.quote(os.fsencode(path))
+    escaped = urllib.parse.quote(os.fsencode(path), safe="/:" if system.IS_WINDOWS else "/")
+    # On Windows a path begins with a drive, as C:, or with two slashes and the name of a server.
+    front = "/" if not path.startswith("/") else ""
+    return f"file:{escaped}" if system.IS_WINDOWS and path.startswith("//") else f"file://{front}{escaped}"
 
 
 def refusals(program: str) -> Dict[str, Tuple[str, str]]:

@@ -5,12 +5,13 @@ import atexit
 import contextlib
 import errno
 import glob
+import importlib
 import os
 import shutil
 import signal
 import sys
 import tempfile
-from typing import IO, Callable, List, Sequence, Set
+from typing import IO, Any, Callable, List, Sequence, Set
 
 IS_WINDOWS = os.name == "nt"
 # The program as a file.
@@ -21,6 +22,10 @@ STANDARD_INPUT = "/dev/stdin"
 OPEN_HERE = ("/dev/", "/proc/")
 # A status from here on is no program's own: Windows ended it.
 FIRST_OF_WINDOWS = 1 << 31
+# How a descriptor is opened: a pipe isn't waited for, where a path can lead to one, and no byte of a text becomes another.
+AS_IT_IS = getattr(os, "O_NONBLOCK", 0) | getattr(os, "O_BINARY", 0)
+# The byte of a file that is locked on Windows, where others can't read it meanwhile: one behind the end of any usual file.
+LOCKED = (1 << 31) - 2
 # The copies that were made on Windows, by their paths.
 COPIES: Set[str] = set()
 
@@ -67,6 +72,28 @@ def status_of(returned: int) -> int:
 def processors() -> int:
     """How many processors this process may use."""
     return (os.cpu_count() or 1) if IS_WINDOWS else len(os.sched_getaffinity(0))
+
+
+def lock(file: int) -> None:
+    """Takes an open file for this process, at whose end it is free again, however it ends. Where another one has it, that is a
+    BlockingIOError."""
+    if not IS_WINDOWS:
+        fcntl: Any = importlib.import_module("fcntl")
+        fcntl.flock(file, fcntl.LOCK_EX | fcntl.LOCK_NB)
+        return
+    msvcrt: Any = importlib.import_module("msvcrt")
+    os.lseek(file, LOCKED, os.SEEK_SET)
+    try:
+        msvcrt.locking(file, msvcrt.LK_NBLCK, 1)
+    except PermissionError as error:
+        raise BlockingIOError(errno.EAGAIN, error.strerror) from None
+    finally:
+        os.lseek(file, 0, os.SEEK_SET)
+
+
+def with_slashes(path: str) -> str:
+    """A path as a manifest or a reference has it, which other systems read too."""
+    return path.replace("\\", "/") if IS_WINDOWS else path
 
 
 def is_own(path: str) -> bool:

@@ -3,7 +3,9 @@ theirs, and how what is compiled of it is linked."""
 
 import pathlib
 import re
-from typing import List, NamedTuple, Tuple
+import shutil
+import subprocess
+from typing import List, NamedTuple, Optional, Tuple
 
 from release.backend import ROOT, Target, Word
 
@@ -13,13 +15,13 @@ FLAGS = ("-std=c11", "-Wall", "-Wextra", "-Werror", "-O2", "-s", f"-ffile-prefix
 
 
 class System(NamedTuple):
-    """How the program and the library are made for a system: the target, the compiler that links them and its package, the
-    libraries of other packages that are linked in, the files of C of the program, the words for it and for the library, what both are called,
+    """How the program and the library are made for a system: the target, the compiler that links them and the packages that it
+    takes, the libraries of these packages that are linked in, the files of C of the program, the words for it and for the library, what both are called,
     and what wheels call the system."""
 
     target: Target
     compiler: str
-    package: str
+    packages: Tuple[str, ...]
     linked: Tuple[str, ...]
     host: Tuple[str, ...]
     program_words: Tuple[str, ...]
@@ -52,7 +54,7 @@ SYSTEMS = {
             changed=for_windows,
         ),
         compiler="x86_64-w64-mingw32-gcc",
-        package="gcc-mingw-w64-x86-64",
+        packages=("gcc-mingw-w64-x86-64",),
         linked=("libmingw32.a", "libgcc.a"),
         host=("windows.c", "memory.c"),
         program_words=("-municode", "-static", "-Wl,--stack,8388608", "-Wl,--no-insert-timestamp"),
@@ -70,7 +72,7 @@ SYSTEMS = {
             gained='"target-cpu"="generic"',
         ),
         compiler="aarch64-linux-gnu-gcc",
-        package="gcc-aarch64-linux-gnu",
+        packages=("gcc-aarch64-linux-gnu", "libc6-dev-arm64-cross"),
         linked=("libc.a", "libgcc.a"),
         host=("posix.c", "memory.c"),
         program_words=("-static", "-Wl,--build-id=none"),
@@ -87,6 +89,18 @@ SYSTEMS = {
         wheels=("manylinux_2_17_aarch64", "manylinux2014_aarch64"),
     ),
 }
+
+
+def missing(system: System) -> Optional[str]:
+    """What links for a system and isn't here, with the packages that have it, or None."""
+    if shutil.which(system.compiler):
+        asked = {name: [system.compiler, f"-print-file-name={name}"] for name in system.linked}
+        found = {name: subprocess.run(words, check=True, stdout=subprocess.PIPE, text=True).stdout.strip() for name, words in asked.items()}
+        # Of a library that it doesn't find the compiler says the bare name.
+        lacking = [name for name, path in found.items() if path == name]
+    else:
+        lacking = [system.compiler]
+    return f"there is no {lacking[0]} of Debian's {' and '.join(system.packages)}" if lacking else None
 
 
 def object_file(crate: str, system: System) -> pathlib.Path:

@@ -1,5 +1,6 @@
 -- What `p21 same` says of two files.
-use Rattle.std.proofs.Common.{◌≡◌, ◌⊎◌, ℕ, Bool, List, Option, inl, inr, subst, sym, string_bytes}
+use Rattle.std.specs.Io.KnownBytes.{Keeps}
+use Rattle.std.proofs.Common.{◌≡◌, ◌⊎◌, ◌++◌, ℕ, Bool, true, false, List, [], ◌∷◌, Option, inl, inr, refl, subst, sym, string_bytes}
 use Rattle.std.proofs.KnownBytes.{Keeps-refl}
 use Rattle.p21_spec_basics.specs.Limits.{Limits, usual}
 use Rattle.p21_stream_io.specs.Transfer.{AppendsPartOf}
@@ -7,7 +8,13 @@ use Rattle.p21_commands.specs.declared.fault.CommandFault.{CommandFault}
 use Rattle.p21_commands.specs.declared.fault.CommandFault.TheVariants.{Refused, NoMemory, Read, Write}
 use Rattle.p21_commands.specs.Files.{IsFileRefused}
 use Rattle.p21_commands.specs.Refusals.{IsFaultOf}
-use Rattle.p21_commands.specs.Same.{IsAnswered, IsCompared, IsFirstAccepted, IsRefused, read_of, same_answer_line, word_of}
+use Rattle.p21_commands.specs.Same.{EndsComparing, IsAnswered, IsCompared, IsFirstAccepted, IsRefused, read_in, read_of, same_answer_line, word_of}
+use Rattle.p21_commands.specs.Failures.{Failures, FailedBy, NoneFailed}
+use Rattle.p21_commands.specs.Fault.{Reports}
+use Rattle.p21_commands.specs.Status.{done, refused}
+use Rattle.p21_commands.specs.Streams.{PairStreams}
+use Rattle.p21_commands.specs.Transfer.{Writes}
+use Rattle.p21_commands.proofs.Reporting.{failure_reported, not_done, refusal-kept, refusal_written, reported_status, unfailed}
 use Rattle.p21_commands.proofs.FileFailing.{file-refused, not-written, refused-of}
 use Rattle.p21_commands.specs.Command.{FailsBy}
 use Rattle.p21_commands.specs.Load.{DeclaresRead}
@@ -70,3 +77,43 @@ first-or_accepted Unread schema first_old first_new second_old second_new s limi
 -- a write fault leaves a part of the answer
 pub answer-fails : (IsAnswer IsRefusal : List ℕ → Type 0) (old new : Option (List ℕ)) (line : List ℕ) (fault : CommandFault) → IsAnswer line → AppendsPartOf old new line → fault ≡ Write → FailsBy IsAnswer IsRefusal old new fault
 answer-fails IsAnswer IsRefusal old new line fault is part same = subst (FailsBy IsAnswer IsRefusal old new) (sym same) (record { line = line; is_line = is; part = part })
+
+-- ---- how the command ends
+
+module _ (streams : PairStreams) where
+  abbrev readers : List Failures
+  readers = streams.schema.failures ∷ streams.first.failures ∷ streams.second.failures ∷ []
+
+  pub comparing-reported : (fault : CommandFault) (status : ℕ) → FailsBy (IsAnswered (read_in streams)) (IsRefused (read_in streams)) streams.output.before streams.output.behind fault
+      → FailedBy readers (streams.output.failures ∷ []) fault → Reports fault status streams.faults → EndsComparing streams status
+  comparing-reported fault status f b r =
+      let IsAnswer = IsAnswered (read_in streams) in
+      let IsRefusal = IsRefused (read_in streams) in record {
+        status = inr (reported_status streams.faults fault status r);
+        answered = λ e. absurd (not_done streams.faults fault status r e);
+        silent = λ e. absurd (not_done streams.faults fault status r e);
+        refused = λ e. inr (refusal_written streams.faults IsAnswer IsRefusal streams.output fault status f r e, refusal-kept IsAnswer IsRefusal streams.output.before streams.output.behind streams.faults fault status f r e);
+        failed = failure_reported streams.faults IsAnswer IsRefusal streams.output readers fault status f b r;
+        unfailed = unfailed streams.faults readers streams.output.failures fault status b r;
+      }
+
+  module _ (same : Bool) (writes : Writes (IsCompared (read_in streams) same) streams.output.before streams.output.behind) (keeps : Keeps streams.faults.before streams.faults.behind) (none : NoneFailed (readers ++ streams.output.failures ∷ streams.faults.failures ∷ [])) where
+    pub comparing-same : same ≡ true → EndsComparing streams done
+    comparing-same is = record {
+      status = inl refl;
+      answered = λ e. subst (λ (b : Bool). Writes (IsCompared (read_in streams) b) streams.output.before streams.output.behind) is writes;
+      silent = λ e. keeps;
+      refused = λ e. cc e;
+      failed = λ e. cc e;
+      unfailed = λ e. none;
+    }
+
+    pub comparing-different : same ≡ false → EndsComparing streams refused
+    comparing-different is = record {
+      status = inr (inl refl);
+      answered = λ e. cc e;
+      silent = λ e. cc e;
+      refused = λ e. inl (subst (λ (b : Bool). Writes (IsCompared (read_in streams) b) streams.output.before streams.output.behind) is writes, keeps);
+      failed = λ e. cc e;
+      unfailed = λ e. none;
+    }

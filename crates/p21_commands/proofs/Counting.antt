@@ -1,8 +1,7 @@
 -- Which calls failed where a file is refused, by what a command answers to the refusal.
-use Rattle.std.proofs.Common.{◌≡◌, ◌∙◌, ℕ, List, [], ◌∷◌, Option, Result, Ok, Err, IfErr, inl, ap, refl, sym, subst}
-use Rattle.std.specs.Prelude.{OnErr, OnOk}
+use Rattle.std.proofs.Common.{◌≡◌, ◌∙◌, ℕ, List, [], ◌∷◌, Option, inl, ap, refl}
 use Rattle.p21_spec_basics.specs.Limits.{Limits}
-use Rattle.p21_commands.specs.Failures.{Failures, FailedBy, NoneFailed}
+use Rattle.p21_commands.specs.Failures.{Failures, FailedBy}
 use Rattle.p21_commands.specs.declared.fault.CommandFault.{CommandFault}
 use Rattle.p21_commands.specs.declared.fault.CommandFault.TheVariants.{Refused, NoMemory, Read, Write}
 use Rattle.p21_commands.proofs.Failing.{after_reading, before_reading}
@@ -13,7 +12,6 @@ use Rattle.p21_stream.specs.Answers.{FailsToCompare, first_failures, second_fail
 use Rattle.p21_stream.specs.ReaderInput.{RefusesRead, read_failures, write_failures}
 use Rattle.p21_stream.specs.declared.comparing.Which.{Which}
 use Rattle.p21_stream.specs.declared.comparing.Which.TheVariants.{First, Second}
-use Rattle.p21_stream_io.specs.Watch.{one_call_more}
 use Rattle.p21_stream_statements.specs.declared.fault.Fault.{Fault}
 use Rattle.p21_stream_statements.specs.declared.fault.Fault.TheVariants as file
 use Rattle.p21_stream_statements.specs.declared.refusal.Refusal.{Refusal}
@@ -52,13 +50,3 @@ comparing-failed s limits first_old first_new second_old second_new word first s
     before_reading first (second ∷ []) [] fault (reading-failed s limits first_old first_new word first refusal fault is fails.0 a) (b, tt)
 comparing-failed s limits first_old first_new second_old second_new word first second Second refusal fault is fails a b =
     after_reading first (second ∷ []) [] fault a (reading-failed s limits second_old second_new word second refusal fault is fails.1 b)
-
--- ---- a line written behind two files that were read
-
-pub read-written : (result : Result (Unit {0}) CommandFault) (schema file writer : Failures) → NoneFailed (schema ∷ file ∷ []) → OnOk result (writer.after ≡ writer.before) → OnOk result (NoneFailed (schema ∷ file ∷ writer ∷ []))
-read-written (Ok done) schema file writer read same = (read.0, (read.1.0, (same, tt)))
-read-written (Err fault) schema file writer read same = tt
-
-pub read-unwritten : (result : Result (Unit {0}) CommandFault) (schema file writer : Failures) → NoneFailed (schema ∷ file ∷ []) → IfErr result (λ fault. fault ≡ Write) → OnErr result (writer.after ≡ one_call_more writer.before) → IfErr result (FailedBy (schema ∷ file ∷ []) (writer ∷ []))
-read-unwritten (Ok done) schema file writer read is failed = tt
-read-unwritten (Err fault) schema file writer read is failed = subst (λ (f : CommandFault). FailedBy (schema ∷ file ∷ []) (writer ∷ []) f) (sym is) (read, inl (failed, tt))

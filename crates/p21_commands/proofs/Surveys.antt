@@ -1,27 +1,27 @@
 -- What a survey of a file has to say.
 use Rattle.std.specs.Prelude.{OnErr, OnOk}
 use Rattle.std.specs.Io.KnownBytes.{Appends}
-use Rattle.std.proofs.Common.{◌≡◌, ◌≢◌, ◌⊎◌, ◌||◌, ◌∙◌, ℕ, true, false, List, [], ◌∷◌, Option, None, Result, Ok, Err, inl, inr, ap, refl, subst, sym, string_bytes}
+use Rattle.std.proofs.Common.{◌≡◌, ◌≢◌, ◌⊎◌, ◌||◌, ◌∙◌, ℕ, true, false, List, [], ◌∷◌, Option, Result, Ok, Err, inl, inr, ap, refl, subst, sym, string_bytes}
 use Rattle.std.proofs.KnownBytes.{Keeps-refl}
 use Rattle.std.proofs.lemmas.Bool.{or_cases, or_right}
 use Rattle.std.specs.List.{AllByRecursion as Each}
 use Rattle.std.proofs.lemmas.List.Folds.{list_any-append}
 use Rattle.p21_spec_basics.specs.Limits.{Limits, usual}
 use Rattle.p21_commands.specs.Check.{IsChecked}
-use Rattle.p21_commands.specs.CheckAll.{Answers, AnswersNothing, FailsToRead, Gets, IsFailedBy, IsListedUnder, IsReadBy, IsSurveyed, Lists, has_read_fault, is_read, listed_text}
-use Rattle.p21_commands.specs.Command.{Fails, FailsBy, written_by}
+use Rattle.p21_commands.specs.CheckAll.{Answers, EndsListing, FailsToRead, Gets, IsFailedBy, IsListedUnder, IsReadBy, IsSurveyed, Lists, has_read_fault, is_read, listed_text}
+use Rattle.p21_commands.specs.Command.{Ends}
 use Rattle.p21_commands.specs.Failures.{Failures, NoneFailed}
-use Rattle.p21_commands.specs.Fault.{Reports, fault_line}
+use Rattle.p21_commands.specs.Fault.{Reports, fault_line, fault_status}
 use Rattle.p21_commands.specs.Files.{IsAcceptedUnder}
 use Rattle.p21_commands.specs.Load.{DeclaresRead}
-use Rattle.p21_commands.specs.Status.{failed, refused}
+use Rattle.p21_commands.specs.Refusing.{RefusesWith}
+use Rattle.p21_commands.specs.Status.{failed}
+use Rattle.p21_commands.specs.Streams.{OfRead, Stream, Streams, stream_of}
 use Rattle.p21_commands.specs.declared.check_all.Answer.{Answer}
 use Rattle.p21_commands.specs.declared.check_all.Answer.TheVariants.{Accepted, Refused, Unread}
 use Rattle.p21_commands.specs.declared.fault.CommandFault.{CommandFault}
 use Rattle.p21_commands.specs.declared.fault.CommandFault.TheVariants as command
-use Rattle.p21_commands.specs.Transfer.{Writes}
-use Rattle.p21_commands.proofs.Failing.{before_writing}
-use Rattle.p21_commands.proofs.Reporting.{failure_reported, refusal_written}
+use Rattle.p21_commands.proofs.Reporting.{ends-unanswered}
 use Rattle.p21_spec_schema.specs.Schema.{Schema}
 use Rattle.p21_stream.proofs.SurveyEnding.{read-last}
 use Rattle.p21_stream.specs.Survey.{EndsByRead, ListsAtMost, SurveysInput, asked_for}
@@ -29,7 +29,7 @@ use Rattle.p21_stream.specs.declared.listing.Refusals.{Refusals}
 use Rattle.p21_stream.specs.declared.listing.Surveyed.{Surveyed}
 use Rattle.p21_stream.specs.declared.listing.Surveyed.TheVariants as surveyed
 use Rattle.p21_stream_io.specs.Transfer.{AppendsPartOf}
-use Rattle.p21_stream_io.specs.Watch.{one_call_more}
+use Rattle.p21_stream_io.specs.Watch.{Watch, one_call_more}
 use Rattle.p21_stream_output.specs.Output.{Output}
 use Rattle.p21_stream_statements.specs.declared.fault.Fault.{Fault}
 use Rattle.p21_stream_statements.specs.declared.fault.Fault.TheVariants as file
@@ -97,38 +97,58 @@ module _ (s : Schema) (limits : Limits) (old new : Option (List ℕ)) (found : S
 
 -- ---- how the command ends
 
-no-answer : (most : ℕ) (schema old new output : Option (List ℕ)) (fault : CommandFault) → AnswersNothing most schema old new fault → FailsBy (IsChecked schema old new) (IsListedUnder most schema old new) output output fault
-no-answer most schema old new output (command.Refused line) is = (is, Keeps-refl output)
-no-answer most schema old new output command.NoMemory is = Keeps-refl output
-no-answer most schema old new output command.Read is = Keeps-refl output
-no-answer most schema old new output command.Write is = absurd is
+module _ (most : ℕ) (streams : Streams) (status : ℕ) where
+  -- where no read of the file failed, it ends as others do
+  pub listing-ends : Ends (OfRead IsChecked streams) (OfRead (IsListedUnder most) streams) (streams.schema.failures ∷ []) streams.output streams.faults status → NoneFailed (streams.file.failures ∷ []) → EndsListing most streams status
+  listing-ends ends none = record {
+    status = ends.status;
+    answered = ends.answered;
+    silent = ends.silent;
+    refused = ends.refused;
+    unwritten = ends.unwritten;
+    failed = λ e. inl (ends.failed e, none);
+    unfailed = λ e. ((ends.unfailed e).0, (none.0, (ends.unfailed e).1));
+  }
 
-pub unanswered-refused : (most : ℕ) (schema old new faults_old faults_new : Option (List ℕ)) (calls : Failures) (fault : CommandFault) (status : ℕ) → AnswersNothing most schema old new fault → Reports fault status faults_old faults_new calls → status ≡ refused → Writes (IsListedUnder most schema old new) faults_old faults_new
-unanswered-refused most schema old new faults_old faults_new calls fault status is r e = refusal_written faults_old faults_new calls (IsChecked schema old new) (IsListedUnder most schema old new) None None fault status (no-answer most schema old new None fault is) r e
+  pub listing-unread : status ≡ failed → FailsToRead most streams → EndsListing most streams status
+  listing-unread is fails = record {
+    status = inr (inr is);
+    answered = λ e. cc (is, e);
+    silent = λ e. cc (is, e);
+    refused = λ e. cc (is, e);
+    unwritten = λ e. cc (is, e);
+    failed = λ e. inr fails;
+    unfailed = λ e. absurd (e is);
+  }
 
-memory-gets : (old new : Option (List ℕ)) (calls : Failures) (fault : CommandFault) (status : ℕ) → fault ≡ command.NoMemory → Reports fault status old new calls → Gets (fault_line command.NoMemory) (written_by old new calls)
-memory-gets old new calls fault status is (inl r) = inl (subst (λ (f : CommandFault). Appends old new (fault_line f)) is r.1, r.2)
-memory-gets old new calls fault status is (inr r) = inr (subst (λ (f : CommandFault). AppendsPartOf old new (fault_line f)) is r.1, r.2)
+memory-gets : (faults : Stream) (fault : CommandFault) (status : ℕ) → fault ≡ command.NoMemory → Reports fault status faults → Gets (fault_line command.NoMemory) faults
+memory-gets faults fault status is (inl r) = inl (subst (λ (f : CommandFault). Appends faults.before faults.behind (fault_line f)) is r.1, r.2)
+memory-gets faults fault status is (inr r) = inr (subst (λ (f : CommandFault). AppendsPartOf faults.before faults.behind (fault_line f)) is r.1, r.2)
 
-module _ (most : ℕ) (schema old new output faults_old faults_new : Option (List ℕ)) (schema_calls file_calls output_calls faults_calls : Failures) where
-  pub unanswered-failed : (fault : CommandFault) (status : ℕ) → AnswersNothing most schema old new fault → IsFailedBy schema_calls file_calls fault → NoneFailed (output_calls ∷ []) → Reports fault status faults_old faults_new faults_calls → status ≡ failed
-      → (Fails (IsChecked schema old new) (IsListedUnder most schema old new) output output faults_old faults_new (schema_calls ∷ []) output_calls faults_calls × NoneFailed (file_calls ∷ []))
-      ⊎ FailsToRead most schema old new schema_calls file_calls (written_by output output output_calls) (written_by faults_old faults_new faults_calls)
-  unanswered-failed fault status is (inl by) none r e = inl (
-    failure_reported faults_old faults_new faults_calls (IsChecked schema old new) (IsListedUnder most schema old new) output output (schema_calls ∷ []) output_calls fault status (no-answer most schema old new output fault is) (before_writing (schema_calls ∷ []) (output_calls ∷ []) fault by.0 none) r e,
-    by.1,
-  )
-  unanswered-failed fault status is (inr by) none r e = inr (record {
+memory-fails : (faults : Stream) (fault : CommandFault) (status : ℕ) → fault ≡ command.NoMemory → Reports fault status faults → status ≡ failed
+memory-fails faults fault status is (inl r) = r.0 ∙ ap fault_status is
+memory-fails faults fault status is (inr r) = r.0
+
+-- nothing was written to the output
+module _ (most : ℕ) (schema file faults : Stream) {W : Type 0} (bytes : W → Option (List ℕ)) (writer : Watch W) where
+  abbrev pub unwritten_streams : Streams
+  unwritten_streams = record { schema = schema; file = file; output = stream_of bytes writer writer; faults = faults }
+
+  pub unanswered-listing : (fault : CommandFault) (status : ℕ) → RefusesWith (IsListedUnder most schema.before file.before file.behind) fault → IsFailedBy schema.failures file.failures fault → Reports fault status faults → EndsListing most unwritten_streams status
+  unanswered-listing fault status is (inl by) r =
+      listing-ends most unwritten_streams status
+      (ends-unanswered (OfRead IsChecked unwritten_streams) (OfRead (IsListedUnder most) unwritten_streams) (schema.failures ∷ []) bytes writer faults fault status is by.0 r) by.1
+  unanswered-listing fault status is (inr by) r = listing-unread most unwritten_streams status (memory-fails faults fault status by.0 r) (record {
     text = fault_line command.NoMemory;
     is_text = inr refl;
-    gets = memory-gets faults_old faults_new faults_calls fault status by.0 r;
-    unwritten = Keeps-refl output;
+    gets = memory-gets faults fault status by.0 r;
+    unwritten = Keeps-refl (bytes writer.inner);
     failed = by.2;
-    others = (by.1.0, none);
+    others = (by.1.0, (refl, tt));
   })
 
 -- the text of a file of which a read failed
-pub text-gets : (result : Result (Unit {0}) CommandFault) (old new : Option (List ℕ)) (calls : Failures) (text bytes : List ℕ) → bytes ≡ text
-    → OnOk result (Appends old new bytes) → OnErr result (AppendsPartOf old new bytes) → OnOk result (calls.after ≡ calls.before) → OnErr result (calls.after ≡ one_call_more calls.before) → Gets text (written_by old new calls)
-text-gets (Ok done) old new calls text bytes is ok part none one = inl (subst (λ (bs : List ℕ). Appends old new bs) is ok, (none, tt))
-text-gets (Err fault) old new calls text bytes is ok part none one = inr (subst (λ (bs : List ℕ). AppendsPartOf old new bs) is part, inl (one, tt))
+pub text-gets : (result : Result (Unit {0}) CommandFault) (faults : Stream) (text bytes : List ℕ) → bytes ≡ text
+    → OnOk result (Appends faults.before faults.behind bytes) → OnErr result (AppendsPartOf faults.before faults.behind bytes) → OnOk result (faults.failures.after ≡ faults.failures.before) → OnErr result (faults.failures.after ≡ one_call_more faults.failures.before) → Gets text faults
+text-gets (Ok done) faults text bytes is ok part none one = inl (subst (λ (bs : List ℕ). Appends faults.before faults.behind bs) is ok, (none, tt))
+text-gets (Err fault) faults text bytes is ok part none one = inr (subst (λ (bs : List ℕ). AppendsPartOf faults.before faults.behind bs) is part, inl (one, tt))

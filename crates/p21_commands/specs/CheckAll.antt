@@ -1,14 +1,17 @@
 -- What `p21 check --all` answers: a text of what a survey finds of the file.
-use Rattle.std.specs.Prelude.{Option, ◌≡◌, ◌⊎◌, ℕ, List, Bool, true, false, not, [], ◌∷◌, ◌++◌, if◌then◌else◌, codes, count_by, decimal, flat_map, string_bytes}
+use Rattle.std.specs.Prelude.{Option, ◌≡◌, ◌≢◌, ◌⊎◌, ℕ, List, Bool, true, false, not, [], ◌∷◌, ◌++◌, if◌then◌else◌, codes, count_by, decimal, flat_map, string_bytes}
 use Rattle.std.specs.Io.KnownBytes.{Appends, Keeps}
 use Rattle.std.specs.List.{list_any}
 use Rattle.p21_spec_basics.specs.Limits.{usual}
 use Rattle.p21_commands.specs.Check.{IsChecked}
-use Rattle.p21_commands.specs.Command.{Written}
+use Rattle.p21_commands.specs.Command.{Fails}
 use Rattle.p21_commands.specs.Failures.{Failures, FailedBy, NoneFailed, OneFailed}
 use Rattle.p21_commands.specs.Fault.{fault_line}
 use Rattle.p21_commands.specs.Load.{DeclaresRead, IsSchemaRefused}
 use Rattle.p21_commands.specs.Refusals.{refusal_line}
+use Rattle.p21_commands.specs.Status as statuses
+use Rattle.p21_commands.specs.Streams.{OfRead, Stream, Streams}
+use Rattle.p21_commands.specs.Transfer.{Writes}
 use Rattle.p21_commands.specs.declared.check_all.Answer.{Answer}
 use Rattle.p21_commands.specs.declared.check_all.Answer.TheVariants.{Accepted, Refused, Unread}
 use Rattle.p21_commands.specs.declared.fault.CommandFault.{CommandFault}
@@ -79,18 +82,32 @@ IsUnread most schema file_old file_new text = (refusals : Refusals) × IsSurveye
 -- ---- a read that failed
 
 -- the writer got the text and didn't fail, or it failed and got only a part of the text
-abbrev pub Gets : List ℕ → Written → Type 0
+abbrev pub Gets : List ℕ → Stream → Type 0
 Gets text writer = (Appends writer.before writer.behind text × NoneFailed (writer.failures ∷ [])) ⊎ (AppendsPartOf writer.before writer.behind text × OneFailed (writer.failures ∷ []))
 
 -- One read of the file failed, and none of the schema: the fault output gets the text about what was found, or the line of want of
 -- memory. The output is as it was
-pub record FailsToRead (most : ℕ) (schema file_old file_new : Option (List ℕ)) (schema_calls file_calls : Failures) (output faults : Written) : Type 0 where
+pub record FailsToRead (most : ℕ) (streams : Streams) : Type 0 where
   pub text : List ℕ
-  pub is_text : IsUnread most schema file_old file_new text ⊎ (text ≡ fault_line command.NoMemory)
-  pub gets : Gets text faults
-  pub unwritten : Keeps output.before output.behind
-  pub failed : OneFailed (file_calls ∷ [])
-  pub others : NoneFailed (schema_calls ∷ output.failures ∷ [])
+  pub is_text : OfRead (IsUnread most) streams text ⊎ (text ≡ fault_line command.NoMemory)
+  pub gets : Gets text streams.faults
+  pub unwritten : Keeps streams.output.before streams.output.behind
+  pub failed : OneFailed (streams.file.failures ∷ [])
+  pub others : NoneFailed (streams.schema.failures ∷ streams.output.failures ∷ [])
+
+-- no read of the file failed: a fault of memory, of the schema's reader or of the output, or lines that could not be written
+abbrev pub FailsToList : ℕ → Streams → Type 0
+FailsToList most streams = Fails (OfRead IsChecked streams) (OfRead (IsListedUnder most) streams) (streams.schema.failures ∷ []) streams.output streams.faults × NoneFailed (streams.file.failures ∷ [])
+
+-- How the command ends, by its status, as `Ends` says of others; but a read of the file that fails leaves the lines of what was found
+pub record EndsListing (most : ℕ) (streams : Streams) (answer : ℕ) : Type 0 where
+  pub status : (answer ≡ statuses.done) ⊎ (answer ≡ statuses.refused) ⊎ (answer ≡ statuses.failed)
+  pub answered : answer ≡ statuses.done → Writes (OfRead IsChecked streams) streams.output.before streams.output.behind
+  pub silent : answer ≡ statuses.done → Keeps streams.faults.before streams.faults.behind
+  pub refused : answer ≡ statuses.refused → Writes (OfRead (IsListedUnder most) streams) streams.faults.before streams.faults.behind
+  pub unwritten : answer ≡ statuses.refused → Keeps streams.output.before streams.output.behind
+  pub failed : answer ≡ statuses.failed → FailsToList most streams ⊎ FailsToRead most streams
+  pub unfailed : answer ≢ statuses.failed → NoneFailed (streams.schema.failures ∷ streams.file.failures ∷ streams.output.failures ∷ streams.faults.failures ∷ [])
 
 -- ---- the steps of the command
 
@@ -99,13 +116,6 @@ abbrev pub Answers : ℕ → Option (List ℕ) → Option (List ℕ) → Option 
 Answers most schema file_old file_new (Accepted line) = IsChecked schema file_old file_new (string_bytes line)
 Answers most schema file_old file_new (Refused text) = IsListed most schema file_old file_new (string_bytes text)
 Answers most schema file_old file_new (Unread text) = IsUnread most schema file_old file_new (string_bytes text)
-
--- there is no answer: the schema is refused, or memory or a reader failed
-abbrev pub AnswersNothing : ℕ → Option (List ℕ) → Option (List ℕ) → Option (List ℕ) → CommandFault → Type 0
-AnswersNothing most schema file_old file_new (command.Refused line) = IsListedUnder most schema file_old file_new (string_bytes line)
-AnswersNothing most schema file_old file_new command.NoMemory = Unit {0}
-AnswersNothing most schema file_old file_new command.Read = Unit {0}
-AnswersNothing most schema file_old file_new command.Write = ⊥
 
 -- which calls of the readers of a schema and a file failed, by the answer
 abbrev pub IsReadBy : Failures → Failures → Answer → Type 0

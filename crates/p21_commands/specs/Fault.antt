@@ -1,7 +1,8 @@
 -- The line and the exit status of each fault of a command.
-use Rattle.std.specs.Prelude.{Option, ◌≡◌, ◌⊎◌, ℕ, List, [], ◌∷◌, codes, string_bytes}
+use Rattle.std.specs.Prelude.{◌≡◌, ◌⊎◌, ℕ, List, [], ◌∷◌, codes, string_bytes}
 use Rattle.std.specs.Io.KnownBytes.{Appends}
-use Rattle.p21_commands.specs.Failures.{Failures, NoneFailed, OneFailed}
+use Rattle.p21_commands.specs.Failures.{NoneFailed, OneFailed}
+use Rattle.p21_commands.specs.Streams.{Stream}
 use Rattle.p21_stream_io.specs.Transfer.{AppendsPartOf}
 use Rattle.p21_commands.specs.Status.{failed, refused}
 use Rattle.p21_commands.specs.declared.fault.CommandFault.{CommandFault}
@@ -21,6 +22,6 @@ fault_status fault = failed
 
 -- the fault output has the line of the fault, with its status; or it failed and has only a part of the line, with the
 -- status of a write fault
-abbrev pub Reports : CommandFault → ℕ → Option (List ℕ) → Option (List ℕ) → Failures → Type 0
-Reports fault status old new failures = ((status ≡ fault_status fault) × Appends old new (fault_line fault) × NoneFailed (failures ∷ []))
-    ⊎ ((status ≡ failed) × AppendsPartOf old new (fault_line fault) × OneFailed (failures ∷ []))
+abbrev pub Reports : CommandFault → ℕ → Stream → Type 0
+Reports fault status faults = ((status ≡ fault_status fault) × Appends faults.before faults.behind (fault_line fault) × NoneFailed (faults.failures ∷ []))
+    ⊎ ((status ≡ failed) × AppendsPartOf faults.before faults.behind (fault_line fault) × OneFailed (faults.failures ∷ []))

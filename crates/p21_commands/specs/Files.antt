@@ -1,14 +1,11 @@
 -- A file read under a schema.
-use Rattle.std.specs.Prelude.{Option, ◌≡◌, ◌⊎◌, ℕ, List, [], string_bytes}
+use Rattle.std.specs.Prelude.{Option, ◌≡◌, ◌⊎◌, ℕ, List, []}
 use Rattle.std.specs.Io.KnownBytes.{Keeps}
 use Rattle.p21_spec_basics.specs.Limits.{usual}
-use Rattle.p21_commands.specs.declared.fault.CommandFault.{CommandFault}
-use Rattle.p21_commands.specs.declared.fault.CommandFault.TheVariants.{Refused, NoMemory, Read, Write}
 use Rattle.p21_commands.specs.Refusals.{IsOfFile, refusal_line}
 use Rattle.p21_commands.specs.Load.{DeclaresRead, IsSchemaRefused}
 use Rattle.p21_spec_schema.specs.Schema.{Schema}
-use Rattle.p21_stream.specs.ReaderInput.{IsAcceptedInput, IsCountedInput, IsRefused, RefusesRead}
-use Rattle.p21_stream.specs.declared.counting.Counted.{Counted}
+use Rattle.p21_stream.specs.ReaderInput.{IsAcceptedInput, IsRefused, RefusesRead}
 use Rattle.p21_stream_output.specs.Output.{Output}
 use Rattle.p21_stream_statements.specs.declared.refusal.Refusal.{Refusal}
 
@@ -17,12 +14,6 @@ pub record IsAcceptedUnder (schema file_old file_new : Option (List ℕ)) (outpu
   pub declared : Schema
   pub declares : DeclaresRead schema declared
   pub accepted : IsAcceptedInput declared usual file_old file_new output
-
--- this is counted of the file, which is accepted under the schema that its reader declares
-pub record IsCountedUnder (schema file_old file_new : Option (List ℕ)) (counted : Counted) : Type 0 where
-  pub declared : Schema
-  pub declares : DeclaresRead schema declared
-  pub is_counted : IsCountedInput declared usual file_old file_new counted
 
 -- the line, behind a word for the file, names a fault of the file, for which it is refused under the schema
 pub record IsFileRefused (word : List ℕ) (schema file_old file_new : Option (List ℕ)) (line : List ℕ) : Type 0 where
@@ -37,10 +28,3 @@ pub record IsFileRefused (word : List ℕ) (schema file_old file_new : Option (L
 -- the line is of the schema, and the file isn't read; or it is of the file
 abbrev pub IsRefusedUnder : Option (List ℕ) → Option (List ℕ) → Option (List ℕ) → List ℕ → Type 0
 IsRefusedUnder schema file_old file_new line = (IsSchemaRefused schema line × Keeps file_old file_new) ⊎ IsFileRefused [] schema file_old file_new line
-
--- what a fault says of the schema and the file
-abbrev pub RefusesUnder : Option (List ℕ) → Option (List ℕ) → Option (List ℕ) → CommandFault → Type 0
-RefusesUnder schema file_old file_new (Refused line) = IsRefusedUnder schema file_old file_new (string_bytes line)
-RefusesUnder schema file_old file_new NoMemory = Unit {0}
-RefusesUnder schema file_old file_new Read = Unit {0}
-RefusesUnder schema file_old file_new Write = ⊥

@@ -5,6 +5,7 @@ pub mod Fault
 pub mod Refusing
 pub mod Param
 pub mod Status
+pub mod Streams
 pub mod Transfer
 pub mod Load
 pub mod Print

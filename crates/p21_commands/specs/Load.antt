@@ -1,9 +1,8 @@
 -- A schema over a reader.
-use Rattle.std.specs.Prelude.{Option, ◌≡◌, ◌≢◌, ℕ, List, ◌++◌, codes, decimal, string_bytes}
-use Rattle.p21_commands.specs.Refusing.{IsRefusedBy}
+use Rattle.std.specs.Prelude.{Option, ◌≡◌, ◌≢◌, ℕ, List, ◌++◌, codes, decimal}
+use Rattle.p21_commands.specs.Refusing.{IsRefusedBy, RefusesWith}
 use Rattle.p21_commands.specs.Transfer.{GivesText}
 use Rattle.p21_commands.specs.declared.fault.CommandFault.{CommandFault}
-use Rattle.p21_commands.specs.declared.fault.CommandFault.TheVariants.{Refused, NoMemory, Read, Write}
 use Rattle.p21_express_outline.specs.Fault.{fault_number, fault_name}
 use Rattle.p21_express_outline.specs.declared.fault.SchemaFault.{SchemaFault}
 use Rattle.p21_express_outline.specs.declared.fault.SchemaFault.TheVariants as schema_fault
@@ -33,7 +32,4 @@ IsSchemaRefused reader line = IsRefusedBy IsRefusalLine reader line
 
 -- the text of the reader is refused by its line, or memory runs out, or the reader fails
 abbrev pub RefusesRead : Option (List ℕ) → CommandFault → Type 0
-RefusesRead reader (Refused line) = IsSchemaRefused reader (string_bytes line)
-RefusesRead reader NoMemory = Unit {0}
-RefusesRead reader Read = Unit {0}
-RefusesRead reader Write = ⊥
+RefusesRead reader fault = RefusesWith (IsSchemaRefused reader) fault

@@ -16,3 +16,10 @@ pub record IsRefusedBy (IsLine : List ℕ → List ℕ → Type 0) (reader : Opt
   pub text : List ℕ
   pub gives : GivesText reader text
   pub is_line : IsLine text line
+
+-- a command that gives no answer is refused by such a line, or memory ran out, or a reader failed
+abbrev pub RefusesWith : (List ℕ → Type 0) → CommandFault → Type 0
+RefusesWith IsLine (Refused line) = IsLine (string_bytes line)
+RefusesWith IsLine NoMemory = Unit {0}
+RefusesWith IsLine Read = Unit {0}
+RefusesWith IsLine Write = ⊥

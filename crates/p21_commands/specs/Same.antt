@@ -1,9 +1,14 @@
 -- What `p21 same` writes.
-use Rattle.std.specs.Prelude.{Option, ◌≡◌, ◌⊎◌, ℕ, Bool, true, false, List, codes}
+use Rattle.std.specs.Prelude.{Option, ◌≡◌, ◌≢◌, ◌⊎◌, ℕ, Bool, true, false, List, [], ◌∷◌, codes}
 use Rattle.std.specs.Io.KnownBytes.{Keeps}
 use Rattle.p21_spec_basics.specs.Limits.{usual}
+use Rattle.p21_commands.specs.Command.{Fails}
+use Rattle.p21_commands.specs.Failures.{NoneFailed}
 use Rattle.p21_commands.specs.Files.{IsFileRefused}
 use Rattle.p21_commands.specs.Load.{DeclaresRead, IsSchemaRefused}
+use Rattle.p21_commands.specs.Status as statuses
+use Rattle.p21_commands.specs.Streams.{PairStreams}
+use Rattle.p21_commands.specs.Transfer.{Writes}
 use Rattle.p21_spec_schema.specs.Schema.{Schema}
 use Rattle.p21_stream.specs.Answers.{Compares, IsCanonicalOfRead}
 use Rattle.p21_stream.specs.declared.comparing.Which.{Which}
@@ -19,6 +24,9 @@ pub record Read : Type 0 where
 
 abbrev pub read_of : Option (List ℕ) → Option (List ℕ) → Option (List ℕ) → Option (List ℕ) → Option (List ℕ) → Read
 read_of schema first_old first_new second_old second_new = record { schema = schema; first_old = first_old; first_new = first_new; second_old = second_old; second_new = second_new }
+
+abbrev pub read_in : PairStreams → Read
+read_in streams = read_of streams.schema.before streams.first.before streams.first.behind streams.second.before streams.second.behind
 
 -- a word and a line feed
 abbrev pub same_answer_line : Bool → List ℕ
@@ -60,3 +68,19 @@ IsRefused read line =
     (IsSchemaRefused read.schema line × Keeps read.first_old read.first_new × Keeps read.second_old read.second_new)
     ⊎ ((IsFileRefused (word_of First) read.schema read.first_old read.first_new line × Keeps read.second_old read.second_new)
     ⊎ IsSecondRefused read line)
+
+-- the output has the answer that the files differ and the fault output is as it was; or the fault output has the line of a refusal and
+-- the output is as it was
+abbrev pub IsDifferentOrRefused : PairStreams → Type 0
+IsDifferentOrRefused streams =
+    (Writes (IsCompared (read_in streams) false) streams.output.before streams.output.behind × Keeps streams.faults.before streams.faults.behind)
+    ⊎ (Writes (IsRefused (read_in streams)) streams.faults.before streams.faults.behind × Keeps streams.output.before streams.output.behind)
+
+-- how the command ends, by its status, as `Ends` says of others; but files that differ have the status of a refusal
+pub record EndsComparing (streams : PairStreams) (answer : ℕ) : Type 0 where
+  pub status : (answer ≡ statuses.done) ⊎ (answer ≡ statuses.refused) ⊎ (answer ≡ statuses.failed)
+  pub answered : answer ≡ statuses.done → Writes (IsCompared (read_in streams) true) streams.output.before streams.output.behind
+  pub silent : answer ≡ statuses.done → Keeps streams.faults.before streams.faults.behind
+  pub refused : answer ≡ statuses.refused → IsDifferentOrRefused streams
+  pub failed : answer ≡ statuses.failed → Fails (IsAnswered (read_in streams)) (IsRefused (read_in streams)) (streams.schema.failures ∷ streams.first.failures ∷ streams.second.failures ∷ []) streams.output streams.faults
+  pub unfailed : answer ≢ statuses.failed → NoneFailed (streams.schema.failures ∷ streams.first.failures ∷ streams.second.failures ∷ streams.output.failures ∷ streams.faults.failures ∷ [])

@@ -25,18 +25,18 @@ RefusesMissing output name Read = ⊥
 RefusesMissing output name Write = ⊥
 
 -- the line is the statement of the instance in the file that is accepted
-pub record IsShown (schema file_old file_new : Option (List ℕ)) (name : ℕ) (line : List ℕ) : Type 0 where
+pub record IsShown (name : ℕ) (schema file_old file_new : Option (List ℕ)) (line : List ℕ) : Type 0 where
   pub output : Output
   pub accepted : IsAcceptedUnder schema file_old file_new output
   pub is_line : IsStatementLine output name line
 
 -- the file that is accepted has no instance of the name, as the line says
-pub record IsMissing (schema file_old file_new : Option (List ℕ)) (name : ℕ) (line : List ℕ) : Type 0 where
+pub record IsMissing (name : ℕ) (schema file_old file_new : Option (List ℕ)) (line : List ℕ) : Type 0 where
   pub output : Output
   pub accepted : IsAcceptedUnder schema file_old file_new output
   pub none : ¬ Contains (instance_names output.kept) name
   pub line_is : line ≡ missing_refusal_line name
 
 -- the schema or the file is refused, or has no such instance
-abbrev pub IsNotShown : Option (List ℕ) → Option (List ℕ) → Option (List ℕ) → ℕ → List ℕ → Type 0
-IsNotShown schema file_old file_new name line = IsRefusedUnder schema file_old file_new line ⊎ IsMissing schema file_old file_new name line
+abbrev pub IsNotShown : ℕ → Option (List ℕ) → Option (List ℕ) → Option (List ℕ) → List ℕ → Type 0
+IsNotShown name schema file_old file_new line = IsRefusedUnder schema file_old file_new line ⊎ IsMissing name schema file_old file_new line

@@ -1,8 +1,9 @@
 //! The command `canon`.
 ghost use Rattle.std.specs.Prelude.{IfErr, OnOk, [], ◌∷◌};
 ghost use Rattle.p21_spec_basics.specs.Limits.{usual};
-ghost use Rattle.p21_commands.specs.Command.{Ends, FailsBy, written_by};
+ghost use Rattle.p21_commands.specs.Command.{EndsUnder, FailsBy};
 ghost use Rattle.p21_commands.specs.Failures.{FailedBy, NoneFailed, failures_of};
+ghost use Rattle.p21_commands.specs.Streams.{stream_of};
 ghost use Rattle.p21_commands.specs.Transfer as text;
 ghost use Rattle.p21_commands.specs.Transfer.{Writes};
 ghost use Rattle.p21_commands.specs.Canon.{IsCanonicalUnder};
@@ -29,10 +30,12 @@ pub fn canon_command<S: Read, R: Read, W: Write, F: Write>(
 ) -> u8
     ensures consumed_schema { text.ConsumesAtMost (S.remaining schema.old.inner) (S.remaining schema.new.inner) }
     ensures consumed_file { ConsumesAtMost usual (R.remaining file.old.inner) (R.remaining file.new.inner) }
-    ensures ends { Ends (IsCanonicalUnder (S.remaining schema.old.inner) (R.remaining file.old.inner) (R.remaining file.new.inner))
-        (IsRefusedUnder (S.remaining schema.old.inner) (R.remaining file.old.inner) (R.remaining file.new.inner)) (failures_of schema.old schema.new ∷ failures_of file.old file.new ∷ [])
-        (written_by (W.contents output.old.inner) (W.contents output.new.inner) (failures_of output.old output.new))
-        (written_by (F.contents faults.old.inner) (F.contents faults.new.inner) (failures_of faults.old faults.new)) result }
+    ensures ends { EndsUnder IsCanonicalUnder IsRefusedUnder (record {
+      schema = stream_of S.remaining schema.old schema.new;
+      file = stream_of R.remaining file.old file.new;
+      output = stream_of W.contents output.old output.new;
+      faults = stream_of F.contents faults.old faults.new;
+    }) result }
 {
     match write_canonical(alloc, schema, file, output) {
         Ok(()) => DONE,

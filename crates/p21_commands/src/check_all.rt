@@ -1,21 +1,19 @@
 //! The command `check --all`.
-ghost use Rattle.std.specs.Prelude.{◌≡◌, ◌≢◌, ◌⊎◌, ◌++◌, [], ◌∷◌, IfErr, IfOk, OnOk, flat_map, string_bytes};
-ghost use Rattle.std.specs.Io.KnownBytes.{Keeps};
+ghost use Rattle.std.specs.Prelude.{◌≡◌, ◌++◌, IfErr, IfOk, OnOk, flat_map, string_bytes};
 ghost use Rattle.p21_spec_basics.specs.Limits.{usual};
-ghost use Rattle.p21_commands.specs.Check.{IsChecked};
-ghost use Rattle.p21_commands.specs.CheckAll.{Answers, AnswersNothing, FailsToRead, IsFailedBy, IsListedUnder, IsReadBy, Lists, count_line, has_read_fault, is_read, listed_count, listed_line};
-ghost use Rattle.p21_commands.specs.Command.{Fails, written_by};
-ghost use Rattle.p21_commands.specs.Failures.{NoneFailed, failures_of};
-ghost use Rattle.p21_commands.specs.Status.{done, failed, refused};
+ghost use Rattle.p21_commands.specs.CheckAll.{Answers, EndsListing, IsFailedBy, IsListedUnder, IsReadBy, Lists, count_line, has_read_fault, is_read, listed_count, listed_line};
+ghost use Rattle.p21_commands.specs.Failures.{failures_of};
+ghost use Rattle.p21_commands.specs.Refusing.{RefusesWith};
+ghost use Rattle.p21_commands.specs.Streams.{stream_of};
 ghost use Rattle.p21_commands.specs.Transfer as text;
-ghost use Rattle.p21_commands.specs.Transfer.{Writes};
 ghost use Rattle.p21_stream.specs.ReaderInput.{ConsumesAtMost};
 
+use crate::answer::answer;
 use crate::check::answer_line_of;
 use crate::fault::{CommandFault, report};
 use crate::file_fault::refusal_text;
 use crate::load::load_schema;
-use crate::status::{DONE, FAILED};
+use crate::status::FAILED;
 use crate::transfer::write_whole;
 use p21_stream::{Extent, Fault, Refusal, Refusals, Surveyed, Watched, survey};
 use p21_values::{Limits, NoMemory};
@@ -43,33 +41,17 @@ pub fn check_all_command<S: Read, R: Read, W: Write, F: Write>(
     output: &mut Watched<W>,
     faults: &mut Watched<F>,
 ) -> u8
-    ensures status { (result ≡ done) ⊎ (result ≡ refused) ⊎ (result ≡ failed) }
     ensures consumed_schema { text.ConsumesAtMost (S.remaining schema.old.inner) (S.remaining schema.new.inner) }
     ensures consumed_file { ConsumesAtMost usual (R.remaining file.old.inner) (R.remaining file.new.inner) }
-
-    ensures answered { result ≡ done
-        → Writes (IsChecked (S.remaining schema.old.inner) (R.remaining file.old.inner) (R.remaining file.new.inner)) (W.contents output.old.inner) (W.contents output.new.inner) }
-    ensures silent { result ≡ done → Keeps (F.contents faults.old.inner) (F.contents faults.new.inner) }
-
-    ensures refused { result ≡ refused
-        → Writes (IsListedUnder most (S.remaining schema.old.inner) (R.remaining file.old.inner) (R.remaining file.new.inner)) (F.contents faults.old.inner) (F.contents faults.new.inner) }
-    ensures unwritten { result ≡ refused → Keeps (W.contents output.old.inner) (W.contents output.new.inner) }
-
-    ensures failed { result ≡ failed
-        → (Fails (IsChecked (S.remaining schema.old.inner) (R.remaining file.old.inner) (R.remaining file.new.inner)) (IsListedUnder most (S.remaining schema.old.inner) (R.remaining file.old.inner) (R.remaining file.new.inner))
-        (W.contents output.old.inner) (W.contents output.new.inner) (F.contents faults.old.inner) (F.contents faults.new.inner)
-        (failures_of schema.old schema.new ∷ []) (failures_of output.old output.new) (failures_of faults.old faults.new)
-        × NoneFailed (failures_of file.old file.new ∷ []))
-        ⊎ FailsToRead most (S.remaining schema.old.inner) (R.remaining file.old.inner) (R.remaining file.new.inner) (failures_of schema.old schema.new) (failures_of file.old file.new)
-        (written_by (W.contents output.old.inner) (W.contents output.new.inner) (failures_of output.old output.new))
-        (written_by (F.contents faults.old.inner) (F.contents faults.new.inner) (failures_of faults.old faults.new)) }
-    ensures unfailed { result ≢ failed → NoneFailed (failures_of schema.old schema.new ∷ failures_of file.old file.new ∷ failures_of output.old output.new ∷ failures_of faults.old faults.new ∷ []) }
+    ensures ends { EndsListing most (record {
+      schema = stream_of S.remaining schema.old schema.new;
+      file = stream_of R.remaining file.old file.new;
+      output = stream_of W.contents output.old output.new;
+      faults = stream_of F.contents faults.old faults.new;
+    }) result }
 {
     match find_answer(alloc, schema, file, most) {
-        Ok(Answer::Accepted(line)) => match write_whole(output, line.as_bytes()) {
-            Ok(()) => DONE,
-            Err(fault) => report(&fault, faults),
-        },
+        Ok(Answer::Accepted(line)) => answer(line.as_bytes(), output, faults),
         Ok(Answer::Refused(lines)) => report(&CommandFault::Refused(lines), faults),
         Ok(Answer::Unread(lines)) => {
             // The status is the same where the lines can't be written.
@@ -88,7 +70,7 @@ fn find_answer<S: Read, R: Read>(
     most: u64,
 ) -> Result<Answer, CommandFault>
     ensures ok { IfOk result (Answers most (S.remaining schema.old.inner) (R.remaining file.old.inner) (R.remaining file.new.inner)) }
-    ensures err { IfErr result (AnswersNothing most (S.remaining schema.old.inner) (R.remaining file.old.inner) (R.remaining file.new.inner)) }
+    ensures err { IfErr result (RefusesWith (IsListedUnder most (S.remaining schema.old.inner) (R.remaining file.old.inner) (R.remaining file.new.inner))) }
     ensures consumed_schema { text.ConsumesAtMost (S.remaining schema.old.inner) (S.remaining schema.new.inner) }
     ensures consumed_file { ConsumesAtMost usual (R.remaining file.old.inner) (R.remaining file.new.inner) }
 

@@ -1,7 +1,7 @@
 //! Why a command gives no answer, and the line and the exit status that say so.
 ghost use Rattle.std.specs.Prelude.{◌≡◌};
-ghost use Rattle.p21_commands.specs.Failures.{failures_of};
 ghost use Rattle.p21_commands.specs.Fault.{Reports};
+ghost use Rattle.p21_commands.specs.Streams.{stream_of};
 
 use crate::status::{FAILED, REFUSED};
 use crate::transfer::write_whole;
@@ -71,7 +71,7 @@ impl<T: Drop> From<AllocFailed<T>> for CommandFault {
 /// Writes the line of a fault, and answers the exit status, which is that of a write fault where the line can't be
 /// written.
 pub fn report<F: Write>(fault: &CommandFault, faults: &mut Watched<F>) -> u8
-    ensures { Reports fault.now result (F.contents faults.old.inner) (F.contents faults.new.inner) (failures_of faults.old faults.new) }
+    ensures { Reports fault.now result (stream_of F.contents faults.old faults.new) }
 {
     match write_whole(faults, fault.line()) {
         Ok(()) => fault.status(),

@@ -2,16 +2,15 @@
 //! it writes, and its exit status. They know no command line and open no files.
 #![tactic(auto)]
 
+mod answer;
 mod canon;
 mod check;
 mod check_all;
-mod count_under;
 mod fault;
 mod file_fault;
 mod load;
 mod param;
 mod print;
-mod read_under;
 mod same;
 mod schema;
 mod show;

@@ -1,14 +1,15 @@
 //! The command `param`.
 ghost use Rattle.std.specs.Prelude.{◌≡◌, [], ◌∷◌, IfErr, IfOk, MatchResult, OnOk, string_bytes};
-ghost use Rattle.p21_commands.specs.Command.{Ends, FailsBy, written_by};
-ghost use Rattle.p21_commands.specs.Failures.{FailedBy, NoneFailed, failures_of};
+ghost use Rattle.p21_commands.specs.Command.{EndsOver};
+ghost use Rattle.p21_commands.specs.Failures.{FailedBy, failures_of};
 ghost use Rattle.p21_commands.specs.Param.{IsAnswerLine, IsAnswered, IsParamRefused, IsRefusalLine, refusal_line};
-ghost use Rattle.p21_commands.specs.Refusing.{RefusesBy};
-ghost use Rattle.p21_commands.specs.Transfer.{ConsumesAtMost, Writes};
+ghost use Rattle.p21_commands.specs.Refusing.{RefusesBy, RefusesWith};
+ghost use Rattle.p21_commands.specs.Streams.{stream_of};
+ghost use Rattle.p21_commands.specs.Transfer.{ConsumesAtMost};
 
+use crate::answer::answer;
 use crate::fault::{CommandFault, report};
-use crate::status::DONE;
-use crate::transfer::{read_text, write_whole};
+use crate::transfer::read_text;
 use p21_stream_io::Watched;
 use p21_tokens::{TokenFault, canonical_param};
 use std::alloc::{AllocError, Global};
@@ -23,35 +24,29 @@ pub fn param_command<R: Read, W: Write, F: Write>(
     faults: &mut Watched<F>,
 ) -> u8
     ensures consumed { ConsumesAtMost (R.remaining input.old.inner) (R.remaining input.new.inner) }
-    ensures ends { Ends (IsAnswered (R.remaining input.old.inner))
-        (IsParamRefused (R.remaining input.old.inner)) (failures_of input.old input.new ∷ [])
-        (written_by (W.contents output.old.inner) (W.contents output.new.inner) (failures_of output.old output.new))
-        (written_by (F.contents faults.old.inner) (F.contents faults.new.inner) (failures_of faults.old faults.new)) result }
+    ensures ends { EndsOver IsAnswered IsParamRefused (record {
+      input = stream_of R.remaining input.old input.new;
+      output = stream_of W.contents output.old output.new;
+      faults = stream_of F.contents faults.old faults.new;
+    }) result }
 {
-    match write_param(alloc, input, output) {
-        Ok(()) => DONE,
+    match param_line(alloc, input) {
+        Ok(line) => answer(&line, output, faults),
         Err(fault) => report(&fault, faults),
     }
 }
 
-/// Writes the canonical spelling of the parameter that `input` holds, and a line feed.
-fn write_param<R: Read, W: Write>(
-    alloc: Global,
-    input: &mut Watched<R>,
-    output: &mut Watched<W>,
-) -> Result<(), CommandFault>
+/// The canonical spelling of the parameter that `input` holds, and a line feed.
+fn param_line<R: Read>(alloc: Global, input: &mut Watched<R>) -> Result<Vec<u8>, CommandFault>
     ensures consumed { ConsumesAtMost (R.remaining input.old.inner) (R.remaining input.new.inner) }
-    ensures ok { OnOk result
-        (Writes (IsAnswered (R.remaining input.old.inner)) (W.contents output.old.inner) (W.contents output.new.inner)) }
-    ensures err { IfErr result (FailsBy (IsAnswered (R.remaining input.old.inner)) (IsParamRefused (R.remaining input.old.inner))
-        (W.contents output.old.inner) (W.contents output.new.inner)) }
+    ensures ok { IfOk result (λ line. IsAnswered (R.remaining input.old.inner) line.items) }
+    ensures err { IfErr result (RefusesWith (IsParamRefused (R.remaining input.old.inner))) }
 
-    ensures unfailed { OnOk result (NoneFailed (failures_of input.old input.new ∷ failures_of output.old output.new ∷ [])) }
-    ensures failed { IfErr result (FailedBy (failures_of input.old input.new ∷ []) (failures_of output.old output.new ∷ [])) }
+    ensures read { OnOk result (input.new.failures ≡ input.old.failures) }
+    ensures failed { IfErr result (FailedBy (failures_of input.old input.new ∷ []) []) }
 {
     let text = read_text(alloc, input)?;
-    let line = param_answer_line(alloc, &text)?;
-    write_whole(output, &line)
+    param_answer_line(alloc, &text)
 }
 
 /// The canonical spelling of the parameter that a text holds, and a line feed.

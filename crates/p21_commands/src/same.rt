@@ -1,13 +1,12 @@
 //! The command `same`.
-ghost use Rattle.std.specs.Prelude.{◌≡◌, ◌⊎◌, IfErr, IfOk, true, false, ◌≢◌, [], ◌∷◌, OnOk};
-ghost use Rattle.std.specs.Io.KnownBytes.{Keeps};
+ghost use Rattle.std.specs.Prelude.{◌≡◌, ◌⊎◌, IfErr, IfOk, OnOk, [], ◌∷◌};
 ghost use Rattle.p21_spec_basics.specs.Limits.{usual};
-ghost use Rattle.p21_commands.specs.Command.{Fails, FailsBy};
+ghost use Rattle.p21_commands.specs.Command.{FailsBy};
 ghost use Rattle.p21_commands.specs.Failures.{FailedBy, NoneFailed, failures_of};
-ghost use Rattle.p21_commands.specs.Status.{done, failed, refused};
 ghost use Rattle.p21_commands.specs.Transfer as text;
 ghost use Rattle.p21_commands.specs.Transfer.{Writes};
-ghost use Rattle.p21_commands.specs.Same.{IsAnswered, IsCompared, IsFirstAccepted, IsRefused, read_of, same_answer_line, word_of};
+ghost use Rattle.p21_commands.specs.Same.{EndsComparing, IsAnswered, IsCompared, IsFirstAccepted, IsRefused, read_of, same_answer_line, word_of};
+ghost use Rattle.p21_commands.specs.Streams.{stream_of};
 ghost use Rattle.p21_stream.specs.ReaderInput.{ConsumesAtMost};
 
 use crate::fault::{CommandFault, report};
@@ -30,27 +29,17 @@ pub fn same_command<S: Read, A: Read, B: Read, W: Write, F: Write>(
     output: &mut Watched<W>,
     faults: &mut Watched<F>,
 ) -> u8
-    ensures status { (result ≡ done) ⊎ (result ≡ refused) ⊎ (result ≡ failed) }
     ensures order { (second.new ≡ second.old) ⊎ IsFirstAccepted (read_of (S.remaining schema.old.inner) (A.remaining first.old.inner) (A.remaining first.new.inner) (B.remaining second.old.inner) (B.remaining second.new.inner)) }
     ensures consumed_schema { text.ConsumesAtMost (S.remaining schema.old.inner) (S.remaining schema.new.inner) }
     ensures consumed_first { ConsumesAtMost usual (A.remaining first.old.inner) (A.remaining first.new.inner) }
     ensures consumed_second { ConsumesAtMost usual (B.remaining second.old.inner) (B.remaining second.new.inner) }
-
-    ensures answered { result ≡ done
-        → Writes (IsCompared (read_of (S.remaining schema.old.inner) (A.remaining first.old.inner) (A.remaining first.new.inner) (B.remaining second.old.inner) (B.remaining second.new.inner)) true) (W.contents output.old.inner) (W.contents output.new.inner) }
-    ensures silent { result ≡ done → Keeps (F.contents faults.old.inner) (F.contents faults.new.inner) }
-
-    ensures refused { result ≡ refused
-        → (Writes (IsCompared (read_of (S.remaining schema.old.inner) (A.remaining first.old.inner) (A.remaining first.new.inner) (B.remaining second.old.inner) (B.remaining second.new.inner)) false) (W.contents output.old.inner) (W.contents output.new.inner)
-        × Keeps (F.contents faults.old.inner) (F.contents faults.new.inner))
-        ⊎ (Writes (IsRefused (read_of (S.remaining schema.old.inner) (A.remaining first.old.inner) (A.remaining first.new.inner) (B.remaining second.old.inner) (B.remaining second.new.inner))) (F.contents faults.old.inner) (F.contents faults.new.inner)
-        × Keeps (W.contents output.old.inner) (W.contents output.new.inner)) }
-
-    ensures failed { result ≡ failed
-        → Fails (IsAnswered (read_of (S.remaining schema.old.inner) (A.remaining first.old.inner) (A.remaining first.new.inner) (B.remaining second.old.inner) (B.remaining second.new.inner))) (IsRefused (read_of (S.remaining schema.old.inner) (A.remaining first.old.inner) (A.remaining first.new.inner) (B.remaining second.old.inner) (B.remaining second.new.inner)))
-        (W.contents output.old.inner) (W.contents output.new.inner) (F.contents faults.old.inner) (F.contents faults.new.inner)
-        (failures_of schema.old schema.new ∷ failures_of first.old first.new ∷ failures_of second.old second.new ∷ []) (failures_of output.old output.new) (failures_of faults.old faults.new) }
-    ensures unfailed { result ≢ failed → NoneFailed (failures_of schema.old schema.new ∷ failures_of first.old first.new ∷ failures_of second.old second.new ∷ failures_of output.old output.new ∷ failures_of faults.old faults.new ∷ []) }
+    ensures ends { EndsComparing (record {
+      schema = stream_of S.remaining schema.old schema.new;
+      first = stream_of A.remaining first.old first.new;
+      second = stream_of B.remaining second.old second.new;
+      output = stream_of W.contents output.old output.new;
+      faults = stream_of F.contents faults.old faults.new;
+    }) result }
 {
     match write_same(alloc, schema, first, second, output) {
         Ok(true) => DONE,
@@ -68,8 +57,8 @@ fn write_same<S: Read, A: Read, B: Read, W: Write>(
     output: &mut Watched<W>,
 ) -> Result<bool, CommandFault>
     ensures ok { IfOk result (λ same. Writes (IsCompared (read_of (S.remaining schema.old.inner) (A.remaining first.old.inner) (A.remaining first.new.inner) (B.remaining second.old.inner) (B.remaining second.new.inner)) same) (W.contents output.old.inner) (W.contents output.new.inner)) }
-    ensures err { IfErr result (FailsBy (IsAnswered (read_of (S.remaining schema.old.inner) (A.remaining first.old.inner) (A.remaining first.new.inner) (B.remaining second.old.inner) (B.remaining second.new.inner))) (IsRefused (read_of (S.remaining schema.old.inner) (A.remaining first.old.inner) (A.remaining first.new.inner) (B.remaining second.old.inner) (B.remaining second.new.inner)))
-        (W.contents output.old.inner) (W.contents output.new.inner)) }
+    ensures err { let read = read_of (S.remaining schema.old.inner) (A.remaining first.old.inner) (A.remaining first.new.inner) (B.remaining second.old.inner) (B.remaining second.new.inner) in
+        IfErr result (FailsBy (IsAnswered read) (IsRefused read) (W.contents output.old.inner) (W.contents output.new.inner)) }
     ensures order { (second.new ≡ second.old) ⊎ IsFirstAccepted (read_of (S.remaining schema.old.inner) (A.remaining first.old.inner) (A.remaining first.new.inner) (B.remaining second.old.inner) (B.remaining second.new.inner)) }
     ensures consumed_schema { text.ConsumesAtMost (S.remaining schema.old.inner) (S.remaining schema.new.inner) }
     ensures consumed_first { ConsumesAtMost usual (A.remaining first.old.inner) (A.remaining first.new.inner) }

@@ -1,7 +1,8 @@
 //! The command `schema`.
 ghost use Rattle.std.specs.Prelude.{◌≡◌, [], ◌∷◌, IfErr, IfOk, OnOk};
-ghost use Rattle.p21_commands.specs.Command.{Ends, FailsBy, written_by};
+ghost use Rattle.p21_commands.specs.Command.{EndsOver, FailsBy};
 ghost use Rattle.p21_commands.specs.Failures.{FailedBy, NoneFailed, failures_of};
+ghost use Rattle.p21_commands.specs.Streams.{stream_of};
 ghost use Rattle.p21_commands.specs.Transfer.{ConsumesAtMost, Writes};
 ghost use Rattle.p21_commands.specs.Load.{DeclaresRead, IsSchemaRefused, RefusesRead};
 ghost use Rattle.p21_commands.specs.OwnTexts.{AreOwnTexts};
@@ -25,10 +26,11 @@ pub fn schema_command<S: Read, W: Write, F: Write>(
     faults: &mut Watched<F>,
 ) -> u8
     ensures consumed { ConsumesAtMost (S.remaining reader.old.inner) (S.remaining reader.new.inner) }
-    ensures ends { Ends (IsPrinted (S.remaining reader.old.inner))
-        (IsSchemaRefused (S.remaining reader.old.inner)) (failures_of reader.old reader.new ∷ [])
-        (written_by (W.contents output.old.inner) (W.contents output.new.inner) (failures_of output.old output.new))
-        (written_by (F.contents faults.old.inner) (F.contents faults.new.inner) (failures_of faults.old faults.new)) result }
+    ensures ends { EndsOver IsPrinted IsSchemaRefused (record {
+      input = stream_of S.remaining reader.old reader.new;
+      output = stream_of W.contents output.old output.new;
+      faults = stream_of F.contents faults.old faults.new;
+    }) result }
 {
     match write_schema(alloc, reader, output) {
         Ok(()) => DONE,

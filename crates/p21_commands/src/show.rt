@@ -1,19 +1,22 @@
 //! The command `show`.
-ghost use Rattle.std.specs.Prelude.{◌≡◌, IfErr, IfOk, OnOk, string_bytes, [], ◌∷◌};
+ghost use Rattle.std.specs.Prelude.{◌≡◌, IfErr, IfOk, List, OnOk, Option, [], ◌∷◌, string_bytes, ℕ};
 ghost use Rattle.p21_spec_basics.specs.Limits.{usual};
-ghost use Rattle.p21_commands.specs.Command.{Ends, FailsBy, written_by};
-ghost use Rattle.p21_commands.specs.Failures.{FailedBy, NoneFailed, failures_of};
-ghost use Rattle.p21_commands.specs.Transfer as text;
-ghost use Rattle.p21_commands.specs.Transfer.{Writes};
+ghost use Rattle.p21_commands.specs.Command.{EndsUnder};
+ghost use Rattle.p21_commands.specs.Failures.{FailedBy, failures_of};
+ghost use Rattle.p21_commands.specs.Load.{DeclaresRead};
+ghost use Rattle.p21_commands.specs.Refusing.{RefusesWith};
 ghost use Rattle.p21_commands.specs.Show.{IsNotShown, IsShown, IsStatementLine, RefusesMissing, missing_refusal_line};
+ghost use Rattle.p21_commands.specs.Streams.{stream_of};
+ghost use Rattle.p21_commands.specs.Transfer as text;
 ghost use Rattle.p21_stream.specs.ReaderInput.{ConsumesAtMost};
 
+use crate::answer::answer;
 use crate::fault::{CommandFault, report};
-use crate::read_under::read_under;
-use crate::status::DONE;
-use crate::transfer::write_whole;
-use p21_stream::{Accepted, Watched};
-use p21_values::Name;
+use crate::file_fault::fault_of;
+use crate::load::load_schema;
+use p21_express_tables::Schema;
+use p21_stream::{Accepted, Watched, accept};
+use p21_values::{Limits, Name};
 use std::alloc::{AllocError, Global};
 use std::io::{Read, Write};
 
@@ -29,40 +32,43 @@ pub fn show_command<S: Read, R: Read, W: Write, F: Write>(
 ) -> u8
     ensures consumed_schema { text.ConsumesAtMost (S.remaining schema.old.inner) (S.remaining schema.new.inner) }
     ensures consumed_file { ConsumesAtMost usual (R.remaining file.old.inner) (R.remaining file.new.inner) }
-    ensures ends { Ends (IsShown (S.remaining schema.old.inner) (R.remaining file.old.inner) (R.remaining file.new.inner) name)
-        (IsNotShown (S.remaining schema.old.inner) (R.remaining file.old.inner) (R.remaining file.new.inner) name) (failures_of schema.old schema.new ∷ failures_of file.old file.new ∷ [])
-        (written_by (W.contents output.old.inner) (W.contents output.new.inner) (failures_of output.old output.new))
-        (written_by (F.contents faults.old.inner) (F.contents faults.new.inner) (failures_of faults.old faults.new)) result }
+    ensures ends { EndsUnder (IsShown name) (IsNotShown name) (record {
+      schema = stream_of S.remaining schema.old schema.new;
+      file = stream_of R.remaining file.old file.new;
+      output = stream_of W.contents output.old output.new;
+      faults = stream_of F.contents faults.old faults.new;
+    }) result }
 {
-    match write_statement(alloc, schema, file, name, output) {
-        Ok(()) => DONE,
+    let schema = match load_schema(alloc, schema) {
+        Ok(schema) => schema,
+        Err(fault) => return report(&fault, faults),
+    };
+    match shown_line(alloc, &schema, file, name) {
+        Ok(line) => answer(&line, output, faults),
         Err(fault) => report(&fault, faults),
     }
 }
 
-/// Writes the canonical statement of an instance of a file.
-fn write_statement<S: Read, R: Read, W: Write>(
+/// The canonical statement of an instance of a file of a schema, and a line feed.
+fn shown_line<R: Read>(
     alloc: Global,
-    schema: &mut Watched<S>,
+    schema: &Schema,
     file: &mut Watched<R>,
     name: Name,
-    output: &mut Watched<W>,
-) -> Result<(), CommandFault>
-    ensures ok { OnOk result (Writes (IsShown (S.remaining schema.old.inner) (R.remaining file.old.inner) (R.remaining file.new.inner) name) (W.contents output.old.inner) (W.contents output.new.inner)) }
-    ensures err { IfErr result (FailsBy (IsShown (S.remaining schema.old.inner) (R.remaining file.old.inner) (R.remaining file.new.inner) name) (IsNotShown (S.remaining schema.old.inner) (R.remaining file.old.inner) (R.remaining file.new.inner) name)
-        (W.contents output.old.inner) (W.contents output.new.inner)) }
-    ensures consumed_schema { text.ConsumesAtMost (S.remaining schema.old.inner) (S.remaining schema.new.inner) }
-    ensures consumed_file { ConsumesAtMost usual (R.remaining file.old.inner) (R.remaining file.new.inner) }
+) -> Result<Vec<u8>, CommandFault>
+    ensures ok { (reader : Option (List ℕ)) → DeclaresRead reader schema.now
+        → IfOk result (λ line. IsShown name reader (R.remaining file.old.inner) (R.remaining file.new.inner) line.items) }
+    ensures err { (reader : Option (List ℕ)) → DeclaresRead reader schema.now
+        → IfErr result (RefusesWith (IsNotShown name reader (R.remaining file.old.inner) (R.remaining file.new.inner))) }
+    ensures consumed { ConsumesAtMost usual (R.remaining file.old.inner) (R.remaining file.new.inner) }
 
-    ensures unfailed { OnOk result (NoneFailed (failures_of schema.old schema.new ∷ failures_of file.old file.new ∷ failures_of output.old output.new ∷ [])) }
-    ensures failed { IfErr result (FailedBy (failures_of schema.old schema.new ∷ failures_of file.old file.new ∷ []) (failures_of output.old output.new ∷ [])) }
+    ensures read { OnOk result (file.new.failures ≡ file.old.failures) }
+    ensures failed { IfErr result (FailedBy (failures_of file.old file.new ∷ []) []) }
 {
-    let accepted = read_under(alloc, schema, file)?;
-    let line = match statement_answer_line(alloc, &accepted, name) {
-        Ok(line) => line,
-        Err(fault) => return Err(fault),
-    };
-    write_whole(output, &line)
+    match accept(alloc, schema, Limits::usual(), file) {
+        Ok(accepted) => statement_answer_line(alloc, &accepted, name),
+        Err(refusal) => Err(fault_of(alloc, "", refusal)),
+    }
 }
 
 /// The canonical statement of an instance, and a line feed.

@@ -32,9 +32,9 @@ module _ (f : ℕ → ℕ) (g h : Graph) (moved : IsMoved f g h) (old new old_ n
       ∙ two (λ x y. better (old m) (old n) (big m) (big n) x y) (new_ (f m)) (new_ (f n)) (new m) (new n) (same_new m at) (same_new n among)))
 
 -- ranks that agree at the nodes
-record AreMoved (f : ℕ → ℕ) (g : Graph) (c d : Ranks) : Type 0 where
-  same_rank : (n : ℕ) → Contains g.nodes n → d.rank (f n) ≡ c.rank n
-  same_fresh : (n : ℕ) → Contains g.nodes n → d.fresh (f n) ≡ c.fresh n
+pub record AreMoved (f : ℕ → ℕ) (g : Graph) (c d : Ranks) : Type 0 where
+  pub same_rank : (n : ℕ) → Contains g.nodes n → d.rank (f n) ≡ c.rank n
+  pub same_fresh : (n : ℕ) → Contains g.nodes n → d.fresh (f n) ≡ c.fresh n
 
 module _ (f : ℕ → ℕ) (g h : Graph) (moved : IsMoved f g h) (c d : Ranks) (same : AreMoved f g c d) where
   entries-moved : (n m : ℕ) → Contains g.nodes n → Contains g.nodes m → entries h (d.rank (f m)) (f n) (f m) ≡ entries g (c.rank m) n m
@@ -54,13 +54,13 @@ module _ (f : ℕ → ℕ) (g h : Graph) (moved : IsMoved f g h) (c d : Ranks) (
       let make : ℕ → List (List ℕ) → List (List ℕ) = λ r xs. (r ∷ []) ∷ xs in
       ap (λ r. make r (fresh_uses h d (f n))) (same.same_rank n among) ∙ ap (λ (xs : List (List ℕ)). make (c.rank n) xs) (uses-moved n among)
 
-  rank-moved : (n : ℕ) → Contains g.nodes n → (tell h d).rank (f n) ≡ (tell g c).rank n
+  pub rank-moved : (n : ℕ) → Contains g.nodes n → (tell h d).rank (f n) ≡ (tell g c).rank n
   rank-moved n among = rank_by-moved f g.nodes h.nodes moved.nodes (fresh_key g c) (fresh_key h d) key-moved n among
 
-  fresh-moved : (n : ℕ) → Contains g.nodes n → (tell h d).fresh (f n) ≡ (tell g c).fresh n
+  pub fresh-moved : (n : ℕ) → Contains g.nodes n → (tell h d).fresh (f n) ≡ (tell g c).fresh n
   fresh-moved n among = ap (λ (l : Bool). not l) (largest-moved f g h moved c.rank (tell g c).rank d.rank (tell h d).rank same.same_rank rank-moved n among)
 
-  done-moved : is_told h d ≡ is_told g c
+  pub done-moved : is_told h d ≡ is_told g c
   done-moved = ap (λ k. nat_eq k 0) (many-moved f g.nodes h.nodes moved.nodes c.fresh d.fresh same.same_fresh)
 
   -- one round, as long as a node is fresh

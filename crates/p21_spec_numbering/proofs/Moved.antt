@@ -51,7 +51,7 @@ pub sections-none_twice : (m : FileMeaning) → IsWhole m → NoneTwice (map (λ
 sections-none_twice m whole_ = let P : List ℕ → Type 0 = NoneTwice in subst P (sym whole_.in_sections) (names-none_twice m whole_)
 
 -- the label of an instance in terms of what it means and of its section
-label-is : (s : Schema) (m : FileMeaning) → IsWhole m → (n : ℕ) (x : Typed) (h : Heading) → Contains m.instances (n, x)
+pub label-is : (s : Schema) (m : FileMeaning) → IsWhole m → (n : ℕ) (x : Typed) (h : Heading) → Contains m.instances (n, x)
     → Contains m.instance_sections (n, h)
     → (graph_of s m).label n ≡ heading_label (Some h) ++ (unnamed_text s x.entities x.values ∷ [])
 label-is s m whole_ n x h at in_section =

@@ -13,7 +13,7 @@ use Rattle.p21_spec_file.specs.BrokenRule.{Breaks}
 use Rattle.p21_spec_schema.specs.Schema.{Schema}
 use Rattle.p21_stream_statements.specs.Fault.{fault_number}
 use Rattle.p21_stream_statements.specs.declared.fault.Fault.{Fault}
-use Rattle.p21_stream_statements.specs.declared.fault.Fault.TheVariants.{Check, DuplicateName}
+use Rattle.p21_stream_statements.specs.declared.fault.Fault.TheVariants.{Token, Grammar, Check, SchemaName, SectionTwice, DuplicateName, CanonicalTooLong, Dangling, WrongTarget, NoMemory, Read, Write}
 use Rattle.p21_stream_statements.specs.declared.refusal.At.TheVariants.{Instance}
 use Rattle.p21_stream_statements.specs.declared.refusal.Refusal.{Refusal}
 use Rattle.p21_stream.specs.declared.sieve.Sieve.{Sieve}
@@ -30,7 +30,16 @@ HasRefusal refusals n = (fault : Fault) × Contains refusals (at_instance fault 
 abbrev pub IsOfInstance : Fault → Type 0
 IsOfInstance (Check fault) = Unit {0}
 IsOfInstance DuplicateName = Unit {0}
-IsOfInstance other = ⊥
+IsOfInstance (Token fault) = ⊥
+IsOfInstance (Grammar fault) = ⊥
+IsOfInstance SchemaName = ⊥
+IsOfInstance SectionTwice = ⊥
+IsOfInstance CanonicalTooLong = ⊥
+IsOfInstance Dangling = ⊥
+IsOfInstance WrongTarget = ⊥
+IsOfInstance NoMemory = ⊥
+IsOfInstance Read = ⊥
+IsOfInstance Write = ⊥
 
 -- Behind the statements given an instance is refused by this fault: its record means nothing, whatever the other instances
 -- are, and breaks the rule of the fault's number; or an instance among those statements has its name

@@ -13,7 +13,6 @@ ghost use Rattle.p21_stream.specs.Inside.{held_of};
 use crate::counting::Counted;
 use crate::held::Held;
 use crate::progress::Progress;
-use crate::walk::refused;
 use p21_express_tables::Schema;
 use p21_stream_kept::Kept;
 use p21_stream_output::Accepted;
@@ -154,12 +153,7 @@ impl<'s> AnySession<'s> {
         ensures kept { result.kept ≤ (limits_of self.now).file_canonical }
         ensures needs { result.needs ≤ (limits_of self.now).file_source }
     {
-        Held {
-            pending: self.progress.walk.statements.pending(),
-            depth: self.progress.walk.statements.depth(),
-            kept: self.progress.walk.kept.size(),
-            needs: self.progress.walk.kept.references(),
-        }
+        self.progress.held()
     }
 
     /// The end of the file, where lines are kept. It takes memory for the order of the instances, and gives up what only the
@@ -222,6 +216,6 @@ impl<'s> AnySession<'s> {
     pub(crate) fn refusal(&self, fault: Fault) -> Refusal
         ensures fault { result.fault ≡ fault }
     {
-        refused(fault, None, self.progress.walk.statement)
+        self.progress.refusal(fault)
     }
 }

@@ -1,4 +1,4 @@
-ghost use Rattle.std.specs.Prelude.{◌≡◌, ◌<◌, ◌^◌, [], IfErr, IfOk, None, OnOk, Some, Err};
+ghost use Rattle.std.specs.Prelude.{◌≡◌, ◌≤◌, ◌<◌, ◌^◌, [], IfErr, IfOk, None, OnOk, Some, Err};
 ghost use Rattle.p21_spec_basics.specs.Limits.{Limits as MeantLimits};
 ghost use Rattle.p21_spec_laws.specs.Stored.{with_lines};
 ghost use Rattle.p21_spec_schema.specs.Schema.{Schema as Meant};
@@ -7,8 +7,8 @@ ghost use Rattle.p21_stream_statements.specs.Place.{IsPlaceOf, place_behind};
 ghost use Rattle.p21_stream_statements.specs.Source.{IsOfBytes};
 ghost use Rattle.p21_stream_statements.specs.declared.refusal.Refusal.{Refusal};
 ghost use Rattle.p21_stream.specs.Bounds.{IsBounded, KeepsLines, StaysKept};
-ghost use Rattle.p21_stream.specs.Histories.{CountGives, FeedChecks, FeedGives, FeedNeedsNoMemory, FeedPlaces, FinishGives, HasPlaceOf, RefusesAgain, RefusesAtEnd, WholeGives};
-ghost use Rattle.p21_stream.specs.Inside.{held_in};
+ghost use Rattle.p21_stream.specs.Histories.{CountGives, FeedChecks, FeedGives, FeedNeedsNoMemory, FeedPlaces, FinishGives, HasPlaceOf, HoldsFor, RefusesAgain, RefusesAtEnd, WholeGives};
+ghost use Rattle.p21_stream.specs.Inside.{held_in, held_of};
 ghost use Rattle.p21_stream.specs.Ending.{CountsEnd, EndGives, EndsServed, EndsWhole, IsBetweenPieces};
 ghost use Rattle.p21_transcribe_instance.specs.ExternalSet.{AreExternalSets};
 ghost use Rattle.p21_transcribe_instance.specs.Steps.{IsPlanOf};
@@ -112,6 +112,29 @@ impl Progress {
         ensures byte { result.byte ≡ place_behind self.now.walk.statements }
     {
         self.walk.statements.places()
+    }
+
+    /// What is held of the bytes taken. It takes no memory.
+    pub(crate) fn held(&self) -> Held
+        ensures held { (s : Meant) (limits : MeantLimits) → HoldsFor (held_in s limits self.now) (held_of result) }
+        ensures pending { result.pending ≤ (limits_of self.now.walk.statements).0 }
+        ensures depth { result.depth ≤ 64 }
+        ensures kept { result.kept ≡ self.now.walk.kept.bytes }
+        ensures needs { result.needs ≡ self.now.walk.kept.references }
+    {
+        Held {
+            pending: self.walk.statements.pending(),
+            depth: self.walk.statements.depth(),
+            kept: self.walk.kept.size(),
+            needs: self.walk.kept.references(),
+        }
+    }
+
+    /// A refusal at the open statement, for what is no fault of a byte. It takes no memory.
+    pub(crate) fn refusal(&self, fault: Fault) -> Refusal
+        ensures { result.fault ≡ fault }
+    {
+        refused(fault, None, self.walk.statement)
     }
 
     /// The end of the bytes, where lines are kept.

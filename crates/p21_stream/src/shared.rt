@@ -8,7 +8,6 @@ ghost use Rattle.std.specs.Arc.{arc_value};
 
 use crate::held::Held;
 use crate::progress::Progress;
-use crate::walk::refused;
 use p21_express_tables::Schema;
 use p21_stream_kept::Kept;
 use p21_stream_output::Accepted;
@@ -121,12 +120,7 @@ impl SharedSession {
         ensures kept { result.kept ≤ (limits_of self.now).file_canonical }
         ensures needs { result.needs ≤ (limits_of self.now).file_source }
     {
-        Held {
-            pending: self.progress.walk.statements.pending(),
-            depth: self.progress.walk.statements.depth(),
-            kept: self.progress.walk.kept.size(),
-            needs: self.progress.walk.kept.references(),
-        }
+        self.progress.held()
     }
 
     /// The end of the file. It takes memory for the order of the instances, and gives up what only the check needs.
@@ -152,6 +146,6 @@ impl SharedSession {
     pub fn refusal(&self, fault: Fault) -> Refusal
         ensures fault { result.fault ≡ fault }
     {
-        refused(fault, None, self.progress.walk.statement)
+        self.progress.refusal(fault)
     }
 }

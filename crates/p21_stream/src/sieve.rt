@@ -144,7 +144,16 @@ impl Sieve {
         match fault {
             Fault::Check(_) => self.list(name, fault),
             Fault::DuplicateName => self.list(name, fault),
-            _ => Err(fault),
+            Fault::Token(_) => Err(fault),
+            Fault::Grammar(_) => Err(fault),
+            Fault::SchemaName => Err(fault),
+            Fault::SectionTwice => Err(fault),
+            Fault::CanonicalTooLong => Err(fault),
+            Fault::Dangling => Err(fault),
+            Fault::WrongTarget => Err(fault),
+            Fault::NoMemory => Err(fault),
+            Fault::Read => Err(fault),
+            Fault::Write => Err(fault),
         }
     }
 

@@ -1,5 +1,6 @@
-//! Why no instance serves the references that wait, where what is found of a large set is remembered.
-ghost use Rattle.std.specs.Prelude.{◌≡◌, ◌↔◌, ◌<◌, ◌++◌, ◌∷◌, [], List, Some, length, slice_get, IfOk, IfSome, IsTrue, OnOk};
+//! Whether large sets serve what is wanted of them, remembered under one schema, and why no instance serves the references that
+//! wait.
+ghost use Rattle.std.specs.Prelude.{◌≡◌, ◌↔◌, ◌⊎◌, ◌<◌, ◌++◌, ◌∷◌, [], List, Some, length, slice_get, IfOk, IfSome, IsTrue};
 ghost use Rattle.std.specs.List.{AllZip};
 ghost use Rattle.p21_express_graph.specs.Meaning.{member};
 ghost use Rattle.p21_spec_file.specs.Reference.{Serves};
@@ -25,9 +26,10 @@ use std::collections::BTreeMap;
 /// The number of a set, whether a select is wanted of it, and the number of the select or of the entity that is.
 type Key = (usize, bool, u32);
 
-/// Whether large sets serve what was wanted of them.
+/// Whether large sets serve what was wanted of them under one schema. What is remembered is right for that schema, so a memory is
+/// for one look at references, and no longer.
 #[derive(Drop)]
-struct Judgements {
+pub(crate) struct Judgements {
     all: Vec<Judgement>,
     // Where one of them stands. It is held against what is wanted before it counts.
     numbers: BTreeMap<Key, usize>,
@@ -43,7 +45,7 @@ struct Judgement {
 
 impl Judgements {
     /// None. It takes no memory.
-    fn new(alloc: Global) -> Judgements
+    pub(crate) fn new(alloc: Global) -> Judgements
         ensures { result.all.items ≡ [] }
     {
         Judgements {
@@ -53,57 +55,55 @@ impl Judgements {
     }
 
     /// Why no instance serves a need, if none does.
-    fn answer(
-        &mut self,
-        schema: &Schema,
-        stored: &Stored,
-        need: &Need,
-    ) -> Result<Option<Fault>, NoMemory>
+    fn answer(&mut self, schema: &Schema, stored: &Stored, need: &Need) -> Option<Fault>
         requires stored { AreStored stored.now }
         requires right { AreRight schema.now stored.now.memberships self.old.all.items }
-        ensures answers { IfOk result (AnswersNeed schema.now (stored_in stored.now) (need_view need.now)) }
-        ensures right { OnOk result (AreRight schema.now stored.now.memberships self.new.all.items) }
+        ensures answers { AnswersNeed schema.now (stored_in stored.now) (need_view need.now) result }
+        ensures right { AreRight schema.now stored.now.memberships self.new.all.items }
     {
         let Some(membership) = stored.instances.membership_of(need.target.0) else {
-            return Ok(Some(Fault::Dangling));
+            return Some(Fault::Dangling);
         };
-        let served = self.judge(schema, &stored.memberships, need, membership)?;
-        if served {
-            Ok(None)
+        if self.judge(schema, &stored.memberships, need, membership) {
+            None
         } else {
-            Ok(Some(Fault::WrongTarget))
+            Some(Fault::WrongTarget)
         }
     }
 
-    /// Whether the set of a membership serves a need. That of a large set is looked through once for all that want the same.
-    fn judge(
+    /// Whether the set of a membership serves a need. That of a large set is looked through once for all that want the same; where
+    /// there is no memory to remember it, it is looked through again.
+    #[inline(never)]
+    pub(crate) fn judge(
         &mut self,
         schema: &Schema,
         memberships: &Memberships,
         need: &Need,
         membership: usize,
-    ) -> Result<bool, NoMemory>
+    ) -> bool
         requires membership { membership < length memberships.now }
         requires right { AreRight schema.now memberships.now self.old.all.items }
-        ensures serves { IfOk result (Serving schema.now memberships.now (member need.now.wanted) membership) }
-        ensures right { OnOk result (AreRight schema.now memberships.now self.new.all.items) }
+        ensures serves { Serving schema.now memberships.now (member need.now.wanted) membership result }
+        ensures right { AreRight schema.now memberships.now self.new.all.items }
     {
         let (_, entities) = memberships.get(membership);
         if entities.len() <= MOST_LOOKED_THROUGH {
-            return Ok(serves(schema, need, entities));
+            return serves(schema, need, entities);
         }
         let key = key_of(memberships.set(membership), need.wanted);
         if let Some(known) = self.find(memberships, key, need.wanted, membership) {
-            return Ok(known);
+            return known;
         }
         let found = serves(schema, need, entities);
-        let judgement = Judgement {
-            wanted: need.wanted,
-            membership,
-            serves: found,
-        };
-        self.remember(key, judgement)?;
-        Ok(found)
+        self.remember(
+            key,
+            Judgement {
+                wanted: need.wanted,
+                membership,
+                serves: found,
+            },
+        );
+        found
     }
 
     /// What is remembered of the set of a membership, if anything is.
@@ -127,14 +127,14 @@ impl Judgements {
         Some(judgement.serves)
     }
 
-    /// Remembers what was found.
-    fn remember(&mut self, key: Key, judgement: Judgement) -> Result<(), NoMemory>
-        ensures { OnOk result (self.new.all.items ≡ self.old.all.items ++ judgement ∷ []) }
+    /// Remembers what was found, if there is memory for it.
+    fn remember(&mut self, key: Key, judgement: Judgement)
+        ensures { (self.new.all.items ≡ self.old.all.items) ⊎ (self.new.all.items ≡ self.old.all.items ++ judgement ∷ []) }
     {
-        let number = self.all.len();
-        self.all.push(judgement)?;
-        let _before = self.numbers.insert(key, number)?;
-        Ok(())
+        let Ok(_) = self.numbers.insert(key, self.all.len()) else {
+            return;
+        };
+        let _ = self.all.push(judgement);
     }
 }
 
@@ -174,7 +174,7 @@ pub(crate) fn refusals_of(
     let mut judgements = Judgements::new(alloc);
     let mut refusals = Vec::with_capacity(alloc, waiting.len())?;
     for reference in waiting {
-        let refusal = judgements.answer(schema, stored, &reference.need)?;
+        let refusal = judgements.answer(schema, stored, &reference.need);
         refusals.push(refusal)?;
     }
     Ok(refusals)

@@ -2,16 +2,20 @@
 ghost use Rattle.std.specs.Prelude.{◌≡◌, ◌+◌, ◌/◌, ◌<◌, ◌≤◌, [], IsTrue, OnErr, drop, false, length, min, take, true, vec_capacity, vec_len};
 ghost use Rattle.p21_spec_laws.specs.Keeping.{IsServedBy, IsServedByNone};
 ghost use Rattle.p21_mapping_values.specs.TypedView.{need_view};
+ghost use Rattle.p21_express_graph.specs.Meaning.{member};
 ghost use Rattle.p21_stream_kept.specs.Inside.{AreStored, references_of, stored_in};
+ghost use Rattle.p21_stream_kept.specs.Judgements.{AreRight, Serving};
 ghost use Rattle.p21_stream_kept.specs.Served.{AnswersNeed, AnswersUnserved, DropsBehind};
 
+use crate::judgements::Judgements;
 use crate::kept::Reference;
-use crate::servers::Servers;
+use crate::servers::{MOST_LOOKED_THROUGH, Servers};
 use crate::stored::Stored;
 use p21_express_tables::Schema;
 use p21_mapping::serves;
 use p21_mapping_values::Need;
 use p21_stream_statements::Fault;
+use p21_stream_store::Memberships;
 use p21_values::{Name, NoMemory};
 
 /// Why no instance serves a need: none has its name, or the one that has it isn't of the type. It takes no memory.
@@ -114,11 +118,12 @@ pub(crate) fn drop_served(
     ensures short { waiting.new.items ≡ [] → vec_capacity waiting.new ≤ 2048 }
     ensures drops { DropsBehind schema.now (stored_in stored.now) (references_of (take from waiting.old.items)) (references_of (drop from waiting.old.items)) (references_of waiting.new.items) }
 {
+    let mut judgements = Judgements::new(*waiting.allocator());
     let mut left = from;
     for index in from..waiting.len() {
         let reference = waiting[index];
         waiting[left] = reference;
-        if !is_served_now(schema, stored, servers, &reference.need) {
+        if !is_served_now(schema, stored, servers, &mut judgements, &reference.need) {
             left += 1;
         }
     }
@@ -145,13 +150,21 @@ fn give_back(waiting: &mut Vec<Reference>)
 }
 
 /// Whether an instance that is stored serves a need: mostly by the entity that is guessed, and else by what is found, which is
-/// guessed from then on, or remembered of a large set. What is remembered counts where it says that an entity serves; else the set
-/// is looked through, since nothing binds what is remembered to this schema. It takes no memory.
+/// guessed from then on, or by what is known of a large set. It asks for memory only to remember that a large set doesn't serve, and
+/// does without it.
 #[inline(always)]
-fn is_served_now(schema: &Schema, stored: &Stored, servers: &mut Servers, need: &Need) -> bool
-    requires { AreStored stored.now }
+fn is_served_now(
+    schema: &Schema,
+    stored: &Stored,
+    servers: &mut Servers,
+    judgements: &mut Judgements,
+    need: &Need,
+) -> bool
+    requires stored { AreStored stored.now }
+    requires right { AreRight schema.now stored.now.memberships judgements.old.all.items }
     ensures served { result ≡ true → IsServedBy schema.now (stored_in stored.now) (need_view need.now) }
     ensures unserved { result ≡ false → IsServedByNone schema.now (stored_in stored.now) (need_view need.now) }
+    ensures right { AreRight schema.now stored.now.memberships judgements.new.all.items }
 {
     let Some(membership) = stored.instances.membership_of(need.target.0) else {
         return false;
@@ -161,10 +174,40 @@ fn is_served_now(schema: &Schema, stored: &Stored, servers: &mut Servers, need: 
         return true;
     }
     servers.guess(schema, need, membership, entities);
-    if servers.has_large_sets() && is_served(schema, stored, servers, need) {
-        return true;
+    if entities.len() > MOST_LOOKED_THROUGH {
+        return large_set_serves(
+            schema,
+            &stored.memberships,
+            servers,
+            judgements,
+            need,
+            membership,
+        );
     }
     serves(schema, need, entities)
+}
+
+/// Whether the large set of a membership serves a need. That an entity serves is remembered from look to look, and asked again; that
+/// none does is known for this look alone, since nothing binds what is remembered of it longer to this schema.
+#[inline(never)]
+fn large_set_serves(
+    schema: &Schema,
+    memberships: &Memberships,
+    servers: &Servers,
+    judgements: &mut Judgements,
+    need: &Need,
+    membership: usize,
+) -> bool
+    requires membership { membership < length memberships.now }
+    requires right { AreRight schema.now memberships.now judgements.old.all.items }
+    ensures serves { Serving schema.now memberships.now (member need.now.wanted) membership result }
+    ensures right { AreRight schema.now memberships.now judgements.new.all.items }
+{
+    let (_, entities) = memberships.get(membership);
+    if servers.serve(schema, need, memberships.set(membership), entities) {
+        return true;
+    }
+    judgements.judge(schema, memberships, need, membership)
 }
 
 /// The first reference that no instance serves, by the name of the instance that has it, and why. It takes no memory.

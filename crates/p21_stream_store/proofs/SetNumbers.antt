@@ -1,5 +1,5 @@
 -- Sets of entities by number.
-use Rattle.std.proofs.Common.{◌≡◌, ◌==◌, ℕ, Bool, List, [], ◌∷◌, ◌++◌, length, map, slice_get, Some, None, refl, sym, ap, subst, ◌∙◌}
+use Rattle.std.proofs.Common.{◌≡◌, ◌≤◌, ◌==◌, arith, ℕ, Bool, List, [], ◌∷◌, ◌++◌, length, map, slice_get, Some, None, Result, Ok, Err, inl, inr, refl, sym, ap, subst, ◌∙◌}
 use Rattle.std.proofs.lemmas.List.{length-map, map-append}
 use Rattle.std.proofs.lemmas.Map.Lookups.{CmpEqualImpliesEq, exact_unsigned}
 use Rattle.std.proofs.lemmas.Bool.Decides.{Decides-eqb}
@@ -9,16 +9,17 @@ use Rattle.std.specs.Bool.{Decides, IsTrue}
 use Rattle.std.specs.BTreeMap.{BTreeMap, IsEmpty, Updates, get_by}
 use Rattle.std.specs.Cmp.Lexicographic.{pointwise, slice_cmp}
 use Rattle.std.specs.List.{Contains}
+use Rattle.std.specs.Prelude.{IfOk, OnErr}
 use Rattle.std.specs.Ordering.{nat_cmp, ordering_then}
 use Rattle.std.specs.declared.alloc.Global.{Global}
 use Rattle.std.specs.declared.cmp.Ordering.{Ordering}
 use Rattle.std.specs.declared.cmp.Ordering.TheVariants.{Equal, Greater, Less}
 use Rattle.std.specs.declared.sync.ArcSlice.{ArcSlice}
-use Rattle.p21_spec_basics.proofs.Members.{Contains-unmapped}
+use Rattle.p21_spec_basics.proofs.Members.{Contains-unmapped, Each-append, Each-member, Each-weaker}
 use Rattle.p21_express_graph.specs.declared.number.EntityId.{EntityId}
 use Rattle.p21_mapping_values.specs.TypedView.{ids_view}
 use Rattle.p21_stream_store.proofs.Numbering.{are-once, behind, is-absent, known, mapped-at, none-numbered, one-more, unmapped-at}
-use Rattle.p21_stream_store.specs.EntitySets.{AreNumberedSets, key_items, lists_of, sets_of}
+use Rattle.p21_stream_store.specs.EntitySets.{AreNumberedSets, HaveRoom, key_items, lists_of, sets_of}
 use Rattle.p21_stream_store.specs.Numbering.{AreNumbered, AreOnce, Interns}
 use Rattle.p21_stream_store.specs.SetOrder.{by_entities, by_size}
 use Rattle.p21_stream_store.specs.declared.set_key.SetKey.{SetKey}
@@ -97,11 +98,15 @@ sets-once sets numbers are set number other at at_ =
     listed : (k : ℕ) → slice_get (sets_of sets) k ≡ Some set → (entities : List EntityId) × (slice_get (lists_of sets) k ≡ Some entities) × (ids_view entities ≡ set)
     listed k here = unmapped-at ids_view (lists_of sets) k set here
 
--- a set that is found has the number
-pub set-found : (sets : List Shared) (numbers : BTreeMap SetKey ℕ) (listed entities : List EntityId) (number : ℕ) → AreNumberedSets sets numbers → listed ≡ entities → get_by (λ (k : SetKey). by_size listed (key_items k)) numbers ≡ Some number
+-- a set that a tree finds has the number, and one that it doesn't find isn't there
+pub set-found : (sets : List Shared) (numbers : BTreeMap SetKey ℕ) (entities : List EntityId) (number : ℕ) → AreNumberedSets sets numbers → get_by (λ (k : SetKey). by_size entities (key_items k)) numbers ≡ Some number
     → Interns (sets_of sets) (ids_view entities) number (sets_of sets)
-set-found sets numbers listed entities number are is at =
-    known (sets_of sets) (ids_view entities) number (mapped-at ids_view (lists_of sets) number entities (are.found listed number at ∙ ap (λ (es : List EntityId). Some es) is))
+set-found sets numbers entities number are at = known (sets_of sets) (ids_view entities) number (mapped-at ids_view (lists_of sets) number entities (are.found entities number at))
+
+pub set-absent : (sets : List Shared) (numbers : BTreeMap SetKey ℕ) (entities : List EntityId) → AreNumberedSets sets numbers → get_by (λ (k : SetKey). by_size entities (key_items k)) numbers ≡ None → Contains (sets_of sets) (ids_view entities) → ⊥
+set-absent sets numbers entities are none there =
+    let (found, among, same) = Contains-unmapped ids_view (lists_of sets) (ids_view entities) there in
+    is-absent key_items by_size exact-sizes (lists_of sets) numbers entities are none (subst (λ (es : List EntityId). Contains (lists_of sets) es) (same-entities found entities same) among)
 
 lists-behind : (sets after : List Shared) (set : Shared) → after ≡ sets ++ set ∷ [] → lists_of after ≡ lists_of sets ++ arc_slice_items set ∷ []
 lists-behind sets after set is = ap lists_of is ∙ map-append (λ (s : Shared). arc_slice_items s) sets (set ∷ [])
@@ -111,17 +116,34 @@ module _ (sets after : List Shared) (numbers : BTreeMap SetKey ℕ) (key : SetKe
   lists-are : lists_of after ≡ lists_of sets ++ key_items key ∷ []
   lists-are = lists-behind sets after copy is ∙ ap (λ (es : List EntityId). lists_of sets ++ es ∷ []) copied
 
-  pub set-added : (entities : List EntityId) (number : ℕ) → key_items key ≡ entities → number ≡ length sets → Interns (sets_of sets) (ids_view entities) number (sets_of after)
-  set-added entities number listed last =
-      behind (sets_of sets) (sets_of after) (ids_view entities) number (last ∙ sym (count-sets sets))
-      (ap (map ids_view) lists-are ∙ map-append ids_view (lists_of sets) (key_items key ∷ []) ∙ ap (λ (es : List EntityId). sets_of sets ++ ids_view es ∷ []) listed)
-      (λ there.
-      let (found, among, same) = Contains-unmapped ids_view (lists_of sets) (ids_view entities) there in
-      let set_is : found ≡ key_items key = same-entities found entities same ∙ sym listed in
-      is-absent key_items by_size exact-sizes (lists_of sets) numbers (key_items key) are none (subst (λ (es : List EntityId). Contains (lists_of sets) es) set_is among))
+  pub set-added : (number : ℕ) → number ≡ length sets → Interns (sets_of sets) (ids_view (key_items key)) number (sets_of after)
+  set-added number last = behind (sets_of sets) (sets_of after) (ids_view (key_items key)) number (last ∙ sym (count-sets sets)) (ap (map ids_view) lists-are ∙ map-append ids_view (lists_of sets) (key_items key ∷ [])) (set-absent sets numbers (key_items key) are none)
 
   pub sets-numbered : (new : BTreeMap SetKey ℕ) (number : ℕ) → number ≡ length sets → Updates (λ (a b : SetKey). by_size (key_items a) (key_items b)) numbers new key (Some number) → AreNumberedSets after new
   sets-numbered new number last updates =
       let P : ℕ → Type 0 = λ n. Updates (λ (a b : SetKey). by_size (key_items a) (key_items b)) numbers new key (Some n) in
       let more = one-more key_items by_size exact-sizes (lists_of sets) numbers new key are none (subst P (last ∙ sym (length-map sets (λ (s : Shared). arc_slice_items s))) updates) in
       subst (λ (ls : List (List EntityId)). AreNumbered key_items by_size ls new) (sym lists-are) more
+
+-- ---- room
+
+-- more room is room for them too
+pub room-wider : (less more : ℕ) (sets : List (List ℕ)) → less ≤ more → HaveRoom less sets → HaveRoom more sets
+room-wider less more sets wider have = Each-weaker (λ (set : List ℕ). length set ≤ less) (λ (set : List ℕ). length set ≤ more) (λ set within. omega (arith, within, wider)) sets have
+
+-- there is room for one that is there
+pub room-of : (room : ℕ) (sets : List (List ℕ)) (entities : List EntityId) → HaveRoom room sets → Contains sets (ids_view entities) → length entities ≤ room
+room-of room sets entities have there =
+    let within : length (ids_view entities) ≤ room = Each-member (λ (set : List ℕ). length set ≤ room) sets (ids_view entities) have there in
+    omega (arith, within, length-map entities (λ (e : EntityId). e.0))
+
+-- and for those with one more for which there is room
+pub room-interned : {F : Type 0} (room : ℕ) (sets after : List Shared) (entities : List EntityId) (r : Result ℕ F) → HaveRoom room (sets_of sets) → length entities ≤ room
+    → IfOk r (λ number. Interns (sets_of sets) (ids_view entities) number (sets_of after)) → OnErr r (after ≡ sets) → HaveRoom room (sets_of after)
+room-interned room sets after entities (Err fault) have within ok same = subst (λ (all : List Shared). HaveRoom room (sets_of all)) (sym same) have
+room-interned room sets after entities (Ok number) have within ok err = elim ok.1 [
+  | inl same ↦ subst (HaveRoom room) (sym same) have
+  | inr more ↦
+      let one : length (ids_view entities) ≤ room = omega (arith, within, length-map entities (λ (e : EntityId). e.0)) in
+      subst (HaveRoom room) (sym more.0) (Each-append (λ (set : List ℕ). length set ≤ room) (sets_of sets) (ids_view entities ∷ []) have (one, tt))
+]

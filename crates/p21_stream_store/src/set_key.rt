@@ -1,63 +1,69 @@
 //! Sets of entities as keys of a tree.
 ghost use Rattle.std.specs.Prelude.{◌≡◌, refl, Some};
-ghost use Rattle.std.specs.Arc.{arc_slice_items};
 ghost use Rattle.std.specs.Cmp.{eq_by_cmp_equiv, on_equiv, on_per, on_po, on_total, partial_equiv_from_equiv, po};
 ghost use Rattle.std.specs.Ordering.{eq_by_cmp};
 ghost use Rattle.p21_stream_store.specs.SetOrder.{by_size, by_size_total};
+ghost use Rattle.p21_stream_store.specs.EntitySets.{key_items};
 
 use crate::same_front::same_front;
 use p21_express_graph::EntityId;
 use std::cmp::Ordering;
 use std::sync::ArcSlice;
 
-/// A set of entities as a key. Of two sets the one of fewer entities comes first, so that most are told apart by a look at
-/// their lengths; sets of as many are compared entity by entity.
+/// A set of entities as a key: one that is kept, or entities that are looked for. Of two sets the one of fewer entities comes
+/// first, so that most are told apart by a look at their lengths; sets of as many are compared entity by entity.
 #[derive(Drop)]
-pub(crate) struct SetKey(pub(crate) ArcSlice<EntityId>);
+pub(crate) enum SetKey {
+    Kept(ArcSlice<EntityId>),
+    Sought(Vec<EntityId>),
+}
+
+impl SetKey {
+    fn entities(&self) -> &[EntityId]
+        ensures { result.now ≡ key_items self.now }
+    {
+        match self {
+            SetKey::Kept(set) => set.as_slice(),
+            SetKey::Sought(entities) => entities,
+        }
+    }
+}
 
 impl PartialEq for SetKey {
-    ghost use Rattle.p21_stream_store.specs.declared.set_key.SetKey.{SetKey};
+    ghost eq = { λ a b. eq_by_cmp by_size (key_items a) (key_items b) };
 
-    ghost eq = { λ a b. eq_by_cmp by_size (arc_slice_items a.0) (arc_slice_items b.0) };
+    ghost laws = { on_per key_items (partial_equiv_from_equiv (eq_by_cmp_equiv by_size_total)) };
 
-    ghost laws = { on_per (λ (a : SetKey). arc_slice_items a.0) (partial_equiv_from_equiv (eq_by_cmp_equiv by_size_total)) };
-
-    fn eq(&self, other: &SetKey) -> bool {
+    fn eq(&self, other: &Self) -> bool {
         self.cmp(other).is_eq()
     }
 }
 
 impl Eq for SetKey {
-    ghost use Rattle.p21_stream_store.specs.declared.set_key.SetKey.{SetKey};
-
-    ghost laws = { on_equiv (λ (a : SetKey). arc_slice_items a.0) (eq_by_cmp_equiv by_size_total) };
+    ghost laws = { on_equiv key_items (eq_by_cmp_equiv by_size_total) };
 }
 
 impl PartialOrd for SetKey {
-    ghost use Rattle.p21_stream_store.specs.declared.set_key.SetKey.{SetKey};
+    ghost partial_cmp = { λ a b. Some (by_size (key_items a) (key_items b)) };
 
-    ghost partial_cmp = { λ a b. Some (by_size (arc_slice_items a.0) (arc_slice_items b.0)) };
+    ghost laws = { on_po key_items (po by_size_total (λ a b. refl)) };
 
-    ghost laws = { on_po (λ (a : SetKey). arc_slice_items a.0) (po by_size_total (λ a b. refl)) };
-
-    fn partial_cmp(&self, other: &SetKey) -> Option<Ordering> {
+    fn partial_cmp(&self, other: &Self) -> Option<Ordering> {
         Some(self.cmp(other))
     }
 }
 
 impl Ord for SetKey {
-    ghost use Rattle.p21_stream_store.specs.declared.set_key.SetKey.{SetKey};
+    ghost cmp = { λ a b. by_size (key_items a) (key_items b) };
 
-    ghost cmp = { λ a b. by_size (arc_slice_items a.0) (arc_slice_items b.0) };
-
-    ghost total = { on_total (λ (a : SetKey). arc_slice_items a.0) by_size_total };
+    ghost total = { on_total key_items by_size_total };
 
     ghost matches_partial_cmp = { λ a b. refl };
 
     ghost matches_eq = { λ a b. refl };
 
-    fn cmp(&self, other: &SetKey) -> Ordering {
-        compare(self.0.as_slice(), other.0.as_slice())
+    fn cmp(&self, other: &Self) -> Ordering {
+        compare(self.entities(), other.entities())
     }
 }
 

@@ -1,16 +1,13 @@
-use Rattle.std.proofs.Common.{[], ◌∷◌, ◌++◌, refl}
-use Rattle.std.proofs.KnownBytes.{Keeps-refl}
+use Rattle.std.proofs.Common.{[], ◌∷◌, subst, sym}
 use Rattle.p21_commands.specs.Failures.{failures_of}
-use Rattle.p21_commands.proofs.Failing.{none_more}
-use Rattle.p21_commands.proofs.Reporting.{ends-answered, ends-reported}
+use Rattle.p21_commands.specs.Param.{IsAnswered}
+use Rattle.p21_commands.proofs.Reporting.{ends-unanswered, ends-with}
 use Rattle.p21_commands.proofs.param.param_command.Goals as goal
 
 pub returns-in-Ok-clause-ends : goal.returns-in-Ok-clause-ends
 returns-in-Ok-clause-ends g c =
-    let readers = failures_of c.args.input.now c.write_param.new.input ∷ [] in
-    let output = failures_of c.args.output.now c.write_param.new.output in
-    let faults = failures_of c.args.faults.now c.args.faults.now in
-    ends-answered _ _ readers _ _ _ _ output faults c.in-Ok.ensures.ok (Keeps-refl _) (none_more (readers ++ output ∷ []) (faults ∷ []) c.in-Ok.ensures.unfailed (refl, tt))
+    let IsAnswer = IsAnswered (g.R.Read.remaining c.args.input.now.inner) in
+    ends-with IsAnswer _ (failures_of c.args.input.now c.param_line.new.input ∷ []) _ _ _ _ (subst IsAnswer (sym c.deref.ensures.value) c.in-Ok.ensures.ok) (c.in-Ok.ensures.read, tt) c.answer.ensures
 
 pub returns-in-Err-clause-ends : goal.returns-in-Err-clause-ends
-returns-in-Err-clause-ends g c = ends-reported _ _ (failures_of c.args.input.now c.write_param.new.input ∷ []) _ _ _ _ _ _ _ _ c.in-Err.ensures.err c.in-Err.ensures.failed c.report.ensures
+returns-in-Err-clause-ends g c = ends-unanswered _ _ (failures_of c.args.input.now c.param_line.new.input ∷ []) g.W.Write.contents c.args.output.now _ c.in-Err.fault _ c.in-Err.ensures.err c.in-Err.ensures.failed c.report.ensures

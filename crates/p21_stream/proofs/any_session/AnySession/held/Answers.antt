@@ -1,14 +1,8 @@
-use Rattle.std.proofs.Common.{sym, subst}
-use Rattle.p21_stream_statements.specs.StatementReader as statements
-use Rattle.p21_stream.proofs.PieceFeeding.{holds}
+use Rattle.std.proofs.Common.{subst}
 use Rattle.p21_stream.specs.Held.{SessionHeld}
 use Rattle.p21_stream.specs.Histories.{HoldsFor}
-use Rattle.p21_stream.specs.Inside.{held_in}
+use Rattle.p21_stream.specs.Inside.{held_of}
 use Rattle.p21_stream.proofs.any_session.AnySession.held.Goals as goal
 
 pub returns-clause-held : goal.returns-clause-held
-returns-clause-held c =
-    let inside : SessionHeld = held_in c.self.inside.schema.now c.self.inside.limits c.self.inside.progress in
-    subst (λ (h : SessionHeld). HoldsFor h (record { pending = c.pending.result; depth = c.depth.result; kept = c.size.result; needs = c.references.result })) c.self.view_is
-    (holds inside c.pending.result c.depth.result c.size.result c.references.result
-    (subst (λ n. (reading : statements.StatementHistory) → statements.IsLive inside.statements reading → statements.HasOpenStatement reading c.pending.result n) (sym c.depth.ensures.depth) c.pending.ensures.pending) c.size.ensures c.references.ensures)
+returns-clause-held c = subst (λ (h : SessionHeld). HoldsFor h (held_of c.held.result)) c.self.view_is (c.held.ensures.held c.self.inside.schema.now c.self.inside.limits)

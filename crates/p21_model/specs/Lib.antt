@@ -1,0 +1,6 @@
+pub mod Rows
+pub mod Left
+pub mod Line
+pub mod Found
+pub mod Told
+pub mod Kept

@@ -1,0 +1,33 @@
+//! The instances of an accepted file.
+ghost use Rattle.std.specs.Prelude.{◌≡◌, Contains, IfSome, IsNone};
+ghost use Rattle.p21_model.specs.Kept.{AreStated, IsKeptLine, IsStated};
+ghost use Rattle.p21_stream_store.specs.StoredInstance.{instance_names};
+
+use crate::instance::Instance;
+use p21_express_tables::Schema;
+use p21_stream_output::Accepted;
+use p21_values::Name;
+
+/// An accepted file with the schema under which it was accepted.
+#[derive(Clone, Copy)]
+pub struct AcceptedModel<'a> {
+    pub schema: &'a Schema,
+    pub accepted: &'a Accepted,
+}
+
+impl<'a> AcceptedModel<'a> {
+    /// The instance of this name, if there is one. It takes no memory, and doesn't walk.
+    pub fn instance(self, name: Name) -> Option<Instance<'a>>
+        ensures name { IfSome result (λ found. found.name ≡ name) }
+        ensures some { IfSome result (λ found. IsKeptLine self.entry.accepted.now.kept found.name found.line.now) }
+        ensures stated { AreStated self.entry.schema.now self.entry.accepted.now.kept → IfSome result IsStated }
+        ensures none { IsNone result → Contains (instance_names self.entry.accepted.now.kept) name → ⊥ }
+    {
+        let line = self.accepted.line(name)?;
+        Some(Instance {
+            schema: self.schema,
+            name,
+            line,
+        })
+    }
+}

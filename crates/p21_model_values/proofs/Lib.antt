@@ -1,0 +1,5 @@
+pub mod Scanning
+pub mod FirstBytes
+pub mod Handing
+pub mod TypedValues
+pub mod Shortening

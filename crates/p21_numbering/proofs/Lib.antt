@@ -1,0 +1,17 @@
+pub mod RankedRows
+pub mod Counts
+pub mod Gathering
+pub mod RoundKeys
+pub mod PartSizes
+pub mod LargestParts
+pub mod Telling
+pub mod Ranges
+pub mod Represented
+pub mod PlaceNumbers
+pub mod Graphs
+pub mod Walks
+pub mod EdgeOrder
+pub mod FoundEdges
+pub mod UseWalks
+pub mod Terminated
+pub mod FileGraphs

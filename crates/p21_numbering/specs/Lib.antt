@@ -1,0 +1,7 @@
+pub mod Rows
+pub mod Arrays
+pub mod Largest
+pub mod PlacedUses
+pub mod Nodes
+pub mod Edges
+pub mod NodesOf

@@ -1,0 +1,4 @@
+mod Examples
+pub mod NoFiles
+pub mod IllFormed
+pub mod Meaningful

@@ -1,0 +1,3 @@
+pub mod FileWithin
+pub mod WellFormedFile
+pub mod Laws

@@ -1,0 +1,183 @@
+use p21_express_graph::Place;
+use p21_model::{AcceptedModel, Instance, Kind, Value};
+use p21_stream::{Accepted, Limits, Name, Schema, Session, read_schema};
+use std::alloc::Global;
+use std::process::Abort;
+
+const SCHEMA: &str =
+    "SCHEMA demo; TYPE label = STRING; END_TYPE; TYPE colour = ENUMERATION OF (red, green); END_TYPE; \
+TYPE measure = REAL; END_TYPE; TYPE any = SELECT (measure, label); END_TYPE; ENTITY thing; name : label; END_ENTITY; \
+ENTITY point SUBTYPE OF (thing); x, y : NUMBER; count : INTEGER; END_ENTITY; \
+ENTITY marked SUBTYPE OF (thing); mark : OPTIONAL colour; code : BINARY; END_ENTITY; \
+ENTITY group; members : SET [0:?] OF thing; rows : LIST [0:?] OF LIST [1:?] OF INTEGER; value : any; END_ENTITY; END_SCHEMA;";
+
+const FILE: &str =
+    "ISO-10303-21;HEADER;FILE_DESCRIPTION((''),'2;1');FILE_NAME('','',(''),(''),'','','');FILE_SCHEMA(('DEMO'));ENDSEC;DATA;\
+#3=GROUP((#20,#1),((1,+2),(3)),LABEL('a)'));#1=POINT('a,b(''c'')',1,-25.0E2,7);#20=(POINT(0.,1.,3)THING('')MARKED(.RED.,\"23\"));\
+#4=GROUP((),(),MEASURE(1.));#5=MARKED('\\X2\\00E9\\X0\\',$,\"0\");ENDSEC;END-ISO-10303-21;";
+
+/// The name of an instance, and its attributes with their values; elements stand in braces, and the value behind a keyword in angle
+/// brackets.
+const INSTANCES: &[(u64, &str)] = &[
+    (
+        1,
+        "THING.NAME Text 'a,b(''c'')';POINT.X Real 1.;POINT.Y Real -2.5E3;POINT.COUNT Whole 7;",
+    ),
+    (
+        3,
+        "GROUP.MEMBERS Aggregate (#1,#20){Reference #1 1,Reference #20 20,};GROUP.ROWS Aggregate ((1,2),(3)){Aggregate (1,2){Whole 1,Whole 2,},Aggregate (3){Whole 3,},};GROUP.VALUE Typed LABEL('a)')<LABEL Text 'a)'>;",
+    ),
+    (
+        4,
+        "GROUP.MEMBERS Aggregate (){};GROUP.ROWS Aggregate (){};GROUP.VALUE Typed MEASURE(1.)<MEASURE Real 1.>;",
+    ),
+    (
+        5,
+        "THING.NAME Text '\\X2\\00E9\\X0\\';MARKED.MARK Missing $;MARKED.CODE Bits \"0\";",
+    ),
+    (
+        20,
+        "MARKED.MARK Item .RED.;MARKED.CODE Bits \"23\";POINT.X Real 0.;POINT.Y Real 1.;POINT.COUNT Whole 3;THING.NAME Text '';",
+    ),
+    (2, "no instance"),
+];
+
+fn kind_name(kind: Kind) -> &'static str {
+    match kind {
+        Kind::Missing => "Missing",
+        Kind::Derived => "Derived",
+        Kind::Whole => "Whole",
+        Kind::Real => "Real",
+        Kind::Text => "Text",
+        Kind::Item => "Item",
+        Kind::Bits => "Bits",
+        Kind::Reference => "Reference",
+        Kind::Aggregate => "Aggregate",
+        Kind::Typed => "Typed",
+    }
+}
+
+fn put(shown: &mut Vec<u8>, bytes: &[u8]) {
+    let _ = shown.extend_from_slice(bytes);
+}
+
+fn put_number(shown: &mut Vec<u8>, number: u64) {
+    if number >= 10 {
+        put(shown, &[b'0' + (number / 10 % 10) as u8]);
+    }
+    put(shown, &[b'0' + (number % 10) as u8]);
+}
+
+/// What a value is, and its text.
+fn put_plain(shown: &mut Vec<u8>, value: &Value<'_>) {
+    put(shown, kind_name(value.kind()).as_bytes());
+    put(shown, b" ");
+    put(shown, value.text);
+}
+
+/// A value inside another one, with its own elements.
+fn put_inner(shown: &mut Vec<u8>, value: &Value<'_>) {
+    put_plain(shown, value);
+    if let Some(name) = value.reference() {
+        put(shown, b" ");
+        put_number(shown, name.0);
+    }
+    if value.kind() == Kind::Aggregate {
+        put(shown, b"{");
+        let mut elements = value.elements();
+        for _ in 0..9 {
+            if let Some(element) = elements.next() {
+                put_plain(shown, &element);
+                put(shown, b",");
+            }
+        }
+        put(shown, b"}");
+    }
+}
+
+fn put_value(shown: &mut Vec<u8>, value: &Value<'_>) {
+    put_plain(shown, value);
+    if value.kind() == Kind::Aggregate {
+        put(shown, b"{");
+        let mut elements = value.elements();
+        for _ in 0..9 {
+            if let Some(element) = elements.next() {
+                put_inner(shown, &element);
+                put(shown, b",");
+            }
+        }
+        put(shown, b"}");
+    }
+    if let Some((word, inside)) = value.typed() {
+        put(shown, b"<");
+        put(shown, word);
+        put(shown, b" ");
+        put_plain(shown, &inside);
+        put(shown, b">");
+    }
+}
+
+fn put_attribute(shown: &mut Vec<u8>, schema: &Schema, place: Place, value: &Value<'_>) {
+    if place.entity.0 as usize >= schema.entities() {
+        return;
+    }
+    if place.index >= schema.attribute_count(place.entity) {
+        return;
+    }
+    put(shown, schema.entity_name(place.entity));
+    put(shown, b".");
+    put(shown, schema.place_name(place));
+    put(shown, b" ");
+    put_value(shown, value);
+    put(shown, b";");
+}
+
+fn put_instance(shown: &mut Vec<u8>, schema: &Schema, instance: &Instance<'_>) {
+    let mut attributes = instance.attributes();
+    for _ in 0..9 {
+        if let Some(attribute) = attributes.next() {
+            if let Some(value) = instance.value(attribute.place) {
+                put_attribute(shown, schema, attribute.place, &value);
+            }
+        }
+    }
+}
+
+fn shown_of(alloc: Global, schema: &Schema, accepted: &Accepted, name: u64) -> Vec<u8> {
+    let mut shown = Vec::new(alloc);
+    let model = AcceptedModel { schema, accepted };
+    match model.instance(Name(name)) {
+        Some(instance) => put_instance(&mut shown, schema, &instance),
+        None => put(&mut shown, b"no instance"),
+    }
+    shown
+}
+
+fn first_otherwise(alloc: Global, schema: &Schema, accepted: &Accepted) -> &'static str {
+    for (name, wanted) in INSTANCES {
+        let shown = shown_of(alloc, schema, accepted, *name);
+        if shown.as_slice() != wanted.as_bytes() {
+            return wanted;
+        }
+    }
+    "none"
+}
+
+fn first_wrong(alloc: Global) -> &'static str {
+    let Ok(schema) = read_schema(alloc, SCHEMA.as_bytes()) else {
+        return "the schema";
+    };
+    let mut session = Session::new(alloc, &schema, Limits::usual());
+    let Ok(()) = session.feed(FILE.as_bytes()) else {
+        return "the file";
+    };
+    let Ok(accepted) = session.finish() else {
+        return "the end of the file";
+    };
+    first_otherwise(alloc, &schema, &accepted)
+}
+
+#[test]
+fn hands_out_attributes_and_values(rt: HostRuntime) {
+    assert_eq!(rt; first_wrong(rt.alloc()), "none");
+}
