@@ -100,7 +100,9 @@ BY_A_PIPE = [["p21-where", PRODUCT, "-"], ["p21-table", PRODUCT, "-"], ["p21-whe
 TOOLS_TESTS = ("adapt", "diff", "inputs", "manifest", "names", "shelf", "table", "where")
 TOOLS_OTHERWISE = [
     "a signal: its row",
-    *(f"{what}a signal, {how}" for what in ("", "a refusal, and ") for how in ("with names", "--names")),
+    "a signal, *",
+    "a refusal, and a signal, *",
+    "a program that ends by a signal*",
     "no answer",
     "of the schema",
 ]
@@ -558,7 +560,7 @@ def paths(made, tally):
 def tools_tests(made, tally):
     """The tests of the tools, as on Windows."""
     run_by = f"{sys.executable} {TESTS / 'platforms' / 'as_windows.py'}"
-    environment = {**os.environ, "P21_TOOLS_RUN_BY": run_by, "P21_TOOLS_OTHERWISE": "".join(f"|{name}|" for name in TOOLS_OTHERWISE)}
+    environment = {**os.environ, "P21_TOOLS_RUN_BY": run_by, "P21_TOOLS_OTHERWISE": "|".join(TOOLS_OTHERWISE)}
     for name in TOOLS_TESTS:
         done = subprocess.run([TESTS / f"tools_{name}.py"], stdout=subprocess.PIPE, stderr=subprocess.STDOUT, check=False, env=environment, text=True)
         tally.check(f"tools_{name}.py: {done.stdout[-2000:] if done.returncode else ''}", done.returncode, 0)

@@ -357,10 +357,11 @@ def tried(parts, where, shell, release, folder, package):
     begun = time.monotonic()
     _, output = shell(folder, script)
     seconds = time.monotonic() - begun
-    made, path, *answers = output.split(texts.MARK)
-    if not path:
+    made, *answers = output.split(texts.MARK)
+    if len(answers) < 2 or not answers[0]:
         parts.judge(f"{where}, {package}: installed", "no fault", made)
         return
+    path, *answers = answers
     home = {"tar.gz": "/bin/p21", "deb": "/usr/bin/p21", "whl": "/bin/p21"}[package]
     parts.judge(f"{where}, {package}: in the path, {seconds:.0f} s for all", True, path.splitlines()[0].endswith(home))
     for (command, wanted), found in zip(steps, answers):

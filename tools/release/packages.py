@@ -162,6 +162,12 @@ def development_entries(root: pathlib.Path, version: str, library: Mapping[str, 
     return {**found, **library}
 
 
+def of_python(version: str) -> str:
+    """The version of a release, or of a trial, as Python has it. Only wheels have it so: pip takes an archive for a package too,
+    where all behind its name is a version, as 0.1.0+trial-x86_64-linux is."""
+    return version.replace("-", "+")
+
+
 def wheel_entries(
     version: str, settings: Mapping[str, Any], root: pathlib.Path, entries: Entries, library: pathlib.Path, platforms: Sequence[str]
 ) -> Dict[str, Entry]:

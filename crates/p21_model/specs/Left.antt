@@ -61,6 +61,10 @@ pub record AreLeftRows (s : Schema) (places : List Place) (bytes : List ℕ) (ro
 abbrev pub TellsRows : Attributes → List Row → Type 0
 TellsRows a rows = AreLeftRows a.places.schema.now (places_in a.places) a.values.rest.now rows
 
+-- the schema whose entities declare them
+abbrev pub schema_of : Attributes → Schema
+schema_of a = a.places.schema.now
+
 -- the bytes from the next value on
 abbrev pub left_size : Attributes → ℕ
 left_size a = length a.values.rest.now

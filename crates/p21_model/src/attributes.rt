@@ -3,8 +3,9 @@ ghost use Rattle.std.specs.Prelude.{◌≡◌, ◌<◌, ◌∷◌, [], ℕ, true
 ghost use Rattle.p21_spec_exchange.specs.Record.{Part, Record};
 ghost use Rattle.p21_spec_schema.specs.Order.{places};
 ghost use Rattle.p21_express_graph.specs.Meaning.{place as place_of};
+ghost use Rattle.p21_express_graph.specs.Resolved.{IsPlace};
 ghost use Rattle.p21_model.specs.Found.{HasAt};
-ghost use Rattle.p21_model.specs.Left.{AreLeftParts, HandsOutRow, IsRecordText, NoKeywordFirst, TellsRows, left_size};
+ghost use Rattle.p21_model.specs.Left.{AreLeftParts, HandsOutRow, IsRecordText, NoKeywordFirst, TellsRows, left_size, schema_of};
 ghost use Rattle.p21_model_values.specs.Ends.{is_at_end};
 ghost use Rattle.p21_model.specs.Rows.{ArePartRows, ArePartsRows, AreRowsOf, Row};
 
@@ -32,7 +33,8 @@ pub struct Attributes<'a> {
 impl<'a> Attributes<'a> {
     /// The attributes of a record.
     pub(crate) fn of_record(schema: &'a Schema, bytes: &'a [u8]) -> Attributes<'a>
-        ensures { (record_ : Record) (rows : List Row) → IsRecordText record_ bytes.now → AreRowsOf schema.now record_ rows → TellsRows result rows }
+        ensures schema { schema_of result ≡ schema.now }
+        ensures told { (record_ : Record) (rows : List Row) → IsRecordText record_ bytes.now → AreRowsOf schema.now record_ rows → TellsRows result rows }
     {
         match Attributes::of_forms(schema, bytes) {
             Some(attributes) => attributes,
@@ -42,7 +44,8 @@ impl<'a> Attributes<'a> {
 
     /// The attributes of a record of internal or external mapping.
     fn of_forms(schema: &'a Schema, bytes: &'a [u8]) -> Option<Attributes<'a>>
-        ensures { (record_ : Record) (rows : List Row) → IsRecordText record_ bytes.now → AreRowsOf schema.now record_ rows → MatchOption result ⊥ (λ found. TellsRows found rows) }
+        ensures schema { IfSome result (λ found. schema_of found ≡ schema.now) }
+        ensures told { (record_ : Record) (rows : List Row) → IsRecordText record_ bytes.now → AreRowsOf schema.now record_ rows → MatchOption result ⊥ (λ found. TellsRows found rows) }
     {
         match behind(b'(', bytes) {
             Some(parts) => Attributes::of_part(schema, parts),
@@ -51,7 +54,9 @@ impl<'a> Attributes<'a> {
     }
 
     /// No attributes.
-    fn none(schema: &'a Schema) -> Attributes<'a> {
+    fn none(schema: &'a Schema) -> Attributes<'a>
+        ensures { schema_of result ≡ schema.now }
+    {
         Attributes {
             places: Places {
                 schema,
@@ -64,7 +69,8 @@ impl<'a> Attributes<'a> {
 
     /// The attributes of a simple record in internal mapping.
     fn of_whole(schema: &'a Schema, bytes: &'a [u8]) -> Option<Attributes<'a>>
-        ensures { (part : Part) (end : List ℕ) (rows : List Row) → AreLeftParts (part ∷ []) end bytes.now → ArePartRows schema.now (places schema.now) part rows → MatchOption result ⊥ (λ found. TellsRows found rows) }
+        ensures schema { IfSome result (λ found. schema_of found ≡ schema.now) }
+        ensures told { (part : Part) (end : List ℕ) (rows : List Row) → AreLeftParts (part ∷ []) end bytes.now → ArePartRows schema.now (places schema.now) part rows → MatchOption result ⊥ (λ found. TellsRows found rows) }
     {
         let Some((entity, rest)) = leading_part(schema, bytes) else {
             return None;
@@ -81,7 +87,7 @@ impl<'a> Attributes<'a> {
 
     /// The attributes of simple records in external mapping, if there is one.
     fn of_part(schema: &'a Schema, bytes: &'a [u8]) -> Option<Attributes<'a>>
-        ensures schema { IfSome result (λ found. found.places.schema.now ≡ schema.now) }
+        ensures schema { IfSome result (λ found. schema_of found ≡ schema.now) }
         ensures shorter { IfSome result (λ found. length found.values.rest.now < length bytes.now) }
         ensures some { (part : Part) (parts : List Part) (end : List ℕ) (rows : List Row) → AreLeftParts (part ∷ parts) end bytes.now → ArePartsRows schema.now (part ∷ parts) rows → MatchOption result ⊥ (λ found. TellsRows found rows) }
         ensures none { NoKeywordFirst bytes.now → IsNone result }
@@ -102,6 +108,8 @@ impl<'a> Attributes<'a> {
     /// The next attribute, with its value. It takes no memory.
     pub fn next(&mut self) -> Option<Attribute<'a>>
         ensures handed { (rows : List Row) → TellsRows self.old rows → HandsOutRow rows result self.new }
+        ensures place { IfSome result (λ attribute. IsPlace (schema_of self.old) (place_of attribute.place)) }
+        ensures schema { schema_of self.new ≡ schema_of self.old }
         ensures shorter { IfSome result (λ attribute. left_size self.new < left_size self.old) }
     {
         while self.values.is_empty() {
@@ -133,7 +141,7 @@ impl<'a> Attributes<'a> {
 
     /// The attributes behind those of a simple record that is at its end, if there are any.
     fn behind_part(&self) -> Option<Attributes<'a>>
-        ensures schema { IfSome result (λ found. found.places.schema.now ≡ self.now.places.schema.now) }
+        ensures schema { IfSome result (λ found. schema_of found ≡ schema_of self.now) }
         ensures shorter { IfSome result (λ found. length found.values.rest.now < length self.now.values.rest.now) }
         ensures told { (rows : List Row) → TellsRows self.now rows → is_at_end self.now.values.rest.now ≡ true → MatchOption result (rows ≡ []) (λ found. TellsRows found rows) }
     {

@@ -2,6 +2,8 @@
 ghost use Rattle.p21_express_graph.specs.Meaning.{place as place_of};
 ghost use Rattle.p21_spec_exchange.specs.Record.{Record};
 ghost use Rattle.p21_spec_file.specs.CanonicalTexts.{IsInstanceText};
+ghost use Rattle.std.specs.Prelude.{◌≡◌};
+ghost use Rattle.p21_model.specs.Left.{schema_of};
 ghost use Rattle.p21_model.specs.Told.{TellsInstance, TellsValue};
 
 use crate::attributes::Attributes;
@@ -22,7 +24,8 @@ pub struct Instance<'a> {
 impl<'a> Instance<'a> {
     /// The attributes with their values. It takes no memory.
     pub fn attributes(&self) -> Attributes<'a>
-        ensures { (record_ : Record) (stated : IsInstanceText self.now.schema.now self.now.name record_ self.now.line.now) → TellsInstance stated result }
+        ensures told { (record_ : Record) (stated : IsInstanceText self.now.schema.now self.now.name record_ self.now.line.now) → TellsInstance stated result }
+        ensures schema { schema_of result ≡ self.now.schema.now }
     {
         Attributes::of_record(self.schema, record_of(self.line))
     }

@@ -1,7 +1,8 @@
 //! Places one by one.
-ghost use Rattle.std.specs.Prelude.{◌≡◌, ◌∷◌, List, length, Contains, [], MatchOption};
+ghost use Rattle.std.specs.Prelude.{◌≡◌, ◌∷◌, List, length, Contains, [], IfSome, MatchOption};
 ghost use Rattle.p21_express_graph.specs.Meaning.{place as place_of};
 ghost use Rattle.p21_express_graph.specs.Orders.{numbers};
+ghost use Rattle.p21_express_graph.specs.Resolved.{IsPlace};
 ghost use Rattle.p21_spec_schema.specs.Schema.{Place as MeantPlace, attributes_of};
 ghost use Rattle.p21_model.specs.Left.{places_in};
 
@@ -21,6 +22,7 @@ impl<'a> Places<'a> {
     /// The next place.
     pub(crate) fn next(&mut self) -> Option<Place>
         ensures schema { self.new.schema.now ≡ self.old.schema.now }
+        ensures is_place { IfSome result (λ found. IsPlace self.old.schema.now (place_of found)) }
         ensures place { (place : MeantPlace) (more : List MeantPlace) → places_in self.old ≡ place ∷ more → MatchOption result ⊥ (λ found. (place_of found ≡ place) × (places_in self.new ≡ more)) }
     {
         while let Some((owner, behind)) = self.owners.split_first() {

@@ -1,4 +1,5 @@
 mod Examples
+mod FullStatements
 pub mod NoFiles
 pub mod IllFormed
 pub mod Meaningful

@@ -4,13 +4,13 @@ use Rattle.p21_spec_schema.specs.Order.{places}
 use Rattle.p21_model.proofs.RowsLeft.{opened, order-found, part-rows}
 use Rattle.p21_model.proofs.attributes.Attributes.of_whole.Goals as goal
 
-pub returns-in_default : goal.returns-in_default
-returns-in_default c part end rows left own =
+pub returns-in_default-clause-told : goal.returns-in_default-clause-told
+returns-in_default-clause-told c part end rows left own =
     let o = opened c.args.schema.now part [] end c.args.bytes.now own.entity left own.named in
     c.in_default.ensures.some o.word o.rest own.entity o.keyword o.named o.bytes_are
 
-pub returns : goal.returns
-returns c part end rows left own =
+pub returns-clause-told : goal.returns-clause-told
+returns-clause-told c part end rows left own =
     let s = c.args.schema.now in
     let o = opened s part [] end c.args.bytes.now own.entity left own.named in
     let found = c.in-Some.ensures.some o.word o.rest own.entity o.keyword o.named o.bytes_are in

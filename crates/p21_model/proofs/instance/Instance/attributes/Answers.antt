@@ -4,10 +4,10 @@ use Rattle.p21_model.proofs.Meanings.{told}
 use Rattle.p21_model.specs.Left.{IsRecordText}
 use Rattle.p21_model.proofs.instance.Instance.attributes.Goals as goal
 
-pub returns : goal.returns
-returns c record_ stated =
+pub returns-clause-told : goal.returns-clause-told
+returns-clause-told c record_ stated =
     let s = c.args.self.now.schema.now in
     let t = told s c.args.self.now.name record_ c.args.self.now.line.now stated in
     let cut = line-cut s c.args.self.now.name record_ c.args.self.now.line.now stated in
     let text = subst (IsRecordText stated.canonical) (sym (c.record_of.ensures ∙ name-behind c.args.self.now.name c.args.self.now.line.now cut.rest cut.line_is)) cut.is_text in
-    record { rows = t.rows; told = t.told; tells = c.of_record.ensures stated.canonical t.rows text t.told.are }
+    record { rows = t.rows; told = t.told; tells = c.of_record.ensures.told stated.canonical t.rows text t.told.are }

@@ -1,0 +1,13 @@
+mod Prefixes
+mod Lengths
+mod Known
+pub mod SectionNames
+pub mod Refusing
+pub mod Finishing
+pub mod Pieces
+pub mod Within
+pub mod Adding
+pub mod Names
+pub mod Taking
+pub mod Walking
+pub mod Feeding

@@ -1,0 +1,8 @@
+pub mod Prefix
+pub mod Shape
+pub mod Sections
+pub mod StatementReader
+pub mod Waiting
+pub mod Given
+pub mod Walk
+pub mod Reading

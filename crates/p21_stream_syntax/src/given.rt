@@ -1,0 +1,159 @@
+//! What is kept of the statements of a file that is read by itself.
+ghost use Rattle.std.specs.List.{AllByRecursion as Each};
+ghost use Rattle.std.specs.Prelude.{◌≡◌, ℕ, Contains, IfErr, IfSome, IsNone, length};
+ghost use Rattle.p21_spec_exchange.specs.DataSection.{heading_of};
+ghost use Rattle.p21_spec_exchange.specs.Statement.{data_start, header, instance, section};
+ghost use Rattle.p21_grammar.specs.Statements.{line_of, statement_of};
+ghost use Rattle.p21_grammar_tree.specs.View.{items_of, part_view, part_views, record_view, views};
+ghost use Rattle.p21_stream_statements.specs.Source.{IsOfBytes};
+ghost use Rattle.p21_stream_syntax.specs.Given.{Takes, kept_of, nothing_kept};
+
+use crate::known_schema::KnownSchema;
+use crate::references::Waiting;
+use crate::sections::Sections;
+use crate::shape::heading;
+use crate::well_formed::WellFormed;
+use p21_grammar::{Event, Line};
+use p21_grammar_tree::{Part, Record};
+use p21_stream_statements::Fault;
+use p21_stream_store::NamedMemberships;
+use p21_values::Name;
+use std::alloc::Global;
+
+/// The records of the header, the schema, the data sections, the names of the instances, and the references that wait.
+#[derive(Drop)]
+pub(crate) struct Given {
+    alloc: Global,
+    pub(crate) header: Vec<Part>,
+    pub(crate) schema: KnownSchema,
+    pub(crate) sections: Sections,
+    pub(crate) names: NamedMemberships,
+    pub(crate) waiting: Waiting,
+}
+
+impl Given {
+    /// Nothing. It takes no memory.
+    pub(crate) fn new(alloc: Global) -> Given
+        ensures { kept_of result ≡ nothing_kept }
+    {
+        Given {
+            alloc,
+            header: Vec::new(alloc),
+            schema: KnownSchema::new(alloc),
+            sections: Sections::new(alloc),
+            names: NamedMemberships::new(alloc),
+            waiting: Waiting::new(alloc),
+        }
+    }
+
+    /// Takes a statement.
+    ///
+    /// # Errors
+    ///
+    /// `SchemaName` where a `FILE_SCHEMA` begins with no name, or a section names another schema; `SectionTwice`,
+    /// `DuplicateName`, `NoMemory`.
+    pub(crate) fn take(&mut self, event: Event) -> Result<(), Fault>
+        ensures gives { Takes (kept_of self.old) (statement_of event) result (kept_of self.new) }
+        ensures kind { IfErr result (λ fault. IsOfBytes fault) }
+    {
+        match event {
+            Event::Section(line) => self.take_line(line),
+            Event::Named(part) => self.take_heading(part),
+            Event::Header(part) => self.take_header(part),
+            Event::Instance(name, of) => self.take_instance(name, &of),
+        }
+    }
+
+    /// Takes a section line without a name.
+    fn take_line(&mut self, line: Line) -> Result<(), Fault>
+        ensures gives { Takes (kept_of self.old) (section (line_of line)) result (kept_of self.new) }
+        ensures kind { IfErr result (λ fault. IsOfBytes fault) }
+    {
+        let Ok(()) = self.sections.begin(line) else {
+            return Err(Fault::NoMemory);
+        };
+        Ok(())
+    }
+
+    /// Takes the line that begins a data section, by its record.
+    fn take_heading(&mut self, part: Part) -> Result<(), Fault>
+        ensures gives { Takes (kept_of self.old) (section (data_start (heading_of (views (items_of part.params))))) result (kept_of self.new) }
+        ensures kind { IfErr result (λ fault. IsOfBytes fault) }
+    {
+        let Some((name, text)) = heading(&part) else {
+            return self.take_line(Line::DataStart);
+        };
+        if !self.schema.is_named_by(text) {
+            return Err(Fault::SchemaName);
+        }
+        if self.sections.has_name(name) {
+            return Err(Fault::SectionTwice);
+        }
+        let Ok(()) = self.sections.add(self.alloc, part) else {
+            return Err(Fault::NoMemory);
+        };
+        Ok(())
+    }
+
+    /// Takes a record of the header.
+    fn take_header(&mut self, part: Part) -> Result<(), Fault>
+        ensures gives { Takes (kept_of self.old) (header (part_view part)) result (kept_of self.new) }
+        ensures kind { IfErr result (λ fault. IsOfBytes fault) }
+    {
+        match self.schema.take(self.alloc, &part) {
+            Ok(()) => {}
+            Err(fault) => return Err(fault),
+        }
+        let Ok(()) = self.header.push(part) else {
+            return Err(Fault::NoMemory);
+        };
+        Ok(())
+    }
+
+    /// Takes an instance: its name, and the references to names that have not come.
+    fn take_instance(&mut self, name: Name, of: &Record) -> Result<(), Fault>
+        ensures gives { Takes (kept_of self.old) (instance name (record_view of.now)) result (kept_of self.new) }
+        ensures kind { IfErr result (λ fault. IsOfBytes fault) }
+    {
+        if self.names.has_name(name.0) {
+            return Err(Fault::DuplicateName);
+        }
+        let Ok(()) = self.names.push(name.0, 0) else {
+            return Err(Fault::NoMemory);
+        };
+        let Ok(()) = self.waiting.add(name, of, &self.names) else {
+            return Err(Fault::NoMemory);
+        };
+        self.waiting.look_again(&self.names);
+        Ok(())
+    }
+
+    /// The instance that has the first reference in the file to a name that none has. It takes no memory.
+    pub(crate) fn first_missing(&self) -> Option<Name>
+        ensures some { IfSome result (λ holder. (target : ℕ) × Contains (kept_of self.now).targets target × ¬ Contains (kept_of self.now).names target) }
+        ensures none { IsNone result → Each (Contains (kept_of self.now).names) (kept_of self.now).targets }
+    {
+        self.waiting.first_missing(&self.names)
+    }
+
+    /// What the file says of itself.
+    pub(crate) fn into_well_formed(self) -> WellFormed
+        ensures instances { result.instances ≡ length (kept_of self).names }
+        ensures schema { result.schema.items ≡ (kept_of self).schema }
+        ensures header { part_views result.header.items ≡ (kept_of self).header }
+    {
+        let Given {
+            alloc: _,
+            header,
+            schema: KnownSchema { name },
+            sections: _,
+            names,
+            waiting: _,
+        } = self;
+        WellFormed {
+            instances: names.len() as u64,
+            schema: name,
+            header,
+        }
+    }
+}

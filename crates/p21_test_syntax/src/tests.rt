@@ -1,0 +1,205 @@
+//! What comes of files that are read by themselves.
+use p21_stream_io::Watched;
+use p21_stream_statements::{At, Refusal};
+use p21_stream_syntax::{WellFormed, syntax};
+use p21_values::{Limits, Name};
+use std::alloc::Global;
+
+/// The records of a header in front of the third.
+const NAMES: &str =
+    "ISO-10303-21;HEADER;FILE_DESCRIPTION((''),'2;1');FILE_NAME('','',(''),(''),'','','');";
+/// What stands behind them in front of the instances of a file without named sections.
+const DEMO: &str = "FILE_SCHEMA(('demo {1 2}'));ENDSEC;DATA;";
+/// The last lines of a file.
+const BACK: &str = "ENDSEC;END-ISO-10303-21;";
+
+/// The text of a file, by four parts, and what comes of it: `NAME N` of a well-formed one, with the name of its schema and the
+/// number of its instances, or its refusal.
+type Row = (&'static str, &'static str, &'static str, &'static str);
+
+const ROWS: &[Row] = &[
+    (DEMO, "", BACK, "DEMO 0"),
+    (
+        DEMO,
+        "#1=A($);#2=b();",
+        BACK,
+        "refused 1 BadByte at statement 9",
+    ),
+    (
+        DEMO,
+        "#1=A(#3,(#2));#2=(B(#1)A());#3=C(D(#3),'#9');",
+        BACK,
+        "DEMO 3",
+    ),
+    (
+        DEMO,
+        "#1=A(1.);#1=A(1.,2.);",
+        BACK,
+        "refused 40 DuplicateName in #1",
+    ),
+    (DEMO, "#7=A();#01=A(#007);", BACK, "DEMO 2"),
+    (
+        DEMO,
+        "#1=A(#2);#3=A(#4);",
+        BACK,
+        "refused 56 Dangling in #1",
+    ),
+    (
+        DEMO,
+        "#1=A(#2);#2=A(B((#4)));",
+        BACK,
+        "refused 56 Dangling in #2",
+    ),
+    (DEMO, "#1=(A()B(#2,#1));", BACK, "refused 56 Dangling in #1"),
+    (
+        DEMO,
+        "#18446744073709551615=A(#18446744073709551615);",
+        BACK,
+        "DEMO 1",
+    ),
+    (
+        DEMO,
+        "#18446744073709551616=A();",
+        BACK,
+        "refused 10 NameRange at statement 8",
+    ),
+    (DEMO, "#1=A(nan);", BACK, "refused 1 BadByte at statement 8"),
+    (DEMO, "#1=A('\u{e9}');", BACK, "DEMO 1"),
+    (
+        DEMO,
+        "#1=A(1)",
+        BACK,
+        "refused 20 Unexpected at statement 8",
+    ),
+    (DEMO, "#1=A(1);", "", "refused 24 EndsEarly at statement 9"),
+    (
+        DEMO,
+        "#1=A();ENDSEC;END-ISO-10303-21;",
+        "#2",
+        "refused 25 AfterEnd at statement 11",
+    ),
+    (
+        "FILE_SCHEMA((''));ENDSEC;DATA;",
+        "",
+        BACK,
+        "refused 31 SchemaName at statement 5",
+    ),
+    (
+        "FILE_SCHEMA((' DEMO'));ENDSEC;DATA;",
+        "",
+        BACK,
+        "refused 31 SchemaName at statement 5",
+    ),
+    (
+        "FILE_SCHEMA(('203_DESIGN'));ENDSEC;DATA;",
+        "",
+        BACK,
+        "refused 31 SchemaName at statement 5",
+    ),
+    (
+        "FILE_SCHEMA(('_a'));ENDSEC;DATA;",
+        "",
+        BACK,
+        "refused 31 SchemaName at statement 5",
+    ),
+    (
+        "FILE_SCHEMA(('Ap203_2-x'));ENDSEC;DATA;",
+        "#1=A();",
+        BACK,
+        "AP203_2 1",
+    ),
+    (
+        "FILE_SCHEMA(('a','b'));ENDSEC;DATA;",
+        "",
+        BACK,
+        "refused 30 HeaderShape at statement 5",
+    ),
+    (
+        "FILE_SCHEMA(('a'));ENDSEC;DATA('x',('A {1}'));ENDSEC;",
+        "DATA('y',('a'));#1=P(#1);",
+        BACK,
+        "A 1",
+    ),
+    (
+        "FILE_SCHEMA(('a'));ENDSEC;DATA('x',('a'));",
+        "#1=P(#2);ENDSEC;DATA('',('a'));#2=P();",
+        BACK,
+        "A 2",
+    ),
+    (
+        "FILE_SCHEMA(('a'));ENDSEC;DATA('x',('a'));",
+        "#1=P();ENDSEC;DATA('y',('a'));#1=P();",
+        BACK,
+        "refused 40 DuplicateName in #1",
+    ),
+    (
+        "FILE_SCHEMA(('a'));ENDSEC;DATA('x',('a'));",
+        "ENDSEC;DATA('\\X\\78',('a'));",
+        BACK,
+        "refused 33 SectionTwice at statement 9",
+    ),
+    (
+        "FILE_SCHEMA(('a'));ENDSEC;DATA('x',('b'));",
+        "",
+        BACK,
+        "refused 31 SchemaName at statement 7",
+    ),
+    (
+        "FILE_SCHEMA(('a'));ENDSEC;DATA('x',('a_'));",
+        "",
+        BACK,
+        "refused 31 SchemaName at statement 7",
+    ),
+];
+
+/// The line of a well-formed file: none where memory runs out.
+fn found_line(alloc: Global, found: &WellFormed) -> Option<String> {
+    let name = str::from_utf8(&found.schema).ok()?;
+    let instances = found.instances;
+    format!(in alloc; "{name} {instances}").ok()
+}
+
+/// The line of a refusal: none where memory runs out.
+fn refusal_line(alloc: Global, refusal: Refusal) -> Option<String> {
+    let number = refusal.number();
+    let name = refusal.name();
+    match refusal.at {
+        At::Statement(statement) => {
+            format!(in alloc; "refused {number} {name} at statement {statement}").ok()
+        }
+        At::Instance(Name(instance)) => {
+            format!(in alloc; "refused {number} {name} in #{instance}").ok()
+        }
+    }
+}
+
+/// What comes of a text.
+fn line_of(alloc: Global, text: &[u8]) -> Option<String> {
+    let mut reader = Watched::new(text);
+    match syntax(alloc, Limits::usual(), &mut reader) {
+        Ok(found) => found_line(alloc, &found),
+        Err(refusal) => refusal_line(alloc, refusal),
+    }
+}
+
+/// Whether this comes of a file of four parts.
+fn comes_of(alloc: Global, row: Row) -> bool {
+    let (schema, instances, back, wanted) = row;
+    let Ok(text) = format!(in alloc; "{NAMES}{schema}{instances}{back}") else {
+        return false;
+    };
+    match line_of(alloc, text.as_bytes()) {
+        Some(line) => line.as_str() == wanted,
+        None => false,
+    }
+}
+
+/// The number of the first row that doesn't hold.
+fn first_wrong(alloc: Global, rows: &[Row]) -> Option<usize> {
+    rows.iter().position(|row| !comes_of(alloc, *row))
+}
+
+#[test]
+fn reads_files_by_themselves(rt: HostRuntime) {
+    assert_eq!(rt; first_wrong(rt.alloc(), ROWS), None);
+}
