@@ -5,6 +5,7 @@ use Rattle.p21_spec_laws.proofs.Keeps.{keeps-at_start}
 use Rattle.p21_spec_laws.specs.Keeping.{Keeps, Kept, nothing_kept}
 use Rattle.p21_spec_file.specs.Held.{IsHeld}
 use Rattle.p21_spec_schema.specs.Schema.{Schema}
+use Rattle.p21_stream_statements.specs.Place.{HasPlace, place_behind}
 use Rattle.p21_stream_statements.specs.Source.{IsOfBytes}
 use Rattle.p21_stream_statements.specs.declared.fault.Fault.{Fault}
 use Rattle.p21_stream_statements.specs.declared.fault.Fault.TheVariants.{Token, Grammar, Check, SchemaName, SectionTwice, DuplicateName, CanonicalTooLong, Dangling, WrongTarget, NoMemory, Read, Write}
@@ -17,9 +18,9 @@ use Rattle.p21_stream.proofs.Going.{held-while_live}
 use Rattle.p21_stream.proofs.Within.{references-within}
 use Rattle.p21_stream.specs.Bounds.{IsBounded, IsNothing, IsNothingLeft}
 use Rattle.p21_stream.specs.Held.{SessionHeld}
-use Rattle.p21_stream.specs.Histories.{FeedChecks, FeedGives, FeedNeedsNoMemory, HoldsFor, Stands, nothing_taken}
+use Rattle.p21_stream.specs.Histories.{FeedChecks, FeedGives, FeedNeedsNoMemory, FeedPlaces, HoldsFor, Stands, nothing_taken}
 use Rattle.p21_stream.specs.Session.{IsLive}
-use Rattle.p21_stream.specs.Walk.{IsUnderWay, NeedsNoMemory, ReadGives}
+use Rattle.p21_stream.specs.Walk.{IsUnderWay, NeedsNoMemory, ReadGives, ReadPlaces}
 use Rattle.p21_stream.specs.declared.keeper.Stop.TheVariants.{Refused}
 
 -- a fault is want of memory, or it is another one
@@ -122,6 +123,18 @@ fed-refused s limits held next kept after end piece was refusal gives history st
         stands = (refl, (λ clash. absurd (none-some refusal None refl (sym clash))), λ r is _. d.dead);
       })
     ]
+
+-- a byte that the walk refuses the session refuses
+pub fed-places : (s : Schema) (limits : Limits) (held next : statements.Held) (kept end : Kept) (piece : List ℕ) (was : Option Refusal) (refusal : Refusal) → ReadPlaces (Keeps s limits) limits held kept piece (Err (Refused refusal)) next
+    → FeedPlaces (record { schema = s; limits = limits; statements = held; kept = kept; refused = was }) piece (Err refusal) (record { schema = s; limits = limits; statements = next; kept = end; refused = Some refusal })
+unfolding Stands
+fed-places s limits held next kept end piece was refusal has history stands none =
+    let going = stands.1 none in
+    subst (λ (l : ℕ × ℕ). HasPlace l history.taken piece refusal.fault (place_behind next)) going.1.limits_are (has (record { taken = history.taken; seen = None; given = going.0 }) going.1 tt)
+
+pub again-places : (held : SessionHeld) (piece : List ℕ) (refusal : Refusal) → held.refused ≡ Some refusal → FeedPlaces held piece (Err refusal) held
+unfolding Stands
+again-places held piece refusal was history stands none = absurd (none-some refusal held.refused (sym (stands.0 ∙ none)) was)
 
 pub bounded-refused : (s : Schema) (limits : Limits) (held next : statements.Held) (kept end : Kept) (was : Option Refusal) (refusal : Refusal) → end ≡ nothing_kept → statements.limits_of next ≡ statements.limits_of held → IsOfBytes refusal.fault
     → IsBounded (record { schema = s; limits = limits; statements = held; kept = kept; refused = was }) → IsBounded (record { schema = s; limits = limits; statements = next; kept = end; refused = Some refusal })

@@ -4,6 +4,7 @@ use Rattle.std.proofs.lemmas.List.{append-nil, length-drop, take-append-drop}
 use Rattle.std.specs.List.{flat_map, slice_get}
 use Rattle.p21_spec_basics.specs.Limits.{Limits}
 use Rattle.p21_spec_laws.specs.Taken.{AreStatementsTaken}
+use Rattle.p21_spec_exchange.specs.Pending.{IsPending}
 use Rattle.p21_spec_exchange.specs.Statement.{Statement, statement_tokens}
 use Rattle.p21_spec_exchange.specs.Structure.{AreFirstStatements}
 use Rattle.p21_spec_file.specs.Accepted.{IsDead}
@@ -12,12 +13,14 @@ use Rattle.p21_grammar.specs.declared.event.Event.{Event}
 use Rattle.p21_spec_schema.specs.Schema.{Schema}
 use Rattle.p21_stream_statements.proofs.Seen.{looked-up_to}
 use Rattle.p21_stream_statements.proofs.Stepping.{taken-looked}
+use Rattle.p21_stream_statements.specs.Place.{HasPlace, RefusesByteAt, place_behind}
 use Rattle.p21_stream_statements.specs.declared.fault.Fault.{Fault}
+use Rattle.p21_stream_statements.specs.declared.fault.Fault.TheVariants as faults
 use Rattle.p21_stream_statements.specs.declared.refusal.Refusal.{Refusal}
 use Rattle.p21_stream_statements.specs.StatementReader as statements
 use Rattle.p21_stream_statements.specs.StatementReader.{IsSeenAt, StatementHistory, bytes_looked_at, limits_of}
 use Rattle.p21_stream.proofs.Within.{given-few, source-within, statements-few}
-use Rattle.p21_stream.specs.Walk.{Ends, EndsNoToken, EndsReading, Follows, IsDeadWithin, IsLive, IsUnderWay, LeftWithin, NeedsNoMemory, ReadGives, StepGives, Takes}
+use Rattle.p21_stream.specs.Walk.{Ends, EndsNoToken, EndsReading, Follows, IsDeadWithin, IsLive, IsUnderWay, LeftWithin, NeedsNoMemory, ReadGives, StepGives, StepPlaces, Takes}
 use Rattle.p21_stream.specs.declared.keeper.Stop.{Stop}
 use Rattle.p21_stream.specs.declared.keeper.Stop.TheVariants.{Most, Refused}
 
@@ -66,6 +69,37 @@ left-on : {K : Type 0} (left : List Statement → K → Type 0) (reading on : St
 left-on left reading on piece count kept taken_are within l =
     let (upto_within, taken) = within-on reading on piece count (λ bytes. AreStatementsTaken bytes l.given) taken_are within l.upto l.within l.taken in
     record { upto = count + l.upto; within = upto_within; given = l.given; taken = taken; left = l.left }
+
+-- a byte that is refused behind so many of a piece
+refuses-on : (limits : ℕ × ℕ) (reading on : StatementHistory) (piece : List ℕ) (count place : ℕ) → on.taken ≡ reading.taken ++ take count piece → count ≤ length piece → RefusesByteAt limits on.taken (drop count piece) place → RefusesByteAt limits reading.taken piece place
+refuses-on limits reading on piece count place taken_are within r =
+    let below = r.within in
+    let rest : length (drop count piece) ≡ length piece - count = length-drop count piece in
+    let (_, here) = within-on reading on piece count (λ bytes. (place ≡ length bytes) × IsPending bytes r.open_bytes) taken_are within r.count (omega (arith, below)) (r.place_is, r.pending) in
+    let same : count + (r.count + 1) ≡ (count + r.count) + 1 = omega arith in
+    record {
+      count = count + r.count;
+      within = omega (arith, below, rest, within);
+      place_is = here.0;
+      open_bytes = r.open_bytes;
+      pending = here.1;
+      dead = λ s all record_is file_is. subst (λ (n : ℕ). IsDead s all (reading.taken ++ take n piece)) same
+          (within-on reading on piece count (IsDead s all) taken_are within (r.count + 1) (omega (arith, below)) (r.dead s all record_is file_is)).1;
+    }
+
+place-on : (limits : ℕ × ℕ) (reading on : StatementHistory) (piece : List ℕ) (count : ℕ) (fault : Fault) (place : ℕ) → on.taken ≡ reading.taken ++ take count piece → count ≤ length piece → HasPlace limits on.taken (drop count piece) fault place → HasPlace limits reading.taken piece fault place
+place-on limits reading on piece count (faults.Token fault) place taken_are within has = λ of. refuses-on limits reading on piece count place taken_are within (has of)
+place-on limits reading on piece count (faults.Grammar fault) place taken_are within has = tt
+place-on limits reading on piece count (faults.Check fault) place taken_are within has = tt
+place-on limits reading on piece count faults.SchemaName place taken_are within has = tt
+place-on limits reading on piece count faults.SectionTwice place taken_are within has = tt
+place-on limits reading on piece count faults.DuplicateName place taken_are within has = tt
+place-on limits reading on piece count faults.CanonicalTooLong place taken_are within has = tt
+place-on limits reading on piece count faults.Dangling place taken_are within has = tt
+place-on limits reading on piece count faults.WrongTarget place taken_are within has = tt
+place-on limits reading on piece count faults.NoMemory place taken_are within has = tt
+place-on limits reading on piece count faults.Read place taken_are within has = tt
+place-on limits reading on piece count faults.Write place taken_are within has = tt
 
 -- all is as before
 pub as-before : {K : Type 0} (P : statements.Held → K → Type 0) (held next : statements.Held) (kept after : K) → next ≡ held → after ≡ kept → P next after → P held kept
@@ -185,6 +219,14 @@ module _ {K : Type 0} (s : Schema) (limits : Limits) (keeps left : List Statemen
       let on = gives reading live at in
       left-on left reading on.reading piece count end on.taken_are within (reads on.reading on.live (seen-first on.reading.seen count piece on.seen_at))
 
+  -- where the rest has the place of a byte, the piece has it
+  pub places-on : (held next last : statements.Held) (kept after : K) (piece : List ℕ) (count : ℕ) (refusal : Refusal) → StepGives s limits keeps left held kept piece (Ok (Some count)) next after → count ≤ length piece → limits_of next ≡ limits_of held
+      → StepPlaces keeps limits next after (drop count piece) (Err refusal) last → StepPlaces keeps limits held kept piece (Err refusal) last
+  places-on held next last kept after piece count refusal gives within same has = λ reading live at.
+      let on = gives reading live at in
+      subst (λ (l : ℕ × ℕ). HasPlace l reading.taken piece refusal.fault (place_behind last)) same
+      (place-on (limits_of next) reading on.reading piece count refusal.fault (place_behind last) on.taken_are within (has on.reading on.live (seen-first on.reading.seen count piece on.seen_at)))
+
   -- ---- all tokens of a piece
 
   -- what the rest gives, the piece gives; and each round gave a token
@@ -192,13 +234,14 @@ module _ {K : Type 0} (s : Schema) (limits : Limits) (keeps left : List Statemen
     pub gives : (result : Result (Unit {0}) Stop) (last : statements.Held) (end : K) → ReadGives s limits keeps left held kept rest result last end → ReadGives s limits keeps left first old piece result last end
     pub stay : stays limits old kept
     pub limits_are : limits_of held ≡ limits_of first
+    pub places : (refusal : Refusal) (last : statements.Held) → StepPlaces keeps limits held kept rest (Err refusal) last → StepPlaces keeps limits first old piece (Err refusal) last
     pub quiet : (refusal : Refusal) → NeedsNoMemory {Answer = Option ℕ} keeps limits held kept rest (Err refusal) → NeedsNoMemory {Answer = Option ℕ} keeps limits first old piece (Err refusal)
     pub under_way : IsUnderWay keeps limits held kept rest
     pub rounds_few : rounds ≤ length under_way.live.reads.history.given
 
   pub rest-first : (stays : Limits → K → K → Type 0) (held : statements.Held) (kept : K) (piece : List ℕ) → stays limits kept kept → IsUnderWay keeps limits held kept piece → IsRest stays held kept piece held kept piece 0
   rest-first stays held kept piece stay way =
-      record { gives = λ result last end reads. reads; stay = stay; limits_are = refl; quiet = λ refusal needs. needs; under_way = way; rounds_few = omega arith }
+      record { gives = λ result last end reads. reads; stay = stay; limits_are = refl; places = λ refusal last has. has; quiet = λ refusal needs. needs; under_way = way; rounds_few = omega arith }
 
   pub rest-on : (stays : Limits → K → K → Type 0) (stays_on : (a b c : K) → stays limits a b → stays limits b c → stays limits a c) (first held next : statements.Held) (old kept after : K) (piece rest : List ℕ) (count rounds : ℕ) → IsRest stays first old piece held kept rest rounds
       → StepGives s limits keeps left held kept rest (Ok (Some count)) next after → count ≤ length rest
@@ -212,6 +255,7 @@ module _ {K : Type 0} (s : Schema) (limits : Limits) (keeps left : List Statemen
         gives = λ result last end reads. so_far.gives result last end (read-on held next last kept after end rest count gives within result reads);
         stay = stays_on old kept after so_far.stay stay;
         limits_are = same ∙ so_far.limits_are;
+        places = λ refusal last has. so_far.places refusal last (places-on held next last kept after rest count refusal gives within same has);
         quiet = λ refusal needs. so_far.quiet refusal (λ reading live at pending are. absurd (none reading live at pending are));
         under_way = record { reading = on.reading; live = on.live; seen_at = seen-first on.reading.seen count rest on.seen_at; counted = way.counted };
         rounds_few = omega (arith, few, more);

@@ -10,7 +10,9 @@ use Rattle.p21_spec_file.specs.Held as files
 use Rattle.p21_spec_file.specs.Held.{IsHeld}
 use Rattle.p21_spec_schema.specs.Schema.{Schema}
 use Rattle.p21_stream_output.specs.Output.{Output}
+use Rattle.p21_stream_statements.specs.Place.{HasPlace, IsPlaceOf, place_behind}
 use Rattle.p21_stream_statements.specs.declared.fault.Fault.TheVariants.{NoMemory}
+use Rattle.p21_stream_statements.specs.declared.place.Place.{Place}
 use Rattle.p21_stream_statements.specs.declared.refusal.Refusal.{Refusal}
 use Rattle.p21_stream.specs.Canonical.{IsCanonicalOutput, IsCounted}
 use Rattle.p21_stream.specs.declared.counting.Counted.{Counted}
@@ -106,3 +108,13 @@ FeedChecks old piece (Err refusal) = Unit {0}
 abbrev pub FeedNeedsNoMemory : SessionHeld → List ℕ → Result (Unit {0}) Refusal → Type 0
 FeedNeedsNoMemory old piece (Ok done) = Unit {0}
 FeedNeedsNoMemory old piece (Err refusal) = (history : SessionHistory) → Stands old history → history.refusal ≡ None → IsPending history.taken 0 → AreSeparators piece → refusal.fault ≢ NoMemory
+
+-- behind a piece in which a byte is refused the session stands at that byte
+abbrev pub FeedPlaces : SessionHeld → List ℕ → Result (Unit {0}) Refusal → SessionHeld → Type 0
+FeedPlaces old piece (Ok done) new = Unit {0}
+FeedPlaces old piece (Err refusal) new =
+    (history : SessionHistory) → Stands old history → history.refusal ≡ None → HasPlace ((limits_of old).record_source, (limits_of old).file_source) history.taken piece refusal.fault (place_behind new.statements)
+
+-- the place of the refusal that was answered: of a byte the one at which the session stands
+abbrev pub HasPlaceOf : SessionHeld → Option Place → Type 0
+HasPlaceOf held found = elim held.refused [ None ↦ found ≡ None | Some refusal ↦ IsPlaceOf refusal.fault (place_behind held.statements) found ]

@@ -12,6 +12,7 @@ use Rattle.p21_spec_file.specs.Accepted.{IsDead}
 use Rattle.p21_spec_file.specs.Reference.{Need}
 use Rattle.p21_spec_schema.specs.Schema.{Schema}
 use Rattle.p21_stream_kept.specs.Found.{HasFound}
+use Rattle.p21_stream_statements.specs.Place.{HasPlace, place_behind}
 use Rattle.p21_stream_statements.specs.Source.{IsOfBytes}
 use Rattle.p21_stream_statements.specs.declared.fault.Fault.{Fault}
 use Rattle.p21_stream_statements.specs.declared.fault.Fault.TheVariants.{NoMemory}
@@ -121,6 +122,20 @@ abbrev pub PassGives : {K : Type 0} → Schema → Limits → (List Statement �
 PassGives s limits Keeps Left held kept piece (Ok None) next after = (next ≡ held) × (after ≡ kept)
 PassGives s limits Keeps Left held kept piece (Ok (Some count)) next after = StepGives s limits Keeps Left held kept piece (Ok (Some count)) next after
 PassGives s limits Keeps Left held kept piece (Err refusal) next after = StepGives s limits Keeps Left held kept piece (Err refusal) next after
+
+-- ---- where a byte is refused
+
+-- behind a step that refuses a byte the reader stands at it: for each history that is live, where the byte that was seen is offered first
+abbrev pub StepPlaces : {K : Type 0} → (List Statement → K → Type 0) → Limits → statements.Held → K → List ℕ → Result (Option ℕ) Refusal → statements.Held → Type 0
+StepPlaces Keeps limits held kept piece (Ok answer) next = Unit {0}
+StepPlaces Keeps limits held kept piece (Err refusal) next = (reading : StatementHistory) → IsLive Keeps limits held kept reading → IsSeenAt reading.seen piece 0 → HasPlace (limits_of held) reading.taken piece refusal.fault (place_behind next)
+
+-- the same of a whole piece
+abbrev pub ReadPlaces : {K : Type 0} → (List Statement → K → Type 0) → Limits → statements.Held → K → List ℕ → Result (Unit {0}) Stop → statements.Held → Type 0
+ReadPlaces Keeps limits held kept piece (Err (Refused refusal)) next = StepPlaces Keeps limits held kept piece (Err refusal) next
+ReadPlaces Keeps limits held kept piece other next = Unit {0}
+
+-- ---- why the reading stops
 
 -- a stop is by no fault of a reader or a writer
 abbrev pub StopsByBytes : Stop → Type 0

@@ -3,10 +3,11 @@ ghost use Rattle.p21_spec_basics.specs.Limits.{Limits as MeantLimits};
 ghost use Rattle.p21_spec_laws.specs.Beside.{IsKeptOfWhole, earlier_of};
 ghost use Rattle.p21_spec_laws.specs.Stored.{KeptLines, beside, with_lines};
 ghost use Rattle.p21_spec_schema.specs.Schema.{Schema as MeantSchema};
+ghost use Rattle.p21_stream_statements.specs.Place.{place_behind};
 ghost use Rattle.p21_stream_statements.specs.Source.{IsOfBytes};
 ghost use Rattle.p21_stream.specs.Bounds.{IsNothing, KeepsLines, StaysKept};
 ghost use Rattle.p21_stream.specs.Held.{limits_of, refusal_of, schema_of};
-ghost use Rattle.p21_stream.specs.Histories.{CountGives, FeedChecks, FeedGives, FeedNeedsNoMemory, FinishGives, HoldsFor, KeepsSchema, RefusesAgain, RefusesAtEnd, Stands, WholeGives, nothing_taken};
+ghost use Rattle.p21_stream.specs.Histories.{CountGives, FeedChecks, FeedGives, FeedNeedsNoMemory, FeedPlaces, FinishGives, HasPlaceOf, HoldsFor, KeepsSchema, RefusesAgain, RefusesAtEnd, Stands, WholeGives, nothing_taken};
 ghost use Rattle.p21_stream.specs.Inside.{held_of};
 
 use crate::counting::Counted;
@@ -15,7 +16,7 @@ use crate::progress::Progress;
 use p21_express_tables::Schema;
 use p21_stream_kept::Kept;
 use p21_stream_output::Accepted;
-use p21_stream_statements::{Fault, Refusal};
+use p21_stream_statements::{Fault, Place, Places, Refusal};
 use p21_values::Limits;
 use std::alloc::Global;
 use std::marker::Model;
@@ -121,12 +122,27 @@ impl<'s> AnySession<'s> {
         ensures again { RefusesAgain self.old result self.new }
         ensures refused { IfErr result (λ refusal. refusal_of self.new ≡ Some refusal) }
         ensures kind { IfErr result (λ refusal. IsOfBytes refusal.fault) }
+        ensures place { FeedPlaces self.old piece.now result self.new }
         ensures schema { KeepsSchema self.old self.new }
         ensures lines { StaysKept self.old.refused self.old.kept self.new.refused self.new.kept }
     {
         let schema = self.schema;
         let limits = self.limits;
         self.progress.feed(schema, limits, piece)
+    }
+
+    /// Where in the file the refusal stands that was answered, if one was and it has a place. It takes no memory.
+    pub(crate) fn place(&self) -> Option<Place>
+        ensures { HasPlaceOf self.now result }
+    {
+        self.progress.place()
+    }
+
+    /// Where the session stands in the file: by `Place::of` it says where a refusal of `finish` stands. It takes no memory.
+    pub(crate) fn places(&self) -> Places
+        ensures byte { result.byte ≡ place_behind self.now.statements }
+    {
+        self.progress.places()
     }
 
     /// What is held of the bytes taken. It takes no memory.

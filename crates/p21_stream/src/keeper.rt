@@ -6,7 +6,7 @@ ghost use Rattle.p21_mapping_values.specs.TypedView.{ids_view};
 ghost use Rattle.p21_spec_basics.specs.Limits.{Limits as MeantLimits};
 ghost use Rattle.p21_spec_exchange.specs.Statement.{Statement};
 ghost use Rattle.p21_spec_schema.specs.Schema.{Schema as Meant};
-ghost use Rattle.p21_stream_statements.specs.Source.{IsOfBytes};
+ghost use Rattle.p21_stream_statements.specs.Source.{IsOfStatement};
 ghost use Rattle.p21_stream_kept.specs.Steps as kept_steps;
 ghost use Rattle.p21_stream_kept.specs.Steps.{StepKeepsBound};
 ghost use Rattle.p21_stream_kept.specs.Taking as kept_taking;
@@ -61,7 +61,7 @@ pub(crate) trait Keeper: Drop {
         requires follows { Follows (keeps schema.now limits) self.old (statement_of event) }
         requires more { is_full self.old → ⊥ }
         ensures gives { Takes schema.now limits (keeps schema.now limits) (left schema.now limits) self.old (statement_of event) result self.new }
-        ensures kind { IfErr result (λ fault. IsOfBytes fault) }
+        ensures kind { IfErr result (λ fault. IsOfStatement fault) }
         ensures stays { stays limits self.old self.new }
         ensures open { IfErr result (λ fault. fault ≢ Fault.NoMemory → is_full self.new → ⊥) };
 
@@ -79,7 +79,7 @@ pub(crate) trait Keeper: Drop {
         requires follows { FollowsFound schema.now (keeps schema.now limits) self.old found.now.name (ids_view found.now.entities.now) (needs_view found.now.needs.now) found.now.line.now }
         requires more { is_full self.old → ⊥ }
         ensures gives { TakesFound schema.now limits (keeps schema.now limits) (left schema.now limits) self.old found.now.name (ids_view found.now.entities.now) (needs_view found.now.needs.now) found.now.line.now result self.new }
-        ensures kind { IfErr result (λ fault. IsOfBytes fault) }
+        ensures kind { IfErr result (λ fault. IsOfStatement fault) }
         ensures stays { stays limits self.old self.new }
         ensures open { IfErr result (λ fault. fault ≢ Fault.NoMemory → is_full self.new → ⊥) };
 
@@ -151,7 +151,7 @@ fn take_statement(
 ) -> Result<(), Fault>
     requires { kept_taking.Follows schema.now limits kept.old (statement_of event) }
     ensures gives { kept_steps.StepGives schema.now limits kept.old (statement_of event) result kept.new }
-    ensures kind { IfErr result (λ fault. IsOfBytes fault) }
+    ensures kind { IfErr result (λ fault. IsOfStatement fault) }
     ensures bound { StepKeepsBound limits kept.old kept.new }
     ensures lines { kept.new.lines ≡ kept.old.lines }
 {

@@ -2,7 +2,7 @@
 ghost use Rattle.std.specs.Prelude.{◌≡◌, ◌≢◌, ◌≤◌, ◌<◌, [], length, IfErr, IfOk, IfSome, IsTrue};
 ghost use Rattle.p21_mapping_values.specs.TypedView.{ids_view};
 ghost use Rattle.p21_spec_schema.specs.Schema.{Schema as Meant};
-ghost use Rattle.p21_stream_statements.specs.Source.{IsOfBytes};
+ghost use Rattle.p21_stream_statements.specs.Source.{IsOfStatement};
 ghost use Rattle.p21_stream_statements.specs.StatementReader.{limits_of};
 ghost use Rattle.p21_stream.specs.Passing.{FindsInstance, some_count};
 ghost use Rattle.p21_stream.specs.Walk.{EndsNoToken, IsUnderWay, NeedsNoMemory, PassGives, TakesWithinPiece};
@@ -52,7 +52,7 @@ impl<K: Keeper> Walk<K> {
         ensures gives { PassGives schema.now limits (K.keeps schema.now limits) (K.left schema.now limits) self.old.statements self.old.kept piece.now result self.new.statements self.new.kept }
         ensures no_memory { NeedsNoMemory (K.keeps schema.now limits) limits self.old.statements self.old.kept piece.now result }
         ensures no_token { EndsNoToken (K.keeps schema.now limits) limits self.old.statements self.old.kept piece.now result }
-        ensures kind { IfErr result (λ refusal. IsOfBytes refusal.fault) }
+        ensures kind { IfErr result (λ refusal. IsOfStatement refusal.fault) }
         ensures open { IfErr result (λ refusal. refusal.fault ≢ Fault.NoMemory → K.is_full self.new.kept → ⊥) }
         ensures stays { K.stays limits self.old.kept self.new.kept }
         ensures limits { limits_of self.new.statements ≡ limits_of self.old.statements }
@@ -96,7 +96,7 @@ impl<K: Keeper> Walk<K> {
         ensures gives { PassGives schema.now limits (K.keeps schema.now limits) (K.left schema.now limits) self.old.statements self.old.kept piece.now result self.new.statements self.new.kept }
         ensures no_memory { NeedsNoMemory (K.keeps schema.now limits) limits self.old.statements self.old.kept piece.now result }
         ensures no_token { EndsNoToken (K.keeps schema.now limits) limits self.old.statements self.old.kept piece.now result }
-        ensures kind { IfErr result (λ refusal. IsOfBytes refusal.fault) }
+        ensures kind { IfErr result (λ refusal. IsOfStatement refusal.fault) }
         ensures open { IfErr result (λ refusal. refusal.fault ≢ Fault.NoMemory → K.is_full self.new.kept → ⊥) }
         ensures stays { K.stays limits self.old.kept self.new.kept }
         ensures limits { limits_of self.new.statements ≡ limits_of self.old.statements }
@@ -137,9 +137,19 @@ impl<K: Keeper> Walk<K> {
                 self.statement = self.statement.saturating_add(1);
                 Ok(Some(found.count))
             }
-            Err(fault) => Err(refused(fault, Some(found.name), self.statement)),
+            Err(fault) => {
+                self.statements
+                    .note_statement(bytes_of_statement(piece, found.count));
+                Err(refused(fault, Some(found.name), self.statement))
+            }
         }
     }
+}
+
+/// How many of so many bytes stand behind separators.
+fn bytes_of_statement(piece: &[u8], count: usize) -> u64 {
+    let separators = piece.len().saturating_sub(behind_separators(piece).len());
+    count.saturating_sub(separators) as u64
 }
 
 /// How many bytes were passed over, where there are some.

@@ -3,10 +3,11 @@ ghost use Rattle.p21_spec_basics.specs.Limits.{Limits as MeantLimits};
 ghost use Rattle.p21_spec_laws.specs.Stored.{with_lines};
 ghost use Rattle.p21_spec_schema.specs.Schema.{Schema as Meant};
 ghost use Rattle.p21_stream_statements.specs.StatementReader.{IsLive, limits_of, nothing_read};
+ghost use Rattle.p21_stream_statements.specs.Place.{IsPlaceOf, place_behind};
 ghost use Rattle.p21_stream_statements.specs.Source.{IsOfBytes};
 ghost use Rattle.p21_stream_statements.specs.declared.refusal.Refusal.{Refusal};
 ghost use Rattle.p21_stream.specs.Bounds.{IsBounded, KeepsLines, StaysKept};
-ghost use Rattle.p21_stream.specs.Histories.{CountGives, FeedChecks, FeedGives, FeedNeedsNoMemory, FinishGives, HoldsFor, RefusesAgain, RefusesAtEnd, WholeGives};
+ghost use Rattle.p21_stream.specs.Histories.{CountGives, FeedChecks, FeedGives, FeedNeedsNoMemory, FeedPlaces, FinishGives, HasPlaceOf, HoldsFor, RefusesAgain, RefusesAtEnd, WholeGives};
 ghost use Rattle.p21_stream.specs.Inside.{held_in, held_of};
 ghost use Rattle.p21_stream.specs.Ending.{CountsEnd, EndGives, EndsServed, EndsWhole, IsBetweenPieces};
 ghost use Rattle.p21_transcribe_instance.specs.ExternalSet.{AreExternalSets};
@@ -19,7 +20,7 @@ use crate::walk::{Walk, refused};
 use p21_express_tables::Schema;
 use p21_stream_kept::Kept;
 use p21_stream_output::Accepted;
-use p21_stream_statements::{Fault, Refusal, StatementReader};
+use p21_stream_statements::{At, Fault, Place, Places, Refusal, Source, StatementReader};
 use p21_values::{Limits, Name};
 use std::alloc::Global;
 
@@ -30,6 +31,8 @@ pub(crate) struct Progress {
     pub walk: Walk<Kept>,
     // The refusal that was answered, and is answered again.
     pub refused: Option<Refusal>,
+    // Where it stands in its statement, where that is known.
+    noted: Option<Place>,
 }
 
 impl Progress {
@@ -47,6 +50,7 @@ impl Progress {
             alloc,
             walk: Walk::new(alloc, limits, kept),
             refused: None,
+            noted: None,
         }
     }
 
@@ -70,6 +74,7 @@ impl Progress {
         ensures again { RefusesAgain (held_in schema.now limits self.old) result (held_in schema.now limits self.new) }
         ensures refused { IfErr result (λ refusal. self.new.refused ≡ Some refusal) }
         ensures kind { IfErr result (λ refusal. IsOfBytes refusal.fault) }
+        ensures place { FeedPlaces (held_in schema.now limits self.old) piece.now result (held_in schema.now limits self.new) }
         ensures bounded { IsBounded (held_in schema.now limits self.new) }
         ensures lines { StaysKept self.old.refused self.old.walk.kept self.new.refused self.new.walk.kept }
         ensures plan { IsPlanOf schema.now self.new.walk.plan }
@@ -82,6 +87,7 @@ impl Progress {
             Ok(()) => Ok(()),
             Err(stop) => match stop {
                 Stop::Refused(refusal) => {
+                    self.noted = inside(self.alloc, &self.walk.source, refusal.fault, refusal.at);
                     self.walk.kept = Kept::new(self.alloc);
                     self.refused = Some(refusal);
                     self.answered()
@@ -89,6 +95,23 @@ impl Progress {
                 Stop::Most => unreachable!(),
             },
         }
+    }
+
+    /// Where in the file the refusal stands that was answered, if one was and it has a place. It takes no memory.
+    pub(crate) fn place(&self) -> Option<Place>
+        ensures { (s : Meant) (limits : MeantLimits) → HasPlaceOf (held_in s limits self.now) result }
+    {
+        match self.refused {
+            Some(refusal) => place_of(refusal.fault, self.walk.statements.places(), self.noted),
+            None => None,
+        }
+    }
+
+    /// Where it stands in the file. It takes no memory.
+    pub(crate) fn places(&self) -> Places
+        ensures byte { result.byte ≡ place_behind self.now.walk.statements }
+    {
+        self.walk.statements.places()
     }
 
     /// What is held of the bytes taken. It takes no memory.
@@ -194,6 +217,40 @@ impl Progress {
             Some(refusal) => Err(refusal),
             None => Ok(()),
         }
+    }
+}
+
+/// The place of a refusal inside its statement, if it has one.
+fn inside(alloc: Global, statement: &Source, fault: Fault, at: At) -> Option<Place> {
+    statement.place_of(alloc, Refusal { fault, at })
+}
+
+/// The place of a refusal, by where its reader stands and by what was noted of its statement.
+fn place_of(fault: Fault, places: Places, noted: Option<Place>) -> Option<Place>
+    ensures { IsPlaceOf fault places.byte result }
+{
+    let place = Place::of(fault, places);
+    match fault {
+        Fault::Token(_) => place,
+        Fault::Grammar(_) => inside_or(noted, place),
+        Fault::Check(_) => inside_or(noted, place),
+        Fault::SchemaName => inside_or(noted, place),
+        Fault::SectionTwice => inside_or(noted, place),
+        Fault::DuplicateName => place,
+        Fault::CanonicalTooLong => place,
+        Fault::Dangling => place,
+        Fault::WrongTarget => place,
+        Fault::NoMemory => place,
+        Fault::Read => place,
+        Fault::Write => place,
+    }
+}
+
+/// What was noted of a statement, or else its own place.
+fn inside_or(noted: Option<Place>, place: Option<Place>) -> Option<Place> {
+    match noted {
+        Some(inside) => Some(inside),
+        None => place,
     }
 }
 

@@ -1,7 +1,8 @@
 ghost use Rattle.std.specs.Prelude.{◌≡◌, ◌≤◌, IfErr, Some};
+ghost use Rattle.p21_stream_statements.specs.Place.{place_behind};
 ghost use Rattle.p21_stream_statements.specs.Source.{IsOfBytes};
 ghost use Rattle.p21_stream.specs.Held.{limits_of, refusal_of, schema_of};
-ghost use Rattle.p21_stream.specs.Histories.{FeedChecks, FeedGives, FeedNeedsNoMemory, FinishGives, HoldsFor, KeepsSchema, RefusesAgain, RefusesAtEnd, Stands, nothing_taken};
+ghost use Rattle.p21_stream.specs.Histories.{FeedChecks, FeedGives, FeedNeedsNoMemory, FeedPlaces, FinishGives, HasPlaceOf, HoldsFor, KeepsSchema, RefusesAgain, RefusesAtEnd, Stands, nothing_taken};
 ghost use Rattle.p21_stream.specs.Inside.{held_of};
 ghost use Rattle.std.specs.Arc.{arc_value};
 
@@ -10,7 +11,7 @@ use crate::progress::Progress;
 use p21_express_tables::Schema;
 use p21_stream_kept::Kept;
 use p21_stream_output::Accepted;
-use p21_stream_statements::{Fault, Refusal};
+use p21_stream_statements::{Fault, Place, Places, Refusal};
 use p21_values::Limits;
 use std::alloc::Global;
 use std::fmt;
@@ -90,10 +91,25 @@ impl SharedSession {
         ensures again { RefusesAgain self.old result self.new }
         ensures refused { IfErr result (λ refusal. refusal_of self.new ≡ Some refusal) }
         ensures kind { IfErr result (λ refusal. IsOfBytes refusal.fault) }
+        ensures place { FeedPlaces self.old piece.now result self.new }
         ensures schema { KeepsSchema self.old self.new }
     {
         let limits = self.limits;
         self.progress.feed(&self.schema, limits, piece)
+    }
+
+    /// Where in the file the refusal stands that was answered, if one was and it has a place. It takes no memory.
+    pub fn place(&self) -> Option<Place>
+        ensures { HasPlaceOf self.now result }
+    {
+        self.progress.place()
+    }
+
+    /// Where the session stands in the file: by `Place::of` it says where a refusal of `finish` stands. It takes no memory.
+    pub fn places(&self) -> Places
+        ensures byte { result.byte ≡ place_behind self.now.statements }
+    {
+        self.progress.places()
     }
 
     /// What is held of the bytes taken. It takes no memory.

@@ -5,7 +5,7 @@ ghost use Rattle.p21_grammar.specs.Statements.{statement_of};
 ghost use Rattle.p21_grammar_tree.specs.View.{record_view};
 ghost use Rattle.p21_mapping.specs.Checked.{needs_view};
 ghost use Rattle.p21_mapping_values.specs.TypedView.{ids_view};
-ghost use Rattle.p21_stream_statements.specs.Source.{IsOfBytes};
+ghost use Rattle.p21_stream_statements.specs.Source.{IsOfStatement};
 ghost use Rattle.p21_stream.specs.Sifting.{HaveNames};
 ghost use Rattle.p21_stream.specs.SieveSteps.{Follows, FollowsFound, FoundGives, Lists, ListsOne, ListsOrEnds, StepGives};
 ghost use Rattle.p21_stream.specs.Unserved.{ListsUnserved};
@@ -71,7 +71,7 @@ impl Sieve {
         requires { Follows schema.now limits self.old (statement_of event) }
         ensures gives { StepGives schema.now limits self.old (statement_of event) result self.new }
         ensures listed { ListsOne self.old.refusals.items result self.new.refusals.items }
-        ensures kind { IfErr result (λ fault. IsOfBytes fault) }
+        ensures kind { IfErr result (λ fault. IsOfStatement fault) }
     {
         match event {
             Event::Section(line) => self.kept.take_line(limits, line),
@@ -97,7 +97,7 @@ impl Sieve {
         requires { Follows schema.now limits self.old (instance name (record_view of)) }
         ensures gives { StepGives schema.now limits self.old (instance name (record_view of)) result self.new }
         ensures listed { ListsOne self.old.refusals.items result self.new.refusals.items }
-        ensures kind { IfErr result (λ fault. IsOfBytes fault) }
+        ensures kind { IfErr result (λ fault. IsOfStatement fault) }
     {
         schema.well_formed();
         if self.names.contains(&name.0) {
@@ -123,7 +123,7 @@ impl Sieve {
         requires { FollowsFound schema.now limits self.old found.now.name (ids_view found.now.entities.now) (needs_view found.now.needs.now) found.now.line.now }
         ensures gives { FoundGives schema.now limits self.old found.now.name (ids_view found.now.entities.now) (needs_view found.now.needs.now) found.now.line.now result self.new }
         ensures listed { ListsOne self.old.refusals.items result self.new.refusals.items }
-        ensures kind { IfErr result (λ fault. IsOfBytes fault) }
+        ensures kind { IfErr result (λ fault. IsOfStatement fault) }
     {
         schema.well_formed();
         if self.names.contains(&found.name.0) {
@@ -137,9 +137,9 @@ impl Sieve {
 
     /// Lists the refusal of a record or a name. Every other one ends the reading.
     fn list_or_end(&mut self, name: Name, fault: Fault) -> Result<(), Fault>
-        requires kind { IsOfBytes fault }
+        requires kind { IsOfStatement fault }
         ensures lists { ListsOrEnds self.old name fault result self.new }
-        ensures kind { IfErr result (λ other. IsOfBytes other) }
+        ensures kind { IfErr result (λ other. IsOfStatement other) }
     {
         match fault {
             Fault::Check(_) => self.list(name, fault),

@@ -3,7 +3,7 @@ ghost use Rattle.std.specs.Prelude.{◌≡◌, ◌<◌, ◌^◌, [], IfErr, OnOk
 ghost use Rattle.p21_spec_schema.specs.Schema.{Schema as Meant};
 ghost use Rattle.p21_stream_statements.specs.Source.{IsOfBytes};
 ghost use Rattle.p21_stream_statements.specs.StatementReader.{IsLive, limits_of, nothing_read};
-ghost use Rattle.p21_stream.specs.Walk.{EndsNoToken, IsUnderWay, NeedsNoMemory, ReadGives, StaysOpen, StepGives, StopNeedsNoMemory, StopsByBytes, StopsWhere, TakesWithinPiece};
+ghost use Rattle.p21_stream.specs.Walk.{EndsNoToken, IsUnderWay, NeedsNoMemory, ReadGives, ReadPlaces, StaysOpen, StepGives, StepPlaces, StopNeedsNoMemory, StopsByBytes, StopsWhere, TakesWithinPiece};
 ghost use Rattle.p21_transcribe_instance.specs.ExternalSet.{AreExternalSets};
 ghost use Rattle.p21_transcribe_instance.specs.Steps.{IsPlanOf};
 
@@ -11,7 +11,7 @@ use crate::keeper::{Keeper, Stop};
 use p21_express_tables::Schema;
 use p21_grammar::Event;
 use p21_stream_kept::Workspace;
-use p21_stream_statements::{At, Fault, Refusal, StatementReader};
+use p21_stream_statements::{At, Fault, Refusal, Source, StatementReader};
 use p21_transcribe_instance::{Plan, Sets, Taken};
 use p21_values::{Limits, Name};
 use std::alloc::Global;
@@ -32,6 +32,8 @@ pub(crate) struct Walk<K> {
     pub workspace: Workspace,
     // The number of the open statement, counted from 1.
     pub statement: u64,
+    // The bytes of the open statement that stand in front of the next piece, or those of the refused one.
+    pub source: Source,
 }
 
 impl<K: Keeper> Walk<K> {
@@ -54,6 +56,7 @@ impl<K: Keeper> Walk<K> {
             sets: Sets::new(alloc),
             workspace: Workspace::new(alloc),
             statement: 1,
+            source: Source::new(alloc),
         }
     }
 
@@ -69,6 +72,7 @@ impl<K: Keeper> Walk<K> {
         ensures gives { ReadGives schema.now limits (K.keeps schema.now limits) (K.left schema.now limits) self.old.statements self.old.kept piece.now result self.new.statements self.new.kept }
         ensures no_memory { StopNeedsNoMemory (K.keeps schema.now limits) limits self.old.statements self.old.kept piece.now result }
         ensures kind { IfErr result StopsByBytes }
+        ensures place { ReadPlaces (K.keeps schema.now limits) limits self.old.statements self.old.kept piece.now result self.new.statements }
         ensures open { OnOk result (K.is_full self.new.kept → ⊥) }
         ensures full { IfErr result (StopsWhere (K.is_full self.new.kept)) }
         ensures stays { K.stays limits self.old.kept self.new.kept }
@@ -85,9 +89,14 @@ impl<K: Keeper> Walk<K> {
             }
             let taken = match self.advance(schema, limits, rest) {
                 Ok(taken) => taken,
-                Err(refusal) => return Err(Stop::Refused(refusal)),
+                Err(refusal) => {
+                    self.source.take(piece, self.statements.places());
+                    return Err(Stop::Refused(refusal));
+                }
             };
             let Some(count) = taken else {
+                let is_open = self.statements.pending() > 0;
+                self.source.pass(piece, self.statements.places(), is_open);
                 return Ok(());
             };
             rest = &rest[count..];
@@ -116,6 +125,7 @@ impl<K: Keeper> Walk<K> {
         ensures no_memory { NeedsNoMemory (K.keeps schema.now limits) limits self.old.statements self.old.kept piece.now result }
         ensures no_token { EndsNoToken (K.keeps schema.now limits) limits self.old.statements self.old.kept piece.now result }
         ensures kind { IfErr result (λ refusal. IsOfBytes refusal.fault) }
+        ensures place { StepPlaces (K.keeps schema.now limits) limits self.old.statements self.old.kept piece.now result self.new.statements }
         ensures open { StaysOpen (K.is_full self.new.kept) result }
         ensures stays { K.stays limits self.old.kept self.new.kept }
         ensures limits { limits_of self.new.statements ≡ limits_of self.old.statements }
@@ -151,6 +161,7 @@ impl<K: Keeper> Walk<K> {
         ensures no_memory { NeedsNoMemory (K.keeps schema.now limits) limits self.old.statements self.old.kept piece.now result }
         ensures no_token { EndsNoToken (K.keeps schema.now limits) limits self.old.statements self.old.kept piece.now result }
         ensures kind { IfErr result (λ refusal. IsOfBytes refusal.fault) }
+        ensures place { StepPlaces (K.keeps schema.now limits) limits self.old.statements self.old.kept piece.now result self.new.statements }
         ensures open { StaysOpen (K.is_full self.new.kept) result }
         ensures stays { K.stays limits self.old.kept self.new.kept }
         ensures limits { limits_of self.new.statements ≡ limits_of self.old.statements }

@@ -1,6 +1,6 @@
 ghost use Rattle.std.specs.Prelude.{IfErr};
 ghost use Rattle.p21_grammar_tree.specs.View.{record_view};
-ghost use Rattle.p21_stream_statements.specs.Source.{IsOfBytes};
+ghost use Rattle.p21_stream_statements.specs.Source.{IsOfStatement};
 ghost use Rattle.p21_stream_kept.specs.Found.{FindsInstance};
 
 use crate::workspace::Workspace;
@@ -42,7 +42,7 @@ pub(crate) fn find_instance<'a>(
     workspace: &mut Workspace,
 ) -> Result<Found<'a>, Fault>
     ensures finds { FindsInstance schema.now name (record_view of) result workspace.new.line.items }
-    ensures kind { IfErr result (λ fault. IsOfBytes fault) }
+    ensures kind { IfErr result (λ fault. IsOfStatement fault) }
 {
     let alloc = *workspace.line.allocator();
     let (typed, needs) = match check_owned_record(alloc, schema, of) {

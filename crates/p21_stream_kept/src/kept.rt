@@ -11,7 +11,7 @@ ghost use Rattle.p21_mapping.specs.Checked.{needs_view};
 ghost use Rattle.p21_mapping_values.specs.TypedView.{ids_view};
 ghost use Rattle.p21_spec_schema.specs.Schema.{Schema as MeantSchema};
 ghost use Rattle.p21_stream_output.specs.Ending.{IsFileOfKept};
-ghost use Rattle.p21_stream_statements.specs.Source.{IsOfBytes};
+ghost use Rattle.p21_stream_statements.specs.Source.{IsOfStatement};
 ghost use Rattle.p21_stream_kept.specs.Inside.{references_of};
 ghost use Rattle.p21_stream_kept.specs.KeptInstances.{are_equal, instances_of, lines_kept};
 ghost use Rattle.p21_stream_kept.specs.Judgements.{AnswersNeedOf};
@@ -168,7 +168,7 @@ impl Kept {
         ensures gives { TakesLine limits self.old (line_of line) result self.new }
         ensures bound { StepKeepsBound limits self.old self.new }
         ensures lines { self.new.lines ≡ self.old.lines }
-        ensures kind { IfErr result (λ fault. IsOfBytes fault) }
+        ensures kind { IfErr result (λ fault. IsOfStatement fault) }
     {
         let size = line_size(line);
         if !fits_limits(limits, self.bytes, self.framing, size) {
@@ -192,7 +192,7 @@ impl Kept {
         ensures gives { StepGives schema.now limits self.old (section (data_start (heading_of (views (items_of part.params))))) result self.new }
         ensures bound { StepKeepsBound limits self.old self.new }
         ensures lines { self.new.lines ≡ self.old.lines }
-        ensures kind { IfErr result (λ fault. IsOfBytes fault) }
+        ensures kind { IfErr result (λ fault. IsOfStatement fault) }
     {
         let Some((name, text)) = heading(&part) else {
             return self.take_line(limits, Line::DataStart);
@@ -226,7 +226,7 @@ impl Kept {
         ensures gives { StepGives schema.now limits self.old (header (part_view part.now)) result self.new }
         ensures bound { StepKeepsBound limits self.old self.new }
         ensures lines { self.new.lines ≡ self.old.lines }
-        ensures kind { IfErr result (λ fault. IsOfBytes fault) }
+        ensures kind { IfErr result (λ fault. IsOfStatement fault) }
     {
         if !has_schema_name(part, schema.name()) {
             return Err(Fault::SchemaName);
@@ -260,7 +260,7 @@ impl Kept {
         ensures gives { StepGives schema.now limits self.old (instance name (record_view of)) result self.new }
         ensures bound { StepKeepsBound limits self.old self.new }
         ensures lines { self.new.lines ≡ self.old.lines }
-        ensures kind { IfErr result (λ fault. IsOfBytes fault) }
+        ensures kind { IfErr result (λ fault. IsOfStatement fault) }
         ensures unchanged { IfErr result (λ fault. fault ≢ Fault.NoMemory → self.new ≡ self.old) }
         ensures short { vec_capacity workspace.new.line ≤ 65536 }
     {
@@ -282,7 +282,7 @@ impl Kept {
         ensures gives { StepGives schema.now limits self.old (instance name (record_view of)) result self.new }
         ensures bound { StepKeepsBound limits self.old self.new }
         ensures lines { self.new.lines ≡ self.old.lines }
-        ensures kind { IfErr result (λ fault. IsOfBytes fault) }
+        ensures kind { IfErr result (λ fault. IsOfStatement fault) }
         ensures unchanged { IfErr result (λ fault. fault ≢ Fault.NoMemory → self.new ≡ self.old) }
     {
         if self.has_name(name) {
@@ -317,7 +317,7 @@ impl Kept {
         ensures gives { FoundGives schema.now limits self.old found.now.name (ids_view found.now.entities.now) (needs_view found.now.needs.now) found.now.line.now result self.new }
         ensures bound { StepKeepsBound limits self.old self.new }
         ensures lines { self.new.lines ≡ self.old.lines }
-        ensures kind { IfErr result (λ fault. IsOfBytes fault) }
+        ensures kind { IfErr result (λ fault. IsOfStatement fault) }
         ensures unchanged { IfErr result (λ fault. fault ≢ Fault.NoMemory → self.new ≡ self.old) }
     {
         if self.has_name(found.name) {
@@ -349,7 +349,7 @@ impl Kept {
         ensures gives { FoundGives schema.now limits self.old found.now.name (ids_view found.now.entities.now) (needs_view found.now.needs.now) found.now.line.now result self.new }
         ensures bound { StepKeepsBound limits self.old self.new }
         ensures lines { self.new.lines ≡ self.old.lines }
-        ensures kind { IfErr result (λ fault. IsOfBytes fault) }
+        ensures kind { IfErr result (λ fault. IsOfStatement fault) }
         ensures unchanged { IfErr result (λ fault. fault ≢ Fault.NoMemory → self.new ≡ self.old) }
     {
         let size = found.line.len() as u64;

@@ -5,3 +5,4 @@ pub mod Finishing
 pub mod Opening
 pub mod Quiet
 pub mod PassedOver
+pub mod Placing

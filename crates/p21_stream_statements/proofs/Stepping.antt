@@ -101,7 +101,7 @@ lacks-memory (token_fault.LeftOut absent) other is = cc
 lacks-memory token_fault.NoMemory other is = absurd (other refl)
 
 -- what a refusal of a byte says, by its cause
-abbrev SaysOf : Cause → tokens_held.Held → List ℕ → List ℕ → ℕ → Type 0
+abbrev pub SaysOf : Cause → tokens_held.Held → List ℕ → List ℕ → ℕ → Type 0
 SaysOf cause held taken piece count = elim cause [
   | of_form ↦ AreDead (taken ++ take (count + 1) piece)
   | of_end ↦ ⊥
@@ -111,7 +111,7 @@ SaysOf cause held taken piece count = elim cause [
   | of_memory ↦ Unit {0}
 ]
 
-dead-says : (cause : Cause) (held : tokens_held.Held) (taken piece : List ℕ) (count : ℕ) → SaysOf cause held taken piece count → (cause ≡ of_memory → ⊥)
+pub dead-says : (cause : Cause) (held : tokens_held.Held) (taken piece : List ℕ) (count : ℕ) → SaysOf cause held taken piece count → (cause ≡ of_memory → ⊥)
     → (s : Schema) (all : Limits) → all.record_source ≡ record_limit_of held → all.file_source ≡ file_limit_of held → IsDead s all (taken ++ take (count + 1) piece)
 dead-says of_form held taken piece count says other s all record_is file_is = no-laying s all (taken ++ take (count + 1) piece) (λ more bytes found laid. says more found laid)
 dead-says of_end held taken piece count says other s all record_is file_is = absurd says

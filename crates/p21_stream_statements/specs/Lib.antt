@@ -3,3 +3,4 @@ pub mod Location
 pub mod Source
 pub mod StatementReader
 pub mod PassingOver
+pub mod Place

@@ -16,3 +16,12 @@ IsOfBytes (Token fault) = IsOfTokens fault × (fault ≢ token_fault.NoMemory)
 IsOfBytes (Grammar fault) = fault ≢ grammar_fault.NoMemory
 IsOfBytes (Check fault) = fault ≢ check_fault.NoMemory
 IsOfBytes fault = Unit {0}
+
+-- the fault is one of a statement: none of a token or the grammar either
+abbrev pub IsOfStatement : Fault → Type 0
+IsOfStatement Read = ⊥
+IsOfStatement Write = ⊥
+IsOfStatement (Token fault) = ⊥
+IsOfStatement (Grammar fault) = ⊥
+IsOfStatement (Check fault) = fault ≢ check_fault.NoMemory
+IsOfStatement fault = Unit {0}

@@ -2,9 +2,17 @@
 #![tactic(auto)]
 
 mod fault;
+mod header_places;
+mod marks;
+mod parameters;
+mod place;
 mod refusal;
+mod source;
 mod statement_reader;
 
 pub use fault::Fault;
+pub use p21_tokens::Places;
+pub use place::Place;
 pub use refusal::{At, Refusal};
+pub use source::Source;
 pub use statement_reader::StatementReader;

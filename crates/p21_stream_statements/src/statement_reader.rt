@@ -3,11 +3,12 @@ ghost use Rattle.p21_spec_exchange.specs.OpenNesting.{IsDepth};
 ghost use Rattle.p21_grammar.specs.Between.{StandsForMore};
 ghost use Rattle.p21_stream_statements.specs.Source.{IsOfBytes};
 ghost use Rattle.p21_stream_statements.specs.StatementReader.{FinishGives, HasOpenStatement, IsLive, NeedsNoMemory, StatementHistory, StepGives, TakesWithinPiece, limits_of, nothing_read};
+ghost use Rattle.p21_stream_statements.specs.Place.{StepPlaces, place_behind};
 ghost use Rattle.p21_stream_statements.specs.PassingOver.{GivesPassed, IsAtRest, IsBetweenInstances, held_behind, room_of};
 
 use crate::fault::Fault;
 use p21_grammar::{Event, GrammarFault, Line, Parser};
-use p21_tokens::{Lexer, Token};
+use p21_tokens::{Lexer, Places, Token};
 use p21_values::Limits;
 use std::alloc::Global;
 use std::marker::Model;
@@ -64,6 +65,7 @@ impl StatementReader {
         ensures limits { limits_of self.new ≡ limits_of self.old }
         ensures no_memory { NeedsNoMemory self.old piece.now result }
         ensures kind { IfErr result (λ fault. IsOfBytes fault) }
+        ensures place { StepPlaces self.old piece.now result self.new }
     {
         let (count, token) = match self.lexer.next(piece) {
             Ok(answer) => answer,
@@ -122,6 +124,20 @@ impl StatementReader {
         ensures depth { result ≡ self.now.parser.depth }
     {
         self.parser.depth() as u64
+    }
+
+    /// Where it stands in the file. It takes no memory.
+    pub fn places(&self) -> Places
+        ensures byte { result.byte ≡ place_behind self.now }
+    {
+        self.lexer.places()
+    }
+
+    /// Notes that the statement that was passed over last has so many bytes. It takes no memory.
+    pub fn note_statement(&mut self, count: u64)
+        ensures { self.new ≡ self.old }
+    {
+        self.lexer.note_statement(count);
     }
 
     /// Whether it stands in a data section, between two tokens, with no statement open. Then instances that are read elsewhere

@@ -11,6 +11,7 @@ mod kinds;
 mod large;
 mod limits;
 mod lists;
+mod places;
 mod records;
 mod references;
 mod rewriting;
@@ -60,6 +61,8 @@ enum Rows {
     // Files compared, in both orders and over readers.
     Compared(Frame, same::Answer, same::Pairs),
     Readings(same::Readings),
+    // Where refusals of texts in a frame stand.
+    Places(Frame, places::Marked),
 }
 
 /// What a row is called that doesn't hold, and its number, or that of its cut or its call: none where each row holds.
@@ -96,6 +99,7 @@ fn first_wrong_of(alloc: Global, schema: &Schema, rows: Rows) -> Wrong {
             same::wrong_pair(alloc, schema, frame, wanted, rows)
         }
         Rows::Readings(rows) => same::wrong_reading(alloc, schema, rows),
+        Rows::Places(frame, rows) => places::wrong_place(alloc, schema, frame, rows),
     }
 }
 

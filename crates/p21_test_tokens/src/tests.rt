@@ -3,6 +3,7 @@ mod behind;
 mod file;
 mod limits;
 mod param;
+mod places;
 mod runs;
 mod texts;
 mod transcribed;

@@ -593,7 +593,10 @@ module _ (v w : Held) (h : TokenHistory) (piece : List ℕ) (live : IsLive v h) 
   file-first : (x : TokenFault) → RefusesByte middle byte x → IsOfForm x → ¬ EndsOutOfRange tail byte → length (h.taken ++ take count piece) < v.file_limit
   file-first x r i o = let f = (passes-none x r i o).0 in let a = front-live.file_is in let b = same.file_limit in omega arith
 
-  -- what a refusal leaves says that no limit is passed in front of the byte
+  -- what a refusal leaves says how many bytes stand in front of the byte, and that they pass no limit
+  file-is : (u : Held) → SameCounts middle u → u.file ≡ length (h.taken ++ take count piece)
+  file-is u stays = stays.file ∙ front-live.file_is
+
   file-within : (u : Held) → SameLimits v u → SameCounts middle u → IsWithin u → length (h.taken ++ take count piece) ≤ v.file_limit
   file-within u limits stays within = let a = front-live.file_is in let b = stays.file in let c = limits.file_limit in let d = within.file in omega arith
 
@@ -630,7 +633,7 @@ module _ (v w : Held) (h : TokenHistory) (piece : List ℕ) (live : IsLive v h) 
   refuses-byte fault.BadName r = dead r.0
   refuses-byte (fault.LeftOut absent) r = dead r.0
 
-pub next-refuses : (v u w : Held) (piece : List ℕ) (x : TokenFault) → v.refused ≡ None → w.refused ≡ Some x → pending_of w ≡ pending_of u → IsWithin u → RefusesAt v piece x u → NextGives v piece (Err x) w
+pub next-refuses : (v u w : Held) (piece : List ℕ) (x : TokenFault) → v.refused ≡ None → w.refused ≡ Some x → SameCounts u w → IsWithin u → RefusesAt v piece x u → NextGives v piece (Err x) w
 unfolding Stands
 next-refuses v u w piece x r e k i s h stands o alive =
     let now = stands-live v h stands r in
@@ -640,6 +643,7 @@ next-refuses v u w piece x r e k i s h stands o alive =
       byte = s.2;
       byte_is = s.3;
       is_open = open-before v w h piece now.1 alive o s.0 s.1 s.2 s.3 s.4 s.5;
+      file_is = k.file ∙ file-is v w h piece now.1 alive o s.0 s.1 s.2 s.3 s.4 s.5 u s.8;
       file_within = file-within v w h piece now.1 alive o s.0 s.1 s.2 s.3 s.4 s.5 u s.6 s.8 i;
       refuses = refuses-byte v w h piece now.1 alive o s.0 s.1 s.2 s.3 s.4 s.5 x s.7;
       lexemes = lexemes v w h piece now.1 alive o s.0 s.1 s.2 s.3 s.4 s.5;
@@ -655,7 +659,7 @@ next-refuses v u w piece x r e k i s h stands o alive =
       stands = (
         e ∙ sym (ap (λ (y : Option TokenFault). first_refusal y (Some x)) alive),
         λ q. absurd (not-none x (sym (ap (λ (y : Option TokenFault). first_refusal y (Some x)) alive) ∙ q)),
-        subst (λ (n : ℕ). IsPendingBehind (extended h (refused_call piece s.1 x)) n) (sym (k ∙ s.8.pending)) (pending-before v w h piece now.1 alive o s.0 s.1 s.2 s.3 s.4 s.5 x),
+        subst (λ (n : ℕ). IsPendingBehind (extended h (refused_call piece s.1 x)) n) (sym (k.pending ∙ s.8.pending)) (pending-before v w h piece now.1 alive o s.0 s.1 s.2 s.3 s.4 s.5 x),
       );
     }
   where

@@ -21,6 +21,10 @@ pub record Held : Type 0 where
 abbrev pub pending_of : Held → ℕ
 pending_of held = held.statement + held.size
 
+-- the place in the file behind the bytes taken
+abbrev pub place_of : Held → ℕ
+place_of held = held.file
+
 -- what a caller may know besides: the fault that was answered, and the limits on a statement and on the file
 abbrev pub refusal_of : Held → Option TokenFault
 refusal_of held = held.refused

@@ -187,6 +187,7 @@ pub record RefusesAtByte (old : Held) (history : TokenHistory) (piece : List ℕ
   pub byte_is : slice_get piece count ≡ Some byte
   pub refuses : Refuses old history piece count fault
   pub is_open : IsOpen (history.taken ++ take count piece)
+  pub file_is : new.file ≡ length (history.taken ++ take count piece)
   pub file_within : length (history.taken ++ take count piece) ≤ file_limit_of old
   pub lexemes : List Lexeme
   pub tail : Tail

@@ -6,7 +6,7 @@ ghost use Rattle.p21_tokens_automaton.specs.declared.mode.Mode.TheVariants.{Betw
 ghost use Rattle.p21_tokens_automaton.specs.declared.mode.NameMode.TheVariants.{Digits};
 ghost use Rattle.p21_tokens.specs.Fault.{IsOfTokens};
 ghost use Rattle.p21_tokens.specs.Prefix.{TakesLeadingToken};
-ghost use Rattle.p21_tokens.specs.Held.{file_limit_of, pending_of, record_limit_of, refusal_of, state_of};
+ghost use Rattle.p21_tokens.specs.Held.{file_limit_of, pending_of, place_of, record_limit_of, refusal_of, state_of};
 ghost use Rattle.p21_tokens_automaton.specs.Step.{advance};
 ghost use Rattle.p21_spec_basics.specs.History.{empty};
 ghost use Rattle.p21_tokens.specs.declared.fault.TokenFault.{TokenFault};
@@ -17,6 +17,7 @@ ghost use Rattle.p21_tokens.specs.Token.{meant};
 mod passing;
 
 use crate::fault::{TokenFault, fault_of};
+use crate::places::{Places, Starts, bytes_of_character};
 use crate::prefix::{LeadingToken, leading_token};
 use crate::read_token::{
     marker_of, read_closed_token, read_ended_token, read_last_token, single_token,
@@ -45,6 +46,8 @@ pub struct Lexer {
     statement: u64,
     // All bytes taken.
     file: u64,
+    // Where the token and the statement begin that are open, or else the last ones. No clause rests on it.
+    starts: Starts,
     // The most of both.
     statement_limit: u64,
     file_limit: u64,
@@ -63,6 +66,7 @@ impl Drop for Lexer {
             size: _,
             statement: _,
             file: _,
+            starts: _,
             statement_limit: _,
             file_limit: _,
             refused: _,
@@ -263,6 +267,7 @@ impl Lexer {
                 Err(fault) => Err(fault),
             };
         }
+        self.starts = self.starts.at(self.mode, self.statement, self.file);
         if self.file >= self.file_limit {
             return Err(TokenFault::FileTooLong);
         }
@@ -410,6 +415,7 @@ impl Lexer {
         if self.file_limit - self.file < size || self.statement_limit - self.statement < size {
             return None;
         }
+        self.starts = self.starts.at(self.mode, self.statement, self.file);
         self.file += size;
         self.statement = match token {
             Token::Semicolon => 0,
@@ -494,6 +500,7 @@ impl Lexer {
             size: 0,
             statement: 0,
             file: 0,
+            starts: Starts::new(),
             statement_limit: limits.record_source(),
             file_limit: limits.file_source(),
             refused: None,
@@ -557,6 +564,7 @@ impl Lexer {
             size: _,
             statement: _,
             file: _,
+            starts: _,
             statement_limit: _,
             file_limit: _,
             refused: _,
@@ -574,5 +582,24 @@ impl Lexer {
         // Looked at, so that the proof knows what holds of each lexer.
         let _limit = self.statement_limit;
         self.statement + self.size
+    }
+
+    /// Where it stands in the file. It takes no memory.
+    pub fn places(&self) -> Places
+        ensures byte { result.byte ≡ place_of self.now }
+    {
+        Places {
+            byte: self.file,
+            token: self.starts.token,
+            statement: self.starts.statement,
+            character: self.file.saturating_sub(bytes_of_character(self.mode)),
+        }
+    }
+
+    /// Notes that the statement that ended last has so many bytes. It takes no memory.
+    pub fn note_statement(&mut self, count: u64)
+        ensures { self.new ≡ self.old }
+    {
+        self.starts.statement = self.file.saturating_sub(count);
     }
 }

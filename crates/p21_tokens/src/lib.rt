@@ -6,6 +6,7 @@ mod fault;
 mod laying;
 mod lexer;
 mod param;
+mod places;
 mod prefix;
 mod read_token;
 mod step;
@@ -20,4 +21,5 @@ pub use p21_values::{
     Bits, Canonical, Decimal, Limits, Name, NoMemory, Text, ValueFault, Whole, Word,
 };
 pub use param::canonical_param;
+pub use places::Places;
 pub use token::Token;

@@ -67,7 +67,7 @@ separated : (gap other : List ℕ) → IsSeparatorText gap → IsSeparatorText o
 separated gap other (ss, each, is) (ts, more, same) =
     (ss ++ ts, Each-append IsSeparator ss ts each more, ap (λ (l : List ℕ). l ++ other) is ∙ (ap (λ (l : List ℕ). flat_map separator_bytes ss ++ l) same ∙ sym (flat_map-append separator_bytes ss ts)))
 
-laid-behind : (bytes middle rest : List ℕ) (t : Token) (ts : List Token) → PassesSeparators bytes middle → LaidBefore middle (t ∷ ts) rest → LaidBefore bytes (t ∷ ts) rest
+pub laid-behind : (bytes middle rest : List ℕ) (t : Token) (ts : List Token) → PassesSeparators bytes middle → LaidBefore middle (t ∷ ts) rest → LaidBefore bytes (t ∷ ts) rest
 laid-behind bytes middle rest t ts passes (gap, spelling, behind, e, separates, spells, followed, laid) =
     (passes.gap ++ gap, spelling, behind, passes.bytes_are ∙ (ap (λ (x : List ℕ). passes.gap ++ x) e ∙ sym (append_assoc passes.gap gap (spelling ++ behind))), separated passes.gap gap passes.is_gap separates, spells, followed, laid)
 

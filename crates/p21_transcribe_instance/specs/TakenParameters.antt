@@ -2,6 +2,7 @@
 use Rattle.std.specs.Prelude.{◌≡◌, ℕ, ◌≤◌, List, [], ◌∷◌, ◌++◌, None, Option, Some, map}
 use Rattle.std.specs.List.{AllByRecursion as Each, flat_map}
 use Rattle.p21_spec_laws.specs.Needs.{FitsAtWithNeeds}
+use Rattle.p21_spec_exchange.specs.Keyword.{IsKeyword}
 use Rattle.p21_spec_exchange.specs.Nesting.{depth}
 use Rattle.p21_spec_exchange.specs.Parameter.{Param, Params, no_params, param, params_tokens}
 use Rattle.p21_spec_exchange.specs.Token.{Token, keyword, left, right, semicolon}
@@ -28,6 +29,10 @@ pub record TakesTokens (tokens : List Token) (text bytes rest old new : List ℕ
 pub record TakesDelimiter (mark : ℕ) (bytes rest old new : List ℕ) : Type 0 where
   pub passes : PassesDelimiter mark bytes rest
   pub appended : new ≡ old ++ mark ∷ []
+
+-- the word is the keyword of the entity
+abbrev pub IsNamedBy : Schema → ℕ → List ℕ → Type 0
+IsNamedBy s e word = EntityNamed s e word × IsKeyword word
 
 -- the keyword of the entity is laid at the front, and appended
 abbrev pub TakesEntity : Schema → ℕ → List ℕ → List ℕ → List ℕ → List ℕ → Type 0

@@ -1,8 +1,8 @@
 //! What stands in front of the parameters of an instance (ISO 10303-21, mapping of EXPRESS entity data types).
-ghost use Rattle.std.specs.Prelude.{◌≡◌, ◌<◌, ◌≤◌, IfNone, IfSome, length, slice_index};
+ghost use Rattle.std.specs.Prelude.{◌≡◌, ◌<◌, ◌≤◌, IfNone, IfSome, length, slice_index, take};
 ghost use Rattle.p21_express_graph.specs.Resolved.{IsEntity};
 ghost use Rattle.p21_spec_schema.specs.Schema.{Schema as Meant};
-ghost use Rattle.p21_transcribe_instance.specs.TakenParameters.{TakesEntity, TakesOpenedEntity, TakesOpening};
+ghost use Rattle.p21_transcribe_instance.specs.TakenParameters.{IsNamedBy, TakesEntity, TakesOpenedEntity, TakesOpening};
 ghost use Rattle.p21_transcribe_instance.specs.Steps.{IsPlanOf};
 ghost use Rattle.p21_values.specs.Canonical.{Continues};
 
@@ -14,6 +14,9 @@ use p21_express_tables::Schema;
 use p21_transcribe::{Draft, append_keyword, behind_separators};
 use p21_values::NoMemory;
 use std::simd::prelude::*;
+
+/// What some writers put between two tokens.
+const BLANK: u8 = b' ';
 
 /// Appends what stands in front of the parameters at the front: of internal mapping the keyword of an entity that such instances
 /// may have, with a `(`, and of external mapping a `(` alone. Answers the entity, if there is one, and what stands behind the `(`.
@@ -36,7 +39,7 @@ pub(crate) fn append_opening<'a>(
     }
 }
 
-/// The same with no guess.
+/// The same with separators, or with no guess.
 #[inline(never)]
 fn append_other_opening<'a>(
     schema: &Schema,
@@ -49,6 +52,14 @@ fn append_other_opening<'a>(
     ensures none { IfNone result (Continues draft.old draft.new) }
     ensures plan { IsPlanOf schema.now plan.new }
 {
+    let front = behind_separators(bytes);
+    if let Some((entity, count)) = guessed_entity(plan, front) {
+        if !draft.append_prefix(front, count) {
+            return None;
+        }
+        let inside = append_delimiter(b'(', &front[count..], draft)?;
+        return Some((Some(entity), inside));
+    }
     match append_delimiter(b'(', bytes, draft) {
         Some(inside) => Some((None, inside)),
         None => {
@@ -70,15 +81,49 @@ fn append_guessed<'a>(
     ensures none { IfNone result (draft.new ≡ draft.old) }
 {
     let count = parenthesis_in(bytes)?;
+    if bytes[0] == BLANK {
+        return None;
+    }
+    let entity = entity_of(plan, bytes, count)?;
+    if !draft.append_prefix(bytes, count + 1) {
+        return None;
+    }
+    Some((entity, &bytes[count + 1..]))
+}
+
+/// The entity of the keyword at the front by a guess, where the entity is prepared, and a `(` or a blank stands behind the keyword; and
+/// how many bytes that has.
+fn guessed_entity(plan: &Plan, bytes: &[u8]) -> Option<(EntityId, usize)>
+    ensures within { IfSome result (λ found. found.1 < length bytes.now) }
+    ensures ends { IfSome result (λ found. slice_index bytes.now found.1 < 45) }
+    ensures some { (s : Meant) → IsPlanOf s plan.now → IfSome result (λ found. IsNamedBy s found.0.0 (take found.1 bytes.now)) }
+{
+    let place = parenthesis_in(bytes)?;
+    let mut count = place;
+    if bytes[place - 1] == BLANK {
+        count = place - 1;
+    }
+    if count == 0 {
+        return None;
+    }
+    let entity = entity_of(plan, bytes, count)?;
+    Some((entity, count))
+}
+
+/// The entity that so many bytes at the front of a row or more name, by a guess, where it is prepared.
+#[inline(always)]
+fn entity_of(plan: &Plan, bytes: &[u8], count: usize) -> Option<EntityId>
+    requires row { 32 ≤ length bytes.now }
+    requires some { 0 < count }
+    requires within { count < length bytes.now }
+    ensures { (s : Meant) → IsPlanOf s plan.now → IfSome result (λ entity. IsNamedBy s entity.0 (take count bytes.now)) }
+{
     let guess = plan.guess(&bytes[..count])?;
     let row = plan.row(guess)?;
     if !row.keyword.is_front(bytes, count) {
         return None;
     }
-    if !draft.append_prefix(bytes, count + 1) {
-        return None;
-    }
-    Some((guess, &bytes[count + 1..]))
+    Some(guess)
 }
 
 /// Where the first `(` stands, behind a byte or more of a row.

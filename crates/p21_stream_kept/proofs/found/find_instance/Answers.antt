@@ -3,13 +3,13 @@ use Rattle.p21_canon.specs.Statement.{AppendsStatement}
 use Rattle.p21_grammar_tree.specs.View.{record_view}
 use Rattle.p21_mapping.specs.Checked.{needs_view}
 use Rattle.p21_mapping_values.specs.TypedView.{typed_view}
-use Rattle.p21_stream_statements.proofs.Sources.{check-of_bytes}
-use Rattle.p21_stream_statements.specs.Source.{IsOfBytes}
+use Rattle.p21_stream_statements.proofs.Sources.{check-of_statement}
+use Rattle.p21_stream_statements.specs.Source.{IsOfStatement}
 use Rattle.p21_stream_kept.proofs.Finding.{found}
 use Rattle.p21_stream_kept.proofs.found.find_instance.Goals as goal
 
 pub returns-in-Err-clause-kind : goal.returns-in-Err-clause-kind
-returns-in-Err-clause-kind c = subst IsOfBytes (sym c.from.ensures) (check-of_bytes c.in-Err.fault)
+returns-in-Err-clause-kind c = subst IsOfStatement (sym c.from.ensures) (check-of_statement c.in-Err.fault)
 
 pub returns-clause-finds : goal.returns-clause-finds
 returns-clause-finds c =

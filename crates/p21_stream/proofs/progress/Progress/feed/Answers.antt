@@ -2,11 +2,11 @@ use Rattle.std.proofs.Common.{◌≡◌, ◌∙◌, Err, IfErr, Result, Some, re
 use Rattle.p21_spec_laws.specs.Keeping.{Keeps}
 use Rattle.p21_stream_statements.specs.Source.{IsOfBytes}
 use Rattle.p21_stream_statements.specs.declared.refusal.Refusal.{Refusal}
-use Rattle.p21_stream.proofs.PieceFeeding.{again-quiet, bounded-refused, bounded-whole, fed-again, fed-checks, fed-quiet, fed-refused, fed-whole, under-way}
-use Rattle.p21_stream.specs.Histories.{FeedChecks, FeedGives, FeedNeedsNoMemory}
+use Rattle.p21_stream.proofs.PieceFeeding.{again-places, again-quiet, bounded-refused, bounded-whole, fed-again, fed-checks, fed-places, fed-quiet, fed-refused, fed-whole, under-way}
+use Rattle.p21_stream.specs.Histories.{FeedChecks, FeedGives, FeedNeedsNoMemory, FeedPlaces}
 use Rattle.p21_stream.specs.Bounds.{IsNothingLeft}
 use Rattle.p21_stream.specs.Inside.{held_in}
-use Rattle.p21_stream.specs.Walk.{ReadGives, StopNeedsNoMemory, StopsByBytes}
+use Rattle.p21_stream.specs.Walk.{ReadGives, ReadPlaces, StopNeedsNoMemory, StopsByBytes}
 use Rattle.p21_stream.specs.declared.keeper.Stop.{Stop}
 use Rattle.p21_stream.proofs.progress.Progress.feed.Goals as goal
 
@@ -63,3 +63,11 @@ returns-in-Ok-clause-lines c lines keeps none = c.in-Ok.ensures.stays.1 ∙ keep
 
 pub returns-in-Refused-clause-lines : goal.returns-in-Refused-clause-lines
 returns-in-Refused-clause-lines c lines keeps none = cc
+
+pub returns-in-Some-clause-place : goal.returns-in-Some-clause-place
+returns-in-Some-clause-place c = again-places (held_in c.args.schema.now c.args.limits c.args.self.now) c.args.piece.now c.in-Some.refusal c.in-Some.is
+
+pub returns-in-Refused-clause-place : goal.returns-in-Refused-clause-place
+returns-in-Refused-clause-place c =
+    subst (λ (r : Result (Unit {0}) Refusal). FeedPlaces (held_in c.args.schema.now c.args.limits c.args.self.now) c.args.piece.now r (held_in c.args.schema.now c.args.limits (record c.args.self.now { walk = record c.read.new.self { kept = c.new.result }; refused = Some c.in-Refused.refusal }))) (sym (c.answered.ensures c.in-Refused.refusal refl))
+    (fed-places c.args.schema.now c.args.limits c.args.self.now.walk.statements c.read.new.self.statements c.args.self.now.walk.kept c.new.result c.args.piece.now c.args.self.now.refused c.in-Refused.refusal (subst (λ (stop : Stop). ReadPlaces (Keeps c.args.schema.now c.args.limits) c.args.limits c.args.self.now.walk.statements c.args.self.now.walk.kept c.args.piece.now (Err stop) c.read.new.self.statements) c.in-Refused.is c.in-Err.ensures.place))

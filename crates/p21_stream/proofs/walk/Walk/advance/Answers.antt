@@ -1,6 +1,10 @@
 use Rattle.std.proofs.Common.{◌≡◌, ℕ, Ok, Option, subst, sym}
+use Rattle.p21_stream_statements.proofs.Placing.{statement-placed}
+use Rattle.p21_stream_statements.proofs.Sources.{statement-of_bytes}
+use Rattle.p21_stream_statements.specs.Place.{place_behind}
+use Rattle.p21_stream_statements.specs.StatementReader.{limits_of}
 use Rattle.p21_stream.proofs.Walking.{as-before}
-use Rattle.p21_stream.specs.Walk.{EndsNoToken, IsUnderWay, NeedsNoMemory, PassGives, StepGives, TakesWithinPiece}
+use Rattle.p21_stream.specs.Walk.{EndsNoToken, IsUnderWay, NeedsNoMemory, PassGives, StepGives, StepPlaces, TakesWithinPiece}
 use Rattle.p21_transcribe_instance.specs.ExternalSet.{AreExternalSets}
 use Rattle.p21_transcribe_instance.specs.Steps.{IsPlanOf}
 use Rattle.p21_stream.proofs.walk.Walk.advance.Goals as goal
@@ -77,3 +81,20 @@ returns-clause-plan g c = subst (IsPlanOf c.args.schema.now) (sym c.step.ensures
 
 pub returns-clause-sets : goal.returns-clause-sets
 returns-clause-sets g c = subst (AreExternalSets c.args.schema.now) (sym c.step.ensures.sets) c.in-Ok.ensures.sets
+
+pub returns-in-Err-clause-kind : goal.returns-in-Err-clause-kind
+returns-in-Err-clause-kind g c = statement-of_bytes c.in-Err.refusal.fault c.in-Err.ensures.kind
+
+pub returns-in-Err-clause-place : goal.returns-in-Err-clause-place
+returns-in-Err-clause-place g c reading live at =
+    statement-placed (limits_of c.args.self.now.statements) reading.taken c.args.piece.now c.in-Err.refusal.fault (place_behind c.pass_instances.new.self.statements) c.in-Err.ensures.kind
+
+pub returns-clause-place : goal.returns-clause-place
+returns-clause-place g c =
+    let keeps = g.K.Keeper.keeps c.args.schema.now c.args.limits in
+    let left = g.K.Keeper.left c.args.schema.now c.args.limits in
+    let old = c.args.self.now in
+    let new = c.pass_instances.new.self in
+    let same : (new.statements ≡ old.statements) × (new.kept ≡ old.kept) =
+    subst (λ (o : Option ℕ). PassGives c.args.schema.now c.args.limits keeps left old.statements old.kept c.args.piece.now (Ok o) new.statements new.kept) c.in_default.is c.in-Ok.ensures.gives in
+    as-before (λ h k. StepPlaces keeps c.args.limits h k c.args.piece.now c.step.result c.step.new.self.statements) old.statements new.statements old.kept new.kept same.0 same.1 c.step.ensures.place

@@ -8,6 +8,9 @@ use Rattle.p21_stream.proofs.walk.Walk.read.Goals as goal
 pub returns-in-Err-clause-gives : goal.returns-in-Err-clause-gives
 returns-in-Err-clause-gives g c = c.loop-rest.invariant.rest.gives (Err (Refused c.in-Err.refusal)) c.advance.new.self.statements c.advance.new.self.kept c.in-Err.ensures.gives
 
+pub returns-in-Err-clause-place : goal.returns-in-Err-clause-place
+returns-in-Err-clause-place g c = c.loop-rest.invariant.rest.places c.in-Err.refusal c.advance.new.self.statements c.in-Err.ensures.place
+
 pub returns-in-Err-clause-no_memory : goal.returns-in-Err-clause-no_memory
 returns-in-Err-clause-no_memory g c = c.loop-rest.invariant.rest.quiet c.in-Err.refusal c.in-Err.ensures.no_memory
 

@@ -1,6 +1,11 @@
-use Rattle.std.proofs.Common.{ℕ, Ok, Err, Option, Some, subst, ◌∙◌}
+use Rattle.std.proofs.Common.{ℕ, Ok, Err, Option, Some, subst, sym, ◌∙◌}
 use Rattle.p21_grammar.specs.declared.event.Event.{Event}
+use Rattle.p21_stream_statements.proofs.Placing.{statement-placed}
+use Rattle.p21_stream_statements.proofs.Sources.{statement-of_bytes}
+use Rattle.p21_stream_statements.specs.Place.{HasPlace, place_behind}
+use Rattle.p21_stream_statements.specs.Source.{IsOfBytes, IsOfStatement}
 use Rattle.p21_stream_statements.specs.StatementReader as statements
+use Rattle.p21_stream_statements.specs.StatementReader.{limits_of}
 use Rattle.p21_stream.proofs.Walking.{statement-follows, step-ends, step-piece, step-quiet, step-refused, step-statement, step-token, token-none, token-quiet}
 use Rattle.p21_stream.proofs.walk.Walk.step.Goals as goal
 
@@ -84,3 +89,14 @@ take-requires-clause-follows g c =
     (subst (λ (e : Option Event). statements.StepGives c.args.self.now.statements c.args.piece.now (Ok (Some (c.in-Some.count, e))) c.step.new.self) c.in-Some-event.is
     (subst (λ (a : Option (ℕ × Option Event)). statements.StepGives c.args.self.now.statements c.args.piece.now (Ok a) c.step.new.self) c.in-Some.is c.in-Ok.ensures.gives))
     c.in-Ok.ensures.limits
+
+pub returns-in-Err-clause-place : goal.returns-in-Err-clause-place
+returns-in-Err-clause-place g c reading live at =
+    subst (λ f. HasPlace (limits_of c.args.self.now.statements) reading.taken c.args.piece.now f (place_behind c.step.new.self)) (sym c.refused.ensures) (c.in-Err.ensures.place reading live.reads at)
+
+pub returns-in-Err-take-clause-place : goal.returns-in-Err-take-clause-place
+returns-in-Err-take-clause-place g c reading live at =
+    statement-placed (limits_of c.args.self.now.statements) reading.taken c.args.piece.now c.refused-in-Err-take.result.fault (place_behind c.step.new.self) (subst IsOfStatement (sym c.refused-in-Err-take.ensures) c.in-Err-take.ensures.kind)
+
+pub returns-in-Err-take-clause-kind : goal.returns-in-Err-take-clause-kind
+returns-in-Err-take-clause-kind g c = subst IsOfBytes (sym c.refused-in-Err-take.ensures) (statement-of_bytes c.in-Err-take.fault c.in-Err-take.ensures.kind)

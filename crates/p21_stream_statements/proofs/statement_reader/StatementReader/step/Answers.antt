@@ -2,8 +2,10 @@ use Rattle.std.proofs.Common.{sym, subst, Ok, Err, Some}
 use Rattle.p21_stream_statements.proofs.Sources.{grammar-of_bytes, token-of_bytes}
 use Rattle.p21_stream_statements.specs.Source.{IsOfBytes}
 use Rattle.p21_stream_statements.proofs.Stepping.{Owes, parse-refused, token-refused, went-on}
+use Rattle.p21_stream_statements.proofs.Placing.{grammar-placed, token-placed}
 use Rattle.p21_stream_statements.proofs.Quiet.{quiet-refused, quiet-token}
-use Rattle.p21_stream_statements.specs.StatementReader.{Held, NeedsNoMemory, StepGives}
+use Rattle.p21_stream_statements.specs.Place.{HasPlace}
+use Rattle.p21_stream_statements.specs.StatementReader.{Held, IsLive, IsSeenAt, NeedsNoMemory, StatementHistory, StepGives, limits_of}
 use Rattle.p21_tokens.specs.Histories.{NextGives}
 use Rattle.p21_stream_statements.proofs.statement_reader.StatementReader.step.Goals as goal
 
@@ -55,3 +57,15 @@ returns-in-Err-clause-kind c = subst IsOfBytes (sym c.from.ensures) (token-of_by
 
 pub returns-in-Err-take-clause-kind : goal.returns-in-Err-take-clause-kind
 returns-in-Err-take-clause-kind c = subst IsOfBytes (sym c.from-in-Err-take.ensures) (grammar-of_bytes c.in-Err-take.fault)
+
+pub returns-in-Err-clause-place : goal.returns-in-Err-clause-place
+returns-in-Err-clause-place c =
+    let held : Held = record { lexer = c.self.inside.lexer; parser = c.self.inside.parser } in
+    subst (λ (h : Held). (reading : StatementHistory) → IsLive h reading → IsSeenAt reading.seen c.args.piece.now 0 → HasPlace (limits_of h) reading.taken c.args.piece.now c.from.result c.next.new.self.file) c.self.view_is (λ reading live at.
+    subst (λ f. HasPlace (limits_of held) reading.taken c.args.piece.now f c.next.new.self.file) (sym c.from.ensures)
+    (token-placed held c.args.piece.now c.next.new.self c.in-Err.fault c.in-Err.ensures.history reading live at))
+
+pub returns-in-Err-take-clause-place : goal.returns-in-Err-take-clause-place
+returns-in-Err-take-clause-place c reading live at =
+    subst (λ f. HasPlace (limits_of c.args.self.now) reading.taken c.args.piece.now f c.next.new.self.file) (sym c.from-in-Err-take.ensures)
+    (grammar-placed (limits_of c.args.self.now) reading.taken c.args.piece.now c.in-Err-take.fault c.next.new.self.file)

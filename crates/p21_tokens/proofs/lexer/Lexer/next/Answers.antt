@@ -26,7 +26,7 @@ returns-in-Err-clause-history c =
       statement = subst (λ (h : Held). pending_of h ≤ h.statement_limit) c.self-2.view_is c.self-2.invariant.0;
       file = subst (λ (h : Held). h.file ≤ h.file_limit) c.self-2.view_is c.self-2.invariant.1;
     } in
-    next-refuses c.args.self.now c.scan.new.self _ c.args.piece.now c.in-Err.fault (ap (λ (h : Held). h.refused) (sym c.self.view_is) ∙ c.in_default.is) refl (ap pending_of c.self-2.view_is) within (c.in-Err.ensures {u = tt})
+    next-refuses c.args.self.now c.scan.new.self _ c.args.piece.now c.in-Err.fault (ap (λ (h : Held). h.refused) (sym c.self.view_is) ∙ c.in_default.is) refl (record { pending = ap pending_of c.self-2.view_is; file = ap (λ (h : Held). h.file) c.self-2.view_is }) within (c.in-Err.ensures {u = tt})
 
 pub returns-in-Err-clause-no_memory : goal.returns-in-Err-clause-no_memory
 returns-in-Err-clause-no_memory c history stands alive nothing separators e =
