@@ -50,12 +50,13 @@ fn places_behind(alloc: Global, first: &[u8], second: &[u8]) -> Places {
 
 /// The first text that leads to other places, in whatever two pieces it comes.
 fn first_displaced(alloc: Global, rows: Rows) -> Option<&'static [u8]> {
-    for (text, [byte, token, statement, character]) in rows {
+    for row in rows {
+        let (text, [byte, token, statement, character]) = *row;
         let wanted = Places {
-            byte: *byte,
-            token: *token,
-            statement: *statement,
-            character: *character,
+            byte,
+            token,
+            statement,
+            character,
         };
         for cut in 0..text.len() + 1 {
             if places_behind(alloc, &text[..cut], &text[cut..]) != wanted {
