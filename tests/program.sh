@@ -53,6 +53,11 @@ run() {
     status=$?
 }
 
+# unopened PATH [REASON]: what is said of a file that can't be opened.
+unopened() {
+    printf 'cannot open %s\nnote: %s: %s' "$1" "$1" "${2:-no such file}"
+}
+
 run param "$here/real"
 expect 'an answer' 0 '1.25E4' ''
 
@@ -78,16 +83,19 @@ run param "$(printf '\377')"
 expect 'an argument that is no text' 2 '' 'error: an argument is not UTF-8'
 
 run param "$here/none"
-expect 'a file that is not there' 3 '' "cannot open $here/none"
+expect 'a file that is not there' 3 '' "$(unopened "$here/none")"
 
 run param "$here/$(printf 'a\nb\r\t\033[31m\177\302\233\342\200\256\303\251\\n')"
-expect 'a path that breaks a line' 3 '' "cannot open $here/"'a\\nb\\r\\t\\x1b[[]31m\\x7f\\x9b\\u202eé\\n'
+escaped='a\\nb\\r\\t\\x1b[[]31m\\x7f\\x9b\\u202eé\\n'
+expect 'a path that breaks a line' 3 '' "cannot open $here/$escaped
+note: $here/$escaped: no such file"
 
 run faults "$(printf 'a\nb')"
 expect 'a word that breaks a line' 2 '' "error: invalid value ""'a\\\\nb' for*"
 
 run param "$here"
-expect 'a folder' 3 '' 'read fault'
+expect 'a folder' 3 '' "read fault
+note: $here: a folder"
 
 run schema examples/demo.exp
 expect 'a schema' 0 'SCHEMA DEMO
@@ -97,12 +105,16 @@ MARKED(LABEL,MARK)
 ORIGIN(LABEL,*,Y)
 CLOUD(MEMBERS,SIZES,VALUES)' ''
 
-# refused_schema NAME TEXT: the schema of this text is refused by this name.
+# refused_schema NAME TEXT [NOTE]: the schema of this text is refused by this name, with this note.
 refused_schema() {
     printf '%s' "$2" > "$here/schema"
     run schema "$here/schema"
-    expect "a schema refused: $1" 1 '' "schema refused $1"
+    line="schema refused $1"
+    [ -z "$3" ] || line="$line
+note: $here/schema: $3"
+    expect "a schema refused: $1" 1 '' "$line"
 }
+adapted="p21-adapt makes a copy of it that fits; p21-adapt $here/schema -o COPY"
 
 refused_schema 'S1 Token' 'SCHEMA s; (* END_SCHEMA;'
 refused_schema 'S2 Syntax' 'SCHEMA s; END_SCHEMA'
@@ -110,22 +122,24 @@ refused_schema 'S3 Duplicate' 'SCHEMA s; ENTITY a; END_ENTITY; ENTITY a; END_ENT
 refused_schema 'S4 UnknownName' 'SCHEMA s; ENTITY a; x : foo; END_ENTITY; END_SCHEMA;'
 refused_schema 'S5 Circular' \
     'SCHEMA s; ENTITY a SUBTYPE OF (b); END_ENTITY; ENTITY b SUBTYPE OF (a); END_ENTITY; END_SCHEMA;'
-refused_schema 'S6 LeftOut' 'SCHEMA s; USE FROM t; END_SCHEMA;'
+refused_schema 'S6 LeftOut' 'SCHEMA s; USE FROM t; END_SCHEMA;' "$adapted"
 refused_schema 'S7 Bounds' 'SCHEMA s; ENTITY a; x : LIST [3:1] OF REAL; END_ENTITY; END_SCHEMA;'
 refused_schema 'S8 RedeclaredPlace' 'SCHEMA s; ENTITY a; y : REAL; END_ENTITY;
     ENTITY b SUBTYPE OF (a); DERIVE SELF\a.z : REAL := 0.0; END_ENTITY; END_SCHEMA;'
 
 run schema "$here/long"
-expect 'a schema too long' 1 '' 'schema refused S9 TooLarge'
+expect 'a schema too long' 1 '' "schema refused S9 TooLarge
+note: $here/long: p21-adapt makes a copy of it that fits; p21-adapt $here/long -o COPY"
 
 run schema
 expect 'no schema' 2 '' '*S*'
 
 run schema "$here/none"
-expect 'a schema that is not there' 3 '' "cannot open $here/none"
+expect 'a schema that is not there' 3 '' "$(unopened "$here/none")"
 
 run schema "$here"
-expect 'a folder as a schema' 3 '' 'read fault'
+expect 'a folder as a schema' 3 '' "read fault
+note: $here: a folder"
 
 # file INSTANCES: a file of the schema DEMO with these lines in its data section, none where there is no argument.
 file() {
@@ -198,7 +212,8 @@ refusals 2, the rest was not read'
 
 run check --all "$demo" "$here"
 expect 'every refusal of a folder' 3 '' 'read fault
-refusals 0, the rest was not read'
+refusals 0, the rest was not read
+note: '"$here: a folder"
 
 run check --all "$here/schema" "$here/point"
 expect 'every refusal, with a schema that is refused' 1 '' 'schema refused S2 Syntax'
@@ -210,6 +225,136 @@ if grep -q '18 for #18' "$here/error"; then
     echo 'no refusals asked for: how the number of an instance is written is said' >&2
     failed=1
 fi
+
+# fed FILE ARGUMENTS: a run with this file as its standard input.
+fed() {
+    input=$1
+    shift
+    "$program" "$@" > "$here/output" 2> "$here/error" < "$input"
+    status=$?
+}
+
+fed "$here/real" param -
+expect 'a parameter from standard input' 0 '1.25E4' ''
+
+fed "$demo" check - "$here/point"
+expect 'a schema from standard input' 0 'accepted, instances 1, canonical bytes 171' ''
+
+fed "$here/point" check "$demo" -
+expect 'a file from standard input' 0 'accepted, instances 1, canonical bytes 171' ''
+
+fed "$here/point" check - -
+expect 'standard input for two' 3 '' 'cannot open -
+note: -: standard input is named twice'
+
+# Several files: each line has its name in front, one that is refused or not there doesn't end the run, and the status is the highest.
+one="$here/point: accepted, instances 1, canonical bytes 171"
+none="$here/empty: accepted, instances 0, canonical bytes 152"
+refused="$here/twice: refused 40 DuplicateName in #1"
+gone="$here/none: cannot open $here/none
+$here/none: note: no such file"
+folder="$here: read fault
+$here: note: a folder"
+
+run check "$demo" "$here/point" "$here/empty" "$here/point"
+expect 'several files' 0 "$one
+$none
+$one" ''
+
+run check "$demo" "$here/point" "$here/twice" "$here/empty"
+expect 'several files, one of them refused' 1 "$one
+$none" "$refused"
+
+run check "$demo" "$here/twice" "$here/none" "$here" "$here/point"
+expect 'several files, of which some cannot be read' 3 "$one" "$refused
+$gone
+$folder"
+
+run check "$demo" "$here/none" "$here/twice"
+expect 'a file that is not there, and one that is refused' 3 '' "$gone
+$refused"
+
+run check --all "$demo" "$here/twice" "$here/point" "$here"
+expect 'every refusal of several files' 3 "$one" "$refused
+$here/twice: refusals 1
+$here: read fault
+$here: refusals 0, the rest was not read
+$here: note: a folder"
+
+run check "$here/schema" "$here/point" "$here/none"
+expect 'several files with a schema that is refused' 1 '' 'schema refused S2 Syntax'
+
+run check "$here/none" "$here/point" "$here/absent"
+expect 'several files with a schema that is not there' 3 '' "$(unopened "$here/none")"
+
+printf '%s\n' "$here/point" '' "$here/twice" > "$here/list"
+run check "$demo" "@$here/list"
+expect 'the files of a list' 1 "$one" "$refused"
+
+run check "$demo" "$here/empty" "@$here/list" "$here/none"
+expect 'a file, those of a list, and another file' 3 "$none
+$one" "$refused
+$gone"
+
+printf '%s\r\n%s' "$here/point" "$here/empty" > "$here/list"
+run check "$demo" "@$here/list"
+expect 'a list with other line ends' 0 "$one
+$none" ''
+
+fed "$here/list" check "$demo" @-
+expect 'a list from standard input' 0 "$one
+$none" ''
+
+: > "$here/list"
+run check "$demo" "@$here/list"
+expect 'a list of no files' 0 '' ''
+
+run check "$demo" "@$here/none"
+expect 'a list that is not there' 3 '' "$gone"
+
+run check "$demo" "@$here" "$here/point"
+expect 'a folder as a list' 3 "$one" "$here: cannot open $here
+$here: note: a folder"
+
+fed "$here/point" check "$demo" - "$here/point" -
+expect 'standard input as two of several files' 3 "-: accepted, instances 1, canonical bytes 171
+$one" '-: cannot open -
+-: note: standard input is named twice'
+
+# What was given, where something else is wanted.
+gzip -c "$here/point" > "$here/packed file"
+run check "$demo" "$here/packed file"
+expect 'a file packed by gzip' 1 '' "refused 1 BadByte at statement 1
+note: $here/packed file: packed by gzip; gunzip -c < '$here/packed file' | p21 check $demo -"
+
+run check "$demo" "$here/packed file" "$here/point"
+expect 'a file packed by gzip, among several' 1 "$one" "$here/packed file: refused 1 BadByte at statement 1
+$here/packed file: note: packed by gzip; gunzip -c < '$here/packed file' | p21 check $demo -"
+
+fed "$here/packed file" show "$demo" - --name 2
+expect 'standard input packed by gzip' 1 '' "refused 1 BadByte at statement 1
+note: -: packed by gzip; gunzip -c | p21 show $demo - --name 2"
+
+printf 'PK\003\004\024' > "$here/archive"
+run canon "$demo" "$here/archive"
+expect 'a zip archive' 1 '' "refused * at statement 1
+note: $here/archive: a zip archive; unzip -p $here/archive | p21 canon $demo -"
+
+run schema "$here/archive"
+expect 'a zip archive as a schema' 1 '' "schema refused S*
+note: $here/archive: a zip archive; unzip -p $here/archive | p21 schema -"
+
+run check "$demo" "$demo"
+expect 'a schema as a file' 1 '' "refused * at statement 1
+note: $demo: a schema, where a STEP file is wanted"
+
+run check "$here/point" "$demo"
+expect 'schema and file exchanged' 1 '' "schema refused S*
+note: $here/point: a STEP file, where a schema is wanted"
+
+run same "$demo" "$here/point" "$demo"
+expect 'a schema as the second file' 1 '' "second: refused * at statement 1
+note: $demo: a schema, where a STEP file is wanted"
 
 # The large run: 100,000 points.
 file "$(seq 100000 | sed 's/.*/#&=POINT($,1.,1.);/')" > "$here/large"
@@ -223,16 +368,17 @@ run check "$demo"
 expect 'no file to check' 2 '' '*FILE*'
 
 run check "$demo" "$here/none"
-expect 'a file to check that is not there' 3 '' "cannot open $here/none"
+expect 'a file to check that is not there' 3 '' "$(unopened "$here/none")"
 
 run check "$here/none" "$here/absent"
-expect 'neither schema nor file' 3 '' "cannot open $here/none"
+expect 'neither schema nor file' 3 '' "$(unopened "$here/none")"
 
 run check "$here/schema" "$here/none"
-expect 'a file that is not there, and a schema that would be refused' 3 '' "cannot open $here/none"
+expect 'a file that is not there, and a schema that would be refused' 3 '' "$(unopened "$here/none")"
 
 run check "$demo" "$here"
-expect 'a folder to check' 3 '' 'read fault'
+expect 'a folder to check' 3 '' "read fault
+note: $here: a folder"
 
 run canon "$demo" "$here/point"
 expect 'a canonical file' 0 "$(cat "$here/canonical")" ''
@@ -245,10 +391,10 @@ run canon "$demo" "$here/twice"
 expect 'no canonical file' 1 '' 'refused 40 DuplicateName in #1'
 
 run canon "$demo" "$here/none"
-expect 'a canonical file of none' 3 '' "cannot open $here/none"
+expect 'a canonical file of none' 3 '' "$(unopened "$here/none")"
 
 run canon "$here/none" "$here/point"
-expect 'a canonical file by no schema' 3 '' "cannot open $here/none"
+expect 'a canonical file by no schema' 3 '' "$(unopened "$here/none")"
 
 run show "$demo" "$here/point" --name 2
 expect 'an instance' 0 '#2=POINT($,1.,1.);' ''
@@ -277,10 +423,10 @@ run show "$demo" "$here/point"
 expect 'no number' 2 '' '*--name*'
 
 run show "$demo" "$here/none" --name 2
-expect 'an instance of none' 3 '' "cannot open $here/none"
+expect 'an instance of none' 3 '' "$(unopened "$here/none")"
 
 run show "$here/none" "$here/point" --name 2
-expect 'an instance by no schema' 3 '' "cannot open $here/none"
+expect 'an instance by no schema' 3 '' "$(unopened "$here/none")"
 
 run same "$demo" "$here/point" "$here/canonical"
 expect 'the same' 0 'same' ''
@@ -301,13 +447,13 @@ run same "$demo" "$here/point"
 expect 'one file alone' 2 '' '*B*'
 
 run same "$demo" "$here/point" "$here/none"
-expect 'a second file that is not there' 3 '' "cannot open $here/none"
+expect 'a second file that is not there' 3 '' "$(unopened "$here/none")"
 
 run same "$demo" "$here/none" "$here/absent"
-expect 'a first file that is not there' 3 '' "cannot open $here/none"
+expect 'a first file that is not there' 3 '' "$(unopened "$here/none")"
 
 run same "$here/none" "$here/point" "$here/absent"
-expect 'two files by no schema' 3 '' "cannot open $here/none"
+expect 'two files by no schema' 3 '' "$(unopened "$here/none")"
 
 run --version
 expect 'the version' 0 'p21 0.1.0 (canonical form 1)' ''

@@ -206,10 +206,15 @@ def find_program() -> str:
     return next((str(path) for path in installed if path.is_file()), shutil.which("p21") or "p21")
 
 
+# How a line of the program begins that stands behind its answer, and says why a file can't be read or what it is.
+NOTE = "note: "
+
+
 def line_of(error: bytes, status: int) -> str:
-    """What the program wrote to its second stream, without the last line end, and what ended it, such as a signal, or the status where
-    it isn't one of its own, or where nothing else is said."""
-    line = error.decode("utf-8", "surrogateescape")
+    """What the program wrote to its second stream, without its notes and the last line end, and what ended it, such as a signal, or the
+    status where it isn't one of its own, or where nothing else is said."""
+    lines = error.decode("utf-8", "surrogateescape").split("\n")
+    line = "\n".join(line for line in lines if not line.startswith(NOTE))
     line = line[:-1] if line.endswith("\n") else line
     if status < 0:
         return f"{line} ended by {system.ended_by(status)}".lstrip()

@@ -258,7 +258,7 @@ SCHEMAS: Dict[int, Words] = {
     6: Words(
         "LeftOut",
         "A form of EXPRESS that is not read.",
-        "This is EXPRESS that `p21` leaves out: USE, REFERENCE, EXTENSIBLE, BASED_ON, GENERIC, GENERIC_ENTITY, AGGREGATE, RENAMED, a SELECT without a list, bounds and widths that are computed, a TYPE that is just the name of a SELECT.",
+        "Where it is a published listing, `p21-adapt` makes a copy that fits: `p21-adapt LISTING -o COPY`. This is EXPRESS that `p21` leaves out: USE, REFERENCE, EXTENSIBLE, BASED_ON, GENERIC, GENERIC_ENTITY, AGGREGATE, RENAMED, a SELECT without a list, bounds and widths that are computed, a TYPE that is just the name of a SELECT.",
     ),
     7: Words(
         "Bounds",
@@ -273,6 +273,6 @@ SCHEMAS: Dict[int, Words] = {
     9: Words(
         "TooLarge",
         "The schema is over a limit.",
-        "The text has over 16,777,216 bytes, the schema over 65,535 entities and types together, or a type more than 32 aggregates in one another.",
+        "The text has over 16,777,216 bytes, the schema over 65,535 entities and types together, or a type more than 32 aggregates in one another. `p21-adapt` says of a listing what else doesn't fit: `p21-adapt LISTING -o COPY`.",
     ),
 }

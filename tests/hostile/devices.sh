@@ -31,13 +31,13 @@ printf '%s\n' "$head" '#2=POINT($,1.,2.);' "$end" > other
 printf '%s' '+012.500E+03' > real
 printf '%s' '1 2' > two
 
-# expect NAME STATUS OUTPUT ERROR: what the last run left in `status`, `output` and `error`.
+# expect NAME STATUS OUTPUT ERROR: what the last run left in `status`, `output` and `error`, but for the reasons behind a fault.
 expect() {
     count=$((count + 1))
     wrong=
     [ "$status" -eq "$2" ] || wrong="status $status, not $2"
     [ "$(cat output)" = "$3" ] || wrong="$wrong; output: $(head -c 200 output)"
-    [ "$(cat error)" = "$4" ] || wrong="$wrong; error: $(head -c 200 error)"
+    [ "$(grep -v '^note: ' error)" = "$4" ] || wrong="$wrong; error: $(head -c 200 error)"
     if [ -n "$wrong" ]; then
         echo "$1: $wrong"
         failed=$((failed + 1))
@@ -95,6 +95,23 @@ within 20 schema /dev/zero
 expect 'bytes without end as a schema' 1 '' 'schema refused S9 TooLarge'
 within 20 param /dev/zero
 expect 'bytes without end as a parameter' 1 '' 'refused 23 FileTooLong'
+
+# Several files.
+run check demo.exp point . /dev/null /proc/self/mem none point
+expect 'several files, of which most cannot be read' 3 "point: $accepted
+point: $accepted" '.: read fault
+.: note: a folder
+/dev/null: refused 24 EndsEarly at statement 1
+/proc/self/mem: read fault
+/proc/self/mem: note: Input/output error (os error 5)
+none: cannot open none
+none: note: no such file'
+mkfifo names
+printf '%s\n' point other > names &
+run check demo.exp @names
+expect 'a list from a FIFO' 0 "point: $accepted
+other: $accepted" ''
+rm names
 
 # One file by two names.
 ln point point.linked

@@ -83,6 +83,11 @@ READING = [
 ]
 
 
+def without_notes(answer):
+    """An answer without the lines behind it that say why a file can't be read or what it is."""
+    return answer._replace(error=answer.error.partition(b"note: ")[0])
+
+
 def failing_reads(rigged, tally):
     """Reads of few bytes, of which each fails in turn."""
     for arguments, _ in READING:
@@ -90,10 +95,60 @@ def failing_reads(rigged, tally):
         for at in range(1, counts.reads + 1):
             for error in ERRORS:
                 found = rigged.failing(arguments, READ_MOST=FEW, READ_FAILS=at, ERROR=error)[0]
-                tally.check(f"{' '.join(arguments)}, read {at} fails with {error}", found, READ_FAULT)
+                # The system's reason is no matter of this test.
+                tally.check(f"{' '.join(arguments)}, read {at} fails with {error}", without_notes(found), READ_FAULT)
         behind = rigged.failing(arguments, READ_MOST=FEW, READ_FAILS=counts.reads + 1)[0]
         tally.check(f"{' '.join(arguments)}, a read behind the last", behind, plain)
     tally.part("each read fails")
+
+
+# Files that are checked by one run, and the line that is told of each: to standard output, or to standard error.
+SEVERAL = [
+    ("point", "accepted, instances 1, canonical bytes 171", ""),
+    ("twice", "", "refused 40 DuplicateName in #1"),
+    ("converted", f"accepted, instances {CONVERTED_CANONICAL.count(chr(10) + '#')}, canonical bytes {len(CONVERTED_CANONICAL)}", ""),
+]
+
+
+def several(rigged, failing=None):
+    """The answer of a check of several files, where one of them can't be read."""
+    told = [(rigged.path(name), output, error) for name, output, error in SEVERAL]
+    if failing is not None:
+        told[failing] = (told[failing][0], "", "read fault")
+    output = "".join(f"{name}: {line}\n" for name, line, _ in told if line)
+    error = "".join(f"{name}: {line}\n" for name, _, line in told if line)
+    return Answer(1 if failing is None else 3, output.encode(), error.encode())
+
+
+def failing_reads_of_several(rigged, tally):
+    """Each read of a check of several files fails: of the schema nothing is told but that, and of the other files what always is."""
+    arguments = ["check", "demo.exp", *(name for name, _, _ in SEVERAL)]
+    whole, counts = rigged.failing(arguments, READ_MOST=FEW)
+    tally.check("several files", whole, several(rigged))
+    of_schema = rigged.failing(["schema", "demo.exp"], READ_MOST=FEW)[1].reads
+    at = of_schema
+    for index, (name, _, _) in enumerate(SEVERAL):
+        at += rigged.failing(["check", "demo.exp", name], READ_MOST=FEW)[1].reads - of_schema
+        found = rigged.failing(arguments, READ_MOST=FEW, READ_FAILS=at)[0]
+        told = b"".join(line for line in found.error.splitlines(True) if b": note: " not in line)
+        tally.check(f"several files, the last read of {name} fails", found._replace(error=told), several(rigged, index))
+    tally.check("several files, all reads", at, counts.reads)
+    found = rigged.failing(arguments, READ_MOST=FEW, READ_FAILS=of_schema)[0]
+    tally.check("several files, the last read of the schema fails", without_notes(found), READ_FAULT)
+    tally.part("reads of several files fail")
+
+
+def failing_writes_of_several(rigged, tally):
+    """A write of a check of several files fails: the run ends there, and what was told before stands."""
+    arguments = ["check", "demo.exp", "point", "converted"]
+    answer = rigged.answer(arguments).output
+    first = answer.index(b"\n") + 1
+    for taken in range(len(answer)):
+        name = rigged.path("point" if taken < first else "converted").encode()
+        wanted = Answer(3, answer[:taken], name + b": write fault\n")
+        found = rigged.failing(arguments, WRITE_MOST=1, WRITE_FAILS=taken + 1)[0]
+        tally.check(f"several files, {taken} bytes are taken", found, wanted)
+    tally.part("writers of what is told of several files that fail")
 
 
 def ending_reads(rigged, tally):
@@ -197,7 +252,7 @@ def failing_long_lines(rigged, tally):
 def failing_complaints(rigged, tally):
     """The line of a refusal can't be written: status 3, and nothing on the other stream."""
     for arguments in COMPLAINING + MISTAKEN:
-        line = rigged.answer(arguments).error
+        line = without_notes(rigged.answer(arguments)).error
         behind = b"write fault\n" if arguments in MISTAKEN else b""
         for taken in range(len(line)):
             for failure in ({}, {"EMPTY": 1}):
@@ -214,8 +269,10 @@ def main():
         cut_off(rigged, tally)
         cut_in_pieces(rigged, tally)
         failing_reads(rigged, tally)
+        failing_reads_of_several(rigged, tally)
         ending_reads(rigged, tally)
         failing_writes(rigged, tally)
+        failing_writes_of_several(rigged, tally)
         failing_long_lines(rigged, tally)
         failing_complaints(rigged, tally)
     tally.end()

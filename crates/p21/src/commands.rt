@@ -3,8 +3,11 @@ ghost use Rattle.std.specs.Prelude.{Some, IfErr, IfOk};
 ghost use Rattle.clap.specs.Words.{subcommand_name_of};
 ghost use Rattle.p21.specs.Statuses.{IsOfAnswer, IsOfCommand, IsUnopened, NamesFiles};
 
+use crate::input::{Inputs, Kept, Source};
+use crate::notes::{Given, Wanted, note_file, note_files, note_given, note_listing};
 use crate::progress::ProgressReader;
 use crate::refusals::SECTIONS;
+use crate::several::check_several;
 use clap::ArgMatches;
 use p21_command_line::LIST;
 use p21_commands::{
@@ -13,8 +16,7 @@ use p21_commands::{
 };
 use p21_stream_io::Watched;
 use p21_values::Name;
-use std::fs::{self, File};
-use std::io::{self, IsTerminal};
+use std::io::{self, IsTerminal, Read, Write};
 use std::rt::Stderr;
 
 /// Why a command isn't run.
@@ -63,13 +65,23 @@ fn run_param<'a>(rt: &HostRuntime, found: &ArgMatches<'a>) -> Result<u8, Stopped
     ensures ran { IfOk result IsOfCommand }
     ensures unopened { IfErr result IsUnopened }
 {
-    let mut file = Watched::new(open(rt, found, "FILE")?);
-    Ok(param_command(
+    let path = given(found, "FILE");
+    let mut file = Watched::new(Kept::new(Inputs::new().open(rt, path)?));
+    let status = param_command(
         rt.alloc(),
         &mut file,
         &mut Watched::new(rt.stdout()),
         &mut Watched::new(rt.stderr()),
-    ))
+    );
+    let read = file.into_inner();
+    note_given(
+        rt,
+        status,
+        "param",
+        &[Given::new(path, Wanted::Parameter, &read)],
+        "",
+    );
+    Ok(status)
 }
 
 /// `schema S`.
@@ -77,43 +89,78 @@ fn run_schema<'a>(rt: &HostRuntime, found: &ArgMatches<'a>) -> Result<u8, Stoppe
     ensures ran { IfOk result IsOfCommand }
     ensures unopened { IfErr result IsUnopened }
 {
-    let mut schema = Watched::new(open(rt, found, "S")?);
-    Ok(schema_command(
+    let path = given(found, "S");
+    let mut schema = Watched::new(Kept::new(Inputs::new().open(rt, path)?));
+    let mut faults = Watched::new(Kept::new(rt.stderr()));
+    let status = schema_command(
         rt.alloc(),
         &mut schema,
         &mut Watched::new(rt.stdout()),
-        &mut Watched::new(rt.stderr()),
-    ))
+        &mut faults,
+    );
+    let read = schema.into_inner();
+    note_given(
+        rt,
+        status,
+        "schema",
+        &[Given::new(path, Wanted::Schema, &read)],
+        "",
+    );
+    note_listing(rt, path, faults.into_inner().front());
+    Ok(status)
 }
 
-/// `check S FILE [--all] [--most N] [--progress]`.
+/// `check S FILE.. [--all] [--most N] [--progress]`.
 fn run_check<'a>(rt: &HostRuntime, found: &ArgMatches<'a>) -> Result<u8, Stopped<'a>>
     ensures ran { IfOk result IsOfCommand }
     ensures unopened { IfErr result IsUnopened }
 {
-    let mut schema = Watched::new(open(rt, found, "S")?);
-    let mut file = Watched::new(open_with_progress(rt, found, "FILE")?);
-    if let Some(most) = most_given(found) {
-        return Ok(check_all_command(
-            rt.alloc(),
-            &mut schema,
-            &mut file,
-            most,
-            &mut Watched::new(rt.stdout()),
-            &mut Watched::new(rt.stderr()),
-        ));
+    match found.get_strs("FILE") {
+        Some([path]) if !path.starts_with('@') => check_one(rt, found, path),
+        Some(words) => check_several(rt, found, words),
+        None => check_one(rt, found, ""),
     }
-    Ok(check_command(
-        rt.alloc(),
-        &mut schema,
-        &mut file,
-        &mut Watched::new(rt.stdout()),
-        &mut Watched::new(rt.stderr()),
-    ))
+}
+
+/// `check` of one file, without its name in front of the lines.
+fn check_one<'a>(rt: &HostRuntime, found: &ArgMatches<'a>, path: &'a str) -> Result<u8, Stopped<'a>>
+    ensures ran { IfOk result IsOfCommand }
+    ensures unopened { IfErr result IsUnopened }
+{
+    let mut inputs = Inputs::new();
+    let schema_path = given(found, "S");
+    let mut schema = Watched::new(Kept::new(inputs.open(rt, schema_path)?));
+    let mut file = Watched::new(with_progress(rt, found, path, inputs.open(rt, path)?));
+    let mut faults = Watched::new(Kept::new(rt.stderr()));
+    let status = run_check_over(rt, most_given(found), &mut schema, &mut file, &mut faults);
+    let read_schema = schema.into_inner();
+    let read = file.into_inner().into_inner();
+    let schema = Given::new(schema_path, Wanted::Schema, &read_schema);
+    let file = Given::new(path, Wanted::Exchange, &read);
+    note_file(rt, status, "check", schema, file, "");
+    note_listing(rt, schema_path, faults.into_inner().front());
+    Ok(status)
+}
+
+/// Checks a file, and lists its refusals where `most` says how many.
+fn run_check_over<S: Read, R: Read, F: Write>(
+    rt: &HostRuntime,
+    most: Option<u64>,
+    schema: &mut Watched<S>,
+    file: &mut Watched<R>,
+    faults: &mut Watched<F>,
+) -> u8
+    ensures { IsOfCommand result }
+{
+    let mut output = Watched::new(rt.stdout());
+    match most {
+        Some(most) => check_all_command(rt.alloc(), schema, file, most, &mut output, faults),
+        None => check_command(rt.alloc(), schema, file, &mut output, faults),
+    }
 }
 
 /// How many refusals are listed at most, where `--all` or `--most` asks for them.
-fn most_given(found: &ArgMatches<'_>) -> Option<u64> {
+pub fn most_given(found: &ArgMatches<'_>) -> Option<u64> {
     match found.get_one::<u64>("most") {
         Some(most) => Some(most),
         None if found.get_flag("all") => Some(u64::MAX),
@@ -126,16 +173,20 @@ fn run_canon<'a>(rt: &HostRuntime, found: &ArgMatches<'a>) -> Result<u8, Stopped
     ensures ran { IfOk result IsOfCommand }
     ensures unopened { IfErr result IsUnopened }
 {
-    let mut schema = Watched::new(open(rt, found, "S")?);
-    let mut file = Watched::new(open_with_progress(rt, found, "FILE")?);
+    let mut inputs = Inputs::new();
+    let (schema_path, path) = (given(found, "S"), given(found, "FILE"));
+    let mut schema = Watched::new(Kept::new(inputs.open(rt, schema_path)?));
+    let mut file = Watched::new(with_progress(rt, found, path, inputs.open(rt, path)?));
     let mut output = Watched::new(rt.stdout());
-    Ok(canon_command(
-        rt.alloc(),
-        &mut schema,
-        &mut file,
-        &mut output,
-        &mut Watched::new(rt.stderr()),
-    ))
+    let mut faults = Watched::new(Kept::new(rt.stderr()));
+    let status = canon_command(rt.alloc(), &mut schema, &mut file, &mut output, &mut faults);
+    let read_schema = schema.into_inner();
+    let read = file.into_inner().into_inner();
+    let schema = Given::new(schema_path, Wanted::Schema, &read_schema);
+    let file = Given::new(path, Wanted::Exchange, &read);
+    note_file(rt, status, "canon", schema, file, "");
+    note_listing(rt, schema_path, faults.into_inner().front());
+    Ok(status)
 }
 
 /// `show S FILE --name N`.
@@ -143,16 +194,27 @@ fn run_show<'a>(rt: &HostRuntime, found: &ArgMatches<'a>) -> Result<u8, Stopped<
     ensures { IfOk result IsOfCommand }
 {
     let number = name_given(found)?;
-    let mut schema = Watched::new(open(rt, found, "S")?);
-    let mut file = Watched::new(open(rt, found, "FILE")?);
-    Ok(show_command(
+    let mut inputs = Inputs::new();
+    let (schema_path, path) = (given(found, "S"), given(found, "FILE"));
+    let mut schema = Watched::new(Kept::new(inputs.open(rt, schema_path)?));
+    let mut file = Watched::new(Kept::new(inputs.open(rt, path)?));
+    let mut output = Watched::new(rt.stdout());
+    let mut faults = Watched::new(Kept::new(rt.stderr()));
+    let status = show_command(
         rt.alloc(),
         &mut schema,
         &mut file,
         number,
-        &mut Watched::new(rt.stdout()),
-        &mut Watched::new(rt.stderr()),
-    ))
+        &mut output,
+        &mut faults,
+    );
+    let read_schema = schema.into_inner();
+    let read = file.into_inner();
+    let schema = Given::new(schema_path, Wanted::Schema, &read_schema);
+    let file = Given::new(path, Wanted::Exchange, &read);
+    note_file(rt, status, "show", schema, file, given(found, "name"));
+    note_listing(rt, schema_path, faults.into_inner().front());
+    Ok(status)
 }
 
 /// The name that `--name` gives. `clap` reads numbers with a sign too; a name has digits alone.
@@ -169,17 +231,29 @@ fn run_same<'a>(rt: &HostRuntime, found: &ArgMatches<'a>) -> Result<u8, Stopped<
     ensures ran { IfOk result IsOfCommand }
     ensures unopened { IfErr result IsUnopened }
 {
-    let mut schema = Watched::new(open(rt, found, "S")?);
-    let mut first = Watched::new(open_with_progress(rt, found, "A")?);
-    let mut second = Watched::new(open_with_progress(rt, found, "B")?);
-    Ok(same_command(
+    let mut inputs = Inputs::new();
+    let (schema_path, a, b) = (given(found, "S"), given(found, "A"), given(found, "B"));
+    let mut schema = Watched::new(Kept::new(inputs.open(rt, schema_path)?));
+    let mut first = Watched::new(with_progress(rt, found, a, inputs.open(rt, a)?));
+    let mut second = Watched::new(with_progress(rt, found, b, inputs.open(rt, b)?));
+    let mut faults = Watched::new(Kept::new(rt.stderr()));
+    let status = same_command(
         rt.alloc(),
         &mut schema,
         &mut first,
         &mut second,
         &mut Watched::new(rt.stdout()),
-        &mut Watched::new(rt.stderr()),
-    ))
+        &mut faults,
+    );
+    let read_schema = schema.into_inner();
+    let read_first = first.into_inner().into_inner();
+    let read_second = second.into_inner().into_inner();
+    let schema = Given::new(schema_path, Wanted::Schema, &read_schema);
+    let first = Given::new(a, Wanted::Exchange, &read_first);
+    let second = Given::new(b, Wanted::Exchange, &read_second);
+    note_files(rt, status, "same", schema, first, second);
+    note_listing(rt, schema_path, faults.into_inner().front());
+    Ok(status)
 }
 
 /// `faults [N]`.
@@ -229,28 +303,18 @@ fn is_titled(section: &str, word: &str) -> bool {
     number == word || name == word
 }
 
-/// Opens the file that an argument names.
-fn open<'a>(rt: &HostRuntime, found: &ArgMatches<'a>, argument: &str) -> Result<File, Stopped<'a>>
-    ensures { IfErr result IsUnopened }
-{
-    let path = found.get_str(argument).unwrap_or_default();
-    match fs::open(rt, path) {
-        Ok(file) => Ok(file),
-        Err(error) => Err(Stopped::Unopened(path, error)),
-    }
+/// The word that an argument has.
+pub fn given<'a>(found: &ArgMatches<'a>, argument: &str) -> &'a str {
+    found.get_str(argument).unwrap_or_default()
 }
 
-/// Opens the file that an argument names, for a command that may have to say how much of it is read: with `--progress`, on a
-/// terminal.
-fn open_with_progress<'a>(
+/// A file, for a command that may have to say how much of it is read: with `--progress`, on a terminal.
+pub fn with_progress<'p>(
     rt: &HostRuntime,
-    found: &ArgMatches<'a>,
-    argument: &str,
-) -> Result<ProgressReader<'a, File, Stderr>, Stopped<'a>>
-    ensures { IfErr result IsUnopened }
-{
-    let file = open(rt, found, argument)?;
-    let path = found.get_str(argument).unwrap_or_default();
+    found: &ArgMatches<'_>,
+    path: &'p str,
+    file: Source,
+) -> ProgressReader<'p, Kept<Source>, Stderr> {
     let lines = (found.get_flag("progress") && rt.stderr().is_terminal()).then(|| rt.stderr());
-    Ok(ProgressReader::new(file, path, lines))
+    ProgressReader::new(Kept::new(file), path, lines)
 }

@@ -9,12 +9,17 @@ ghost use Rattle.p21.specs.Statuses.{IsOfMistake, IsOfRun, IsOfWords, IsStatus};
 ghost use Rattle.p21_commands.specs.Status.{done, usage, failed};
 
 mod commands;
+mod input;
+mod named;
+mod notes;
 mod progress;
 mod refusals;
+mod several;
 mod shown;
 
 use clap::error::{Error, ErrorKind};
 use commands::{Stopped, run_command};
+use notes::note_unopened;
 use p21_command_line::command_line;
 use p21_commands::{CommandFault, DONE, FAILED, USAGE, report};
 use p21_stream_io::Watched;
@@ -178,8 +183,10 @@ fn explain_open(rt: &HostRuntime, path: &str, error: &io::Error) -> u8
     if error.kind() == io::ErrorKind::OutOfMemory {
         return out_of_memory(rt);
     }
-    let path = Shown(path);
+    let shown = Shown(path);
     // The status is the same where the line can't be written.
-    let _ = eprintln!(rt; "cannot open {path}");
+    if eprintln!(rt; "cannot open {shown}").is_ok() {
+        note_unopened(rt, path, *error, false);
+    }
     FAILED
 }

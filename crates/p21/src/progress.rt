@@ -33,6 +33,16 @@ impl<'a, R, W> ProgressReader<'a, R, W> {
     }
 }
 
+impl<'a, R, W: Drop> ProgressReader<'a, R, W> {
+    /// The reader, as its calls left it.
+    pub fn into_inner(self) -> R
+        ensures { result ≡ self.entry.inner }
+    {
+        let ProgressReader { inner, .. } = self;
+        inner
+    }
+}
+
 impl<'a, R, W: Write> ProgressReader<'a, R, W> {
     /// Counts the bytes of one read.
     fn count(&mut self, bytes: u64)

@@ -530,9 +530,10 @@ however many steps.
 
 `schema refused S6 LeftOut`
 
-This is EXPRESS that `p21` leaves out: USE, REFERENCE, EXTENSIBLE, BASED_ON, GENERIC,
-GENERIC_ENTITY, AGGREGATE, RENAMED, a SELECT without a list, bounds and widths that are
-computed, a TYPE that is just the name of a SELECT.
+Where it is a published listing, `p21-adapt` makes a copy that fits: `p21-adapt LISTING
+-o COPY`. This is EXPRESS that `p21` leaves out: USE, REFERENCE, EXTENSIBLE, BASED_ON,
+GENERIC, GENERIC_ENTITY, AGGREGATE, RENAMED, a SELECT without a list, bounds and widths
+that are computed, a TYPE that is just the name of a SELECT.
 ### S7 Bounds
 
     SCHEMA s;
@@ -559,5 +560,6 @@ it inherits, or isn't a supertype of this entity.
 ### S9 TooLarge
 
 The text has over 16,777,216 bytes, the schema over 65,535 entities and types together,
-or a type more than 32 aggregates in one another.
+or a type more than 32 aggregates in one another. `p21-adapt` says of a listing what
+else doesn't fit: `p21-adapt LISTING -o COPY`.
 "#;

@@ -14,6 +14,51 @@ impl fmt::Display for Shown<'_> {
     }
 }
 
+/// A path as a word of a shell: as it stands, between apostrophes, or where a terminal doesn't show it between `$'` and `'`.
+#[derive(Clone, Copy, Drop)]
+pub(crate) struct Quoted<'a>(pub(crate) &'a str);
+
+impl fmt::Display for Quoted<'_> {
+    fn fmt<W: fmt::Write>(&self, f: &mut fmt::Formatter<W>) -> fmt::Result {
+        if !self.0.is_empty() && self.0.bytes().all(is_plain) {
+            return f.write_str(self.0);
+        }
+        if self.0.chars().all(|letter| !is_numbered(letter as u32)) {
+            return write_between(self.0, "'", "'\\''", "\\", f);
+        }
+        write_between(self.0, "$'", "\\'", "\\\\", f)
+    }
+}
+
+/// Writes a text behind such a sign and in front of an apostrophe, its own apostrophes and backslashes as these.
+fn write_between<W: fmt::Write>(
+    text: &str,
+    sign: &str,
+    apostrophe: &str,
+    backslash: &str,
+    f: &mut fmt::Formatter<W>,
+) -> fmt::Result {
+    f.write_str(sign)?;
+    for letter in text.chars() {
+        match letter {
+            '\'' => f.write_str(apostrophe)?,
+            '\\' => f.write_str(backslash)?,
+            _ => write_letter(letter, f)?,
+        }
+    }
+    f.write_str("'")
+}
+
+/// Whether a shell reads the byte as itself.
+fn is_plain(byte: u8) -> bool {
+    byte.is_ascii_alphanumeric() || b"%+,-./:=@_".contains(&byte)
+}
+
+/// Whether a character is written by its number.
+fn is_numbered(code: u32) -> bool {
+    is_control(code) || has_effect(code)
+}
+
 /// A character, or its number where it isn't shown.
 fn write_letter<W: fmt::Write>(letter: char, f: &mut fmt::Formatter<W>) -> fmt::Result {
     let code = letter as u32;

@@ -1,12 +1,17 @@
 -- What the command line may say, in the words of clap.
 use Rattle.std.specs.Prelude.{Some, true, codes}
+use Rattle.clap.specs.Lexer.{usize_max}
 use Rattle.clap.specs.Words.{App, Rule, Text, new_app, new_rule, with_rule, with_subcommand}
-use Rattle.clap.specs.declared.builder.action.ArgAction.TheVariants.{Set, SetTrue}
+use Rattle.clap.specs.declared.builder.action.ArgAction.TheVariants.{Append, Set, SetTrue}
 use Rattle.clap.specs.declared.builder.value_parser.ValueParser.TheVariants.{Unsigned}
 
 -- what has to be given: one word
 abbrev pub given_rule : Text → Rule
 given_rule id = record (new_rule id) { action = Some Set; required = true }
+
+-- what has to be given: words, one at least
+abbrev pub files_rule : Rule
+files_rule = record (given_rule (codes "FILE")) { action = Some Append; range = Some (record { start_inclusive = 1; end_inclusive = usize_max }) }
 
 -- `--name N`, with a whole number of 64 bits
 abbrev pub name_rule : Rule
@@ -49,9 +54,9 @@ schema_app = with_rule (new_app (codes "schema")) (given_rule (codes "S"))
 abbrev pub file_app : Text → App
 file_app name = with_rule (with_rule (new_app name) (given_rule (codes "S"))) (given_rule (codes "FILE"))
 
--- `check S FILE [--all] [--most N] [--progress]`
+-- `check S FILE.. [--all] [--most N] [--progress]`
 abbrev pub check_app : App
-check_app = with_rule (with_rule (with_rule (file_app (codes "check")) all_rule) most_rule) progress_rule
+check_app = with_rule (with_rule (with_rule (with_rule (with_rule (new_app (codes "check")) (given_rule (codes "S"))) files_rule) all_rule) most_rule) progress_rule
 
 -- `canon S FILE [--progress]`
 abbrev pub canon_app : App

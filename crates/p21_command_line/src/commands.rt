@@ -2,7 +2,7 @@
 ghost use Rattle.std.specs.Prelude.{◌≡◌, IfOk, codes, false};
 ghost use Rattle.clap.specs.Words.{app_of, rule_of};
 ghost use Rattle.clap.specs.declared.builder.command.Command.TheViews.{out-Command as fields_of};
-ghost use Rattle.p21_command_line.specs.CommandLine.{all_rule, app_without_commands, canon_app, check_app, faults_app, given_rule, most_rule, name_rule, optional_rule, param_app, progress_rule};
+ghost use Rattle.p21_command_line.specs.CommandLine.{all_rule, app_without_commands, canon_app, check_app, faults_app, files_rule, given_rule, most_rule, name_rule, optional_rule, param_app, progress_rule};
 ghost use Rattle.p21_command_line.specs.CommandLine.{program_app, same_app, schema_app, show_app};
 
 use crate::{help, refusals};
@@ -62,16 +62,16 @@ fn schema<'a>(alloc: Global) -> Result<Command<'a>, AllocError>
         .arg(schema_path(alloc))
 }
 
-/// `check S FILE [--all] [--most N] [--progress]`.
+/// `check S FILE.. [--all] [--most N] [--progress]`.
 fn check<'a>(alloc: Global) -> Result<Command<'a>, AllocError>
     ensures app { IfOk result (λ command. app_of command ≡ check_app) }
     ensures local { IfOk result (λ command. (fields_of command).has_globals ≡ false) }
 {
     Command::new(alloc, "check")
-        .about("Checks a file against a schema")
+        .about("Checks files against a schema")
         .after_help(help::CHECK)
         .arg(schema_path(alloc))?
-        .arg(file_path(alloc))?
+        .arg(file_paths(alloc))?
         .arg(all(alloc))?
         .arg(most(alloc))?
         .arg(progress(alloc))
@@ -146,6 +146,20 @@ fn file_path<'a>(alloc: Global) -> Arg<'a>
     ensures local { result.global ≡ false }
 {
     given(alloc, "FILE", "Holds the exchange structure")
+}
+
+/// The paths of files of a schema.
+fn file_paths<'a>(alloc: Global) -> Arg<'a>
+    ensures rule { rule_of result ≡ files_rule }
+    ensures local { result.global ≡ false }
+{
+    given(
+        alloc,
+        "FILE",
+        "Holds the exchange structure; @LIST stands for the files of a text with a path a line",
+    )
+    .num_args(1..)
+    .action(ArgAction::Append)
 }
 
 /// `--name N`.

@@ -10,7 +10,9 @@ Statuses: 0 the answer; 1 refused, different or not found; 2 the command line ha
 mistake; 3 memory ran out, or a file could not be opened, read or written.
 
 p21 COMMAND --help says more on each command, and which slips are common with it;
-p21 faults lists the refusals. A path /dev/stdin reads from a pipe.";
+p21 faults lists the refusals. The path - is standard input, once in a command line.
+Lines behind a fault that begin with note: say why a file could not be read, or what it
+is where another one was wanted.";
 
 /// What stands below the help of `param`.
 pub const PARAM: &str =
@@ -23,7 +25,7 @@ open, read or write.
 
 Slips:
   - FILE is a path and not the parameter itself: p21 param 1.50 says cannot open 1.50.
-  - From a pipe: printf %s 1.50 | p21 param /dev/stdin
+  - From a pipe: printf %s 1.50 | p21 param -
   - A string has its apostrophes in the file too: ABC without them is refused as 12.
 
 Example, where param.txt holds +012.500E+03:
@@ -43,7 +45,8 @@ Slips:
   - schema refused S2 Syntax: S is a file of the model and not its schema, or a listing
     of several schemas.
   - schema refused S1 Token: the text begins with a byte order mark, say.
-  - From a pipe: unzip -p listing.zip | p21 schema /dev/stdin
+  - schema refused S6 or S9: p21-adapt makes a copy of a listing that fits.
+  - From a pipe: unzip -p listing.zip | p21 schema -
 
 Example, where point.exp holds
 SCHEMA s; ENTITY point; x : REAL; y : REAL; END_ENTITY; END_SCHEMA;
@@ -63,6 +66,9 @@ refusal ends the list, as one of bytes or of the header:
     refused 45 Count in #3
     refused 56 Dangling in #9
     refusals 2
+With several files, or @LIST for the files that a text names, a path a line, each line has
+the name of its file in front. The schema is read once, and a file that is refused or can't
+be read doesn't end the run; the status is the highest.
 Statuses: 0 accepted; 1 refused; 2 a wrong command line; 3 out of memory, cannot open,
 read or write.
 
@@ -71,11 +77,16 @@ Slips:
   - refused 20 Unexpected at statement 1: FILE is a schema too.
   - refusals 3, the rest was not read: the last refusal of the list is to be mended first.
   - refused 31 SchemaName: the file names another schema than S declares.
-  - From a pipe: gunzip -c part.step.gz | p21 check S /dev/stdin
+  - From a pipe: gunzip -c part.step.gz | p21 check S -
+  - Many files: find . -name '*.step' | p21 check S @-
+  - A file whose name begins with @, or is -, has ./ in front.
 
 Example:
     $ p21 check product.exp product.step
-    accepted, instances 128, canonical bytes 4872";
+    accepted, instances 128, canonical bytes 4872
+    $ p21 check product.exp product.step changed.step
+    product.step: accepted, instances 128, canonical bytes 4872
+    changed.step: accepted, instances 128, canonical bytes 4873";
 
 /// What stands below the help of `canon`.
 pub const CANON: &str = "Two files mean the same exactly if their canonical files are equal.
@@ -91,7 +102,7 @@ read or write.
 Slips:
   - schema refused S2 Syntax: schema and file are exchanged; the schema stands first.
   - refused 20 Unexpected at statement 1: FILE is a schema too.
-  - From a pipe: gunzip -c part.step.gz | p21 canon S /dev/stdin
+  - From a pipe: gunzip -c part.step.gz | p21 canon S -
   - Into a pipe: p21 canon S FILE | sha256sum prints the hash of nothing where FILE is
     refused, with status 0; behind set -o pipefail the status is 1.
 
@@ -110,7 +121,7 @@ Slips:
   - schema refused S2 Syntax: schema and file are exchanged; the schema stands first.
   - refused 20 Unexpected at statement 1: FILE is a schema too.
   - N has no #: --name 18, and not --name #18, of which a shell drops the #18.
-  - From a pipe: gunzip -c part.step.gz | p21 show S /dev/stdin --name 18
+  - From a pipe: gunzip -c part.step.gz | p21 show S - --name 18
 
 Example:
     $ p21 show product.exp product.step --name 18
@@ -130,7 +141,7 @@ Slips:
     a script looks there: case $(p21 same S A B) in same) .. different) .. *) .. esac
   - schema refused S2 Syntax: schema and file are exchanged; the schema stands first.
   - refused 20 Unexpected at statement 1: A or B is a schema too.
-  - One of the files from a pipe: gunzip -c a.step.gz | p21 same S /dev/stdin b.step
+  - One of the files from a pipe: gunzip -c a.step.gz | p21 same S - b.step
   - Two exports of one model are different where only the time stamps are: these stand in
     the header, which is compared too.
 

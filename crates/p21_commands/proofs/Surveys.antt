@@ -1,19 +1,19 @@
 -- What a survey of a file has to say.
 use Rattle.std.specs.Prelude.{OnErr, OnOk}
 use Rattle.std.specs.Io.KnownBytes.{Appends}
-use Rattle.std.proofs.Common.{◌≡◌, ◌≢◌, ◌⊎◌, ◌||◌, ◌∙◌, ℕ, true, false, List, [], ◌∷◌, Option, Result, Ok, Err, inl, inr, ap, refl, subst, sym, string_bytes}
+use Rattle.std.proofs.Common.{◌≡◌, ◌≢◌, ◌⊎◌, ◌||◌, ◌∙◌, ℕ, true, false, List, [], ◌∷◌, Option, Result, String, Global, Ok, Err, inl, inr, ap, refl, subst, sym, string_bytes}
 use Rattle.std.proofs.KnownBytes.{Keeps-refl}
 use Rattle.std.proofs.lemmas.Bool.{or_cases, or_right}
 use Rattle.std.specs.List.{AllByRecursion as Each}
 use Rattle.std.proofs.lemmas.List.Folds.{list_any-append}
 use Rattle.p21_spec_basics.specs.Limits.{Limits, usual}
 use Rattle.p21_commands.specs.Check.{IsChecked}
-use Rattle.p21_commands.specs.CheckAll.{Answers, EndsListing, FailsToRead, Gets, IsFailedBy, IsListedUnder, IsReadBy, IsSurveyed, Lists, has_read_fault, is_read, listed_text}
+use Rattle.p21_commands.specs.CheckAll.{Answers, EndsListing, FailsToRead, Gets, IsLeftBy, IsListed, IsListedUnder, IsReadBy, IsSurveyed, Lists, has_read_fault, is_read, listed_text}
 use Rattle.p21_commands.specs.Command.{Ends}
 use Rattle.p21_commands.specs.Failures.{Failures, NoneFailed}
-use Rattle.p21_commands.specs.Fault.{Reports, fault_line, fault_status}
+use Rattle.p21_commands.specs.Fault.{Reports, fault_line}
 use Rattle.p21_commands.specs.Files.{IsAcceptedUnder}
-use Rattle.p21_commands.specs.Load.{DeclaresRead}
+use Rattle.p21_commands.specs.Load.{DeclaresRead, IsSchemaRefused, RefusesRead}
 use Rattle.p21_commands.specs.Refusing.{RefusesWith}
 use Rattle.p21_commands.specs.Status.{failed}
 use Rattle.p21_commands.specs.Streams.{OfRead, Stream, Streams, stream_of}
@@ -21,7 +21,7 @@ use Rattle.p21_commands.specs.declared.check_all.Answer.{Answer}
 use Rattle.p21_commands.specs.declared.check_all.Answer.TheVariants.{Accepted, Refused, Unread}
 use Rattle.p21_commands.specs.declared.fault.CommandFault.{CommandFault}
 use Rattle.p21_commands.specs.declared.fault.CommandFault.TheVariants as command
-use Rattle.p21_commands.proofs.Reporting.{ends-unanswered}
+use Rattle.p21_commands.proofs.Reporting.{ends-unanswered, refuses-weaker}
 use Rattle.p21_spec_schema.specs.Schema.{Schema}
 use Rattle.p21_stream.proofs.SurveyEnding.{read-last}
 use Rattle.p21_stream.specs.Survey.{EndsByRead, ListsAtMost, SurveysInput, asked_for}
@@ -88,12 +88,12 @@ module _ (s : Schema) (limits : Limits) (old new : Option (List ℕ)) (found : S
   answers-listed most schema (Refused text) declares are counted lists = (refusals, surveyed-under most schema old new s limits found refusals (string_bytes text) declares are is surveys counted lists.0, lists.1)
   answers-listed most schema (Unread text) declares are counted lists = (refusals, surveyed-under most schema old new s limits found refusals (string_bytes text) declares are is surveys counted lists.0, ends lists.1)
 
-  -- which calls of the readers failed
-  pub listed-read : (schema file : Failures) (answer : Answer) → Lists refusals answer → schema.after ≡ schema.before → (file.after ≡ file.before) ⊎ ((file.after ≡ one_call_more file.before) × EndsByRead found) → (EndsByRead found → file.after ≡ one_call_more file.before) → IsReadBy schema file answer
-  listed-read schema file (Accepted line) lists read calls more = absurd lists
-  listed-read schema file (Refused text) lists read (inl same) more = (read, (same, tt))
-  listed-read schema file (Refused text) lists read (inr failed) more = absurd (none-ends refusals lists.1 (subst EndsByRead is failed.1))
-  listed-read schema file (Unread text) lists read calls more = ((read, tt), inl (more (subst EndsByRead (sym is) (ends lists.1)), tt))
+  -- which calls of the reader failed
+  pub listed-read : (file : Failures) (answer : Answer) → Lists refusals answer → (file.after ≡ file.before) ⊎ ((file.after ≡ one_call_more file.before) × EndsByRead found) → (EndsByRead found → file.after ≡ one_call_more file.before) → IsReadBy file answer
+  listed-read file (Accepted line) lists calls more = absurd lists
+  listed-read file (Refused text) lists (inl same) more = (same, tt)
+  listed-read file (Refused text) lists (inr failed) more = absurd (none-ends refusals lists.1 (subst EndsByRead is failed.1))
+  listed-read file (Unread text) lists calls more = inl (more (subst EndsByRead (sym is) (ends lists.1)), tt)
 
 -- ---- how the command ends
 
@@ -121,30 +121,35 @@ module _ (most : ℕ) (streams : Streams) (status : ℕ) where
     unfailed = λ e. absurd (e is);
   }
 
-memory-gets : (faults : Stream) (fault : CommandFault) (status : ℕ) → fault ≡ command.NoMemory → Reports fault status faults → Gets (fault_line command.NoMemory) faults
-memory-gets faults fault status is (inl r) = inl (subst (λ (f : CommandFault). Appends faults.before faults.behind (fault_line f)) is r.1, r.2)
-memory-gets faults fault status is (inr r) = inr (subst (λ (f : CommandFault). AppendsPartOf faults.before faults.behind (fault_line f)) is r.1, r.2)
+memory-gets : (faults : Stream) (status : ℕ) → Reports command.NoMemory status faults → Gets (fault_line command.NoMemory) faults
+memory-gets faults status (inl r) = inl (r.1, r.2)
+memory-gets faults status (inr r) = inr (r.1, r.2)
 
-memory-fails : (faults : Stream) (fault : CommandFault) (status : ℕ) → fault ≡ command.NoMemory → Reports fault status faults → status ≡ failed
-memory-fails faults fault status is (inl r) = r.0 ∙ ap fault_status is
-memory-fails faults fault status is (inr r) = r.0
+memory-fails : (faults : Stream) (status : ℕ) → Reports command.NoMemory status faults → status ≡ failed
+memory-fails faults status (inl r) = r.0
+memory-fails faults status (inr r) = r.0
 
 -- nothing was written to the output
-module _ (most : ℕ) (schema file faults : Stream) {W : Type 0} (bytes : W → Option (List ℕ)) (writer : Watch W) where
+module _ (most : ℕ) (schema file faults : Stream) {W : Type 0} (bytes : W → Option (List ℕ)) (writer : Watch W) (unfailed : NoneFailed (schema.failures ∷ [])) where
   abbrev pub unwritten_streams : Streams
   unwritten_streams = record { schema = schema; file = file; output = stream_of bytes writer writer; faults = faults }
 
-  pub unanswered-listing : (fault : CommandFault) (status : ℕ) → RefusesWith (IsListedUnder most schema.before file.before file.behind) fault → IsFailedBy schema.failures file.failures fault → Reports fault status faults → EndsListing most unwritten_streams status
-  unanswered-listing fault status is (inl by) r =
+  pub refused-listing : (text : String Global) (status : ℕ) → IsListed most schema.before file.before file.behind (string_bytes text) → NoneFailed (file.failures ∷ []) → Reports (command.Refused text) status faults → EndsListing most unwritten_streams status
+  refused-listing text status is none r =
       listing-ends most unwritten_streams status
-      (ends-unanswered (OfRead IsChecked unwritten_streams) (OfRead (IsListedUnder most) unwritten_streams) (schema.failures ∷ []) bytes writer faults fault status is by.0 r) by.1
-  unanswered-listing fault status is (inr by) r = listing-unread most unwritten_streams status (memory-fails faults fault status by.0 r) (record {
+      (ends-unanswered (OfRead IsChecked unwritten_streams) (OfRead (IsListedUnder most) unwritten_streams) (schema.failures ∷ []) bytes writer faults (command.Refused text) status (inr is) (unfailed, tt) r) none
+
+  pub memory-listing : (status : ℕ) → IsLeftBy file.failures → Reports command.NoMemory status faults → EndsListing most unwritten_streams status
+  memory-listing status (inl none) r =
+      listing-ends most unwritten_streams status
+      (ends-unanswered (OfRead IsChecked unwritten_streams) (OfRead (IsListedUnder most) unwritten_streams) (schema.failures ∷ []) bytes writer faults command.NoMemory status tt (unfailed, tt) r) none
+  memory-listing status (inr one) r = listing-unread most unwritten_streams status (memory-fails faults status r) (record {
     text = fault_line command.NoMemory;
     is_text = inr refl;
-    gets = memory-gets faults fault status by.0 r;
+    gets = memory-gets faults status r;
     unwritten = Keeps-refl (bytes writer.inner);
-    failed = by.2;
-    others = (by.1.0, (refl, tt));
+    failed = one;
+    others = (unfailed.0, (refl, tt));
   })
 
 -- the text of a file of which a read failed
@@ -152,3 +157,7 @@ pub text-gets : (result : Result (Unit {0}) CommandFault) (faults : Stream) (tex
     → OnOk result (Appends faults.before faults.behind bytes) → OnErr result (AppendsPartOf faults.before faults.behind bytes) → OnOk result (faults.failures.after ≡ faults.failures.before) → OnErr result (faults.failures.after ≡ one_call_more faults.failures.before) → Gets text faults
 text-gets (Ok done) faults text bytes is ok part none one = inl (subst (λ (bs : List ℕ). Appends faults.before faults.behind bs) is ok, (none, tt))
 text-gets (Err fault) faults text bytes is ok part none one = inr (subst (λ (bs : List ℕ). AppendsPartOf faults.before faults.behind bs) is part, inl (one, tt))
+
+-- the schema is refused, and the file isn't read
+pub schema-unlisted : (most : ℕ) (schema file : Option (List ℕ)) (fault : CommandFault) → RefusesRead schema fault → RefusesWith (IsListedUnder most schema file file) fault
+schema-unlisted most schema file fault refuses = refuses-weaker (IsSchemaRefused schema) (IsListedUnder most schema file file) (λ line is. inl (is, Keeps-refl file)) fault refuses

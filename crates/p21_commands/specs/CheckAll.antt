@@ -5,7 +5,7 @@ use Rattle.std.specs.List.{list_any}
 use Rattle.p21_spec_basics.specs.Limits.{usual}
 use Rattle.p21_commands.specs.Check.{IsChecked}
 use Rattle.p21_commands.specs.Command.{Fails}
-use Rattle.p21_commands.specs.Failures.{Failures, FailedBy, NoneFailed, OneFailed}
+use Rattle.p21_commands.specs.Failures.{Failures, NoneFailed, OneFailed}
 use Rattle.p21_commands.specs.Fault.{fault_line}
 use Rattle.p21_commands.specs.Load.{DeclaresRead, IsSchemaRefused}
 use Rattle.p21_commands.specs.Refusals.{refusal_line}
@@ -14,7 +14,6 @@ use Rattle.p21_commands.specs.Streams.{OfRead, Stream, Streams}
 use Rattle.p21_commands.specs.Transfer.{Writes}
 use Rattle.p21_commands.specs.declared.check_all.Answer.{Answer}
 use Rattle.p21_commands.specs.declared.check_all.Answer.TheVariants.{Accepted, Refused, Unread}
-use Rattle.p21_commands.specs.declared.fault.CommandFault.{CommandFault}
 use Rattle.p21_commands.specs.declared.fault.CommandFault.TheVariants as command
 use Rattle.p21_spec_schema.specs.Schema.{Schema}
 use Rattle.p21_stream.specs.Survey.{EndsByRead, ListsAtMost, SurveysInput, asked_for}
@@ -117,15 +116,15 @@ Answers most schema file_old file_new (Accepted line) = IsChecked schema file_ol
 Answers most schema file_old file_new (Refused text) = IsListed most schema file_old file_new (string_bytes text)
 Answers most schema file_old file_new (Unread text) = IsUnread most schema file_old file_new (string_bytes text)
 
--- which calls of the readers of a schema and a file failed, by the answer
-abbrev pub IsReadBy : Failures → Failures → Answer → Type 0
-IsReadBy schema file (Accepted line) = NoneFailed (schema ∷ file ∷ [])
-IsReadBy schema file (Refused text) = NoneFailed (schema ∷ file ∷ [])
-IsReadBy schema file (Unread text) = NoneFailed (schema ∷ []) × OneFailed (file ∷ [])
+-- whether a call of the reader of the file failed, by the answer
+abbrev pub IsReadBy : Failures → Answer → Type 0
+IsReadBy file (Accepted line) = NoneFailed (file ∷ [])
+IsReadBy file (Refused text) = NoneFailed (file ∷ [])
+IsReadBy file (Unread text) = OneFailed (file ∷ [])
 
--- the same where there is no answer: memory may run out behind a read of the file that failed
-abbrev pub IsFailedBy : Failures → Failures → CommandFault → Type 0
-IsFailedBy schema file fault = (FailedBy (schema ∷ []) [] fault × NoneFailed (file ∷ [])) ⊎ ((fault ≡ command.NoMemory) × NoneFailed (schema ∷ []) × OneFailed (file ∷ []))
+-- the same where memory runs out, which it may behind a read that failed
+abbrev pub IsLeftBy : Failures → Type 0
+IsLeftBy file = NoneFailed (file ∷ []) ⊎ OneFailed (file ∷ [])
 
 -- the answer has the text of the refusals, by whether one of them is a read that failed
 abbrev pub Lists : Refusals → Answer → Type 0

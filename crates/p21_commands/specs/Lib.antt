@@ -13,6 +13,7 @@ pub mod SchemaText
 pub mod Canon
 pub mod Check
 pub mod CheckAll
+pub mod Checks
 pub mod Files
 pub mod Refusals
 pub mod Same

@@ -1,12 +1,10 @@
 //! The command `check`.
-ghost use Rattle.std.specs.Prelude.{◌≡◌, IfErr, IfOk, List, OnOk, Option, [], ◌∷◌, string_bytes, ℕ};
+ghost use Rattle.std.specs.Prelude.{◌≡◌, IfOk, string_bytes};
 ghost use Rattle.p21_spec_basics.specs.Limits.{usual};
 ghost use Rattle.p21_commands.specs.Check.{IsChecked, check_answer_line};
 ghost use Rattle.p21_commands.specs.Command.{EndsUnder};
-ghost use Rattle.p21_commands.specs.Failures.{FailedBy, failures_of};
-ghost use Rattle.p21_commands.specs.Files.{IsFileRefused, IsRefusedUnder};
-ghost use Rattle.p21_commands.specs.Load.{DeclaresRead};
-ghost use Rattle.p21_commands.specs.Refusing.{RefusesWith};
+ghost use Rattle.p21_commands.specs.Checks.{EndsChecking, IsOfCheck};
+ghost use Rattle.p21_commands.specs.Files.{IsRefusedUnder};
 ghost use Rattle.p21_commands.specs.Streams.{stream_of};
 ghost use Rattle.p21_commands.specs.Transfer as text;
 ghost use Rattle.p21_stream.specs.ReaderInput.{ConsumesAtMost};
@@ -39,36 +37,33 @@ pub fn check_command<S: Read, R: Read, W: Write, F: Write>(
       faults = stream_of F.contents faults.old faults.new;
     }) result }
 {
-    let schema = match load_schema(alloc, schema) {
-        Ok(schema) => schema,
-        Err(fault) => return report(&fault, faults),
-    };
-    match checked_line(alloc, &schema, file) {
-        Ok(line) => answer(line.as_bytes(), output, faults),
+    match load_schema(alloc, schema) {
+        Ok(schema) => check_file(alloc, &schema, file, output, faults),
         Err(fault) => report(&fault, faults),
     }
 }
 
-/// The line of a file of a schema, where it is accepted.
-pub(crate) fn checked_line<R: Read>(
+/// Reads a file of a schema, and writes its line, or the one that says why it isn't accepted. Answers the exit status.
+pub(crate) fn check_file<R: Read, W: Write, F: Write>(
     alloc: Global,
     schema: &Schema,
     file: &mut Watched<R>,
-) -> Result<String, CommandFault>
-    ensures ok { (reader : Option (List ℕ)) → DeclaresRead reader schema.now
-        → IfOk result (λ line. IsChecked reader (R.remaining file.old.inner) (R.remaining file.new.inner) (string_bytes line)) }
-    ensures err { (reader : Option (List ℕ)) → DeclaresRead reader schema.now
-        → IfErr result (RefusesWith (IsFileRefused [] reader (R.remaining file.old.inner) (R.remaining file.new.inner))) }
+    output: &mut Watched<W>,
+    faults: &mut Watched<F>,
+) -> u8
+    ensures status { IsOfCheck result }
     ensures consumed { ConsumesAtMost usual (R.remaining file.old.inner) (R.remaining file.new.inner) }
-
-    ensures read { OnOk result (file.new.failures ≡ file.old.failures) }
-    ensures failed { IfErr result (FailedBy (failures_of file.old file.new ∷ []) []) }
+    ensures ends { EndsChecking schema.now (stream_of R.remaining file.old file.new)
+        (stream_of W.contents output.old output.new) (stream_of F.contents faults.old faults.new) result }
 {
     let counted = match count(alloc, schema, Limits::usual(), file) {
         Ok(counted) => counted,
-        Err(refusal) => return Err(fault_of(alloc, "", refusal)),
+        Err(refusal) => return report(&fault_of(alloc, "", refusal), faults),
     };
-    Ok(answer_line_of(alloc, counted.instances, counted.bytes)?)
+    match answer_line_of(alloc, counted.instances, counted.bytes) {
+        Ok(line) => answer(line.as_bytes(), output, faults),
+        Err(AllocError) => report(&CommandFault::NoMemory, faults),
+    }
 }
 
 /// The line of a file that is accepted, by how many instances it has and how many bytes its canonical file.

@@ -1,9 +1,10 @@
 //! The command `check --all`.
-ghost use Rattle.std.specs.Prelude.{◌≡◌, ◌++◌, IfErr, IfOk, OnOk, flat_map, string_bytes};
+ghost use Rattle.std.specs.Prelude.{◌≡◌, ◌++◌, IfOk, List, OnErr, OnOk, Option, flat_map, string_bytes, ℕ};
 ghost use Rattle.p21_spec_basics.specs.Limits.{usual};
-ghost use Rattle.p21_commands.specs.CheckAll.{Answers, EndsListing, IsFailedBy, IsListedUnder, IsReadBy, Lists, count_line, has_read_fault, is_read, listed_count, listed_line};
+ghost use Rattle.p21_commands.specs.CheckAll.{Answers, EndsListing, IsLeftBy, IsReadBy, Lists, count_line, has_read_fault, is_read, listed_count, listed_line};
+ghost use Rattle.p21_commands.specs.Checks.{EndsListingOf, IsOfCheck};
 ghost use Rattle.p21_commands.specs.Failures.{failures_of};
-ghost use Rattle.p21_commands.specs.Refusing.{RefusesWith};
+ghost use Rattle.p21_commands.specs.Load.{DeclaresRead};
 ghost use Rattle.p21_commands.specs.Streams.{stream_of};
 ghost use Rattle.p21_commands.specs.Transfer as text;
 ghost use Rattle.p21_stream.specs.ReaderInput.{ConsumesAtMost};
@@ -15,6 +16,7 @@ use crate::file_fault::refusal_text;
 use crate::load::load_schema;
 use crate::status::FAILED;
 use crate::transfer::write_whole;
+use p21_express_tables::Schema;
 use p21_stream::{Extent, Fault, Refusal, Refusals, Surveyed, Watched, survey};
 use p21_values::{Limits, NoMemory};
 use std::alloc::{AllocError, Global};
@@ -50,6 +52,26 @@ pub fn check_all_command<S: Read, R: Read, W: Write, F: Write>(
       faults = stream_of F.contents faults.old faults.new;
     }) result }
 {
+    match load_schema(alloc, schema) {
+        Ok(schema) => list_refusals(alloc, &schema, file, most, output, faults),
+        Err(fault) => report(&fault, faults),
+    }
+}
+
+/// Reads a file of a schema, and writes what a survey has to say of it.
+pub(crate) fn list_refusals<R: Read, W: Write, F: Write>(
+    alloc: Global,
+    schema: &Schema,
+    file: &mut Watched<R>,
+    most: u64,
+    output: &mut Watched<W>,
+    faults: &mut Watched<F>,
+) -> u8
+    ensures status { IsOfCheck result }
+    ensures consumed { ConsumesAtMost usual (R.remaining file.old.inner) (R.remaining file.new.inner) }
+    ensures ends { EndsListingOf most schema.now (stream_of R.remaining file.old file.new)
+        (stream_of W.contents output.old output.new) (stream_of F.contents faults.old faults.new) result }
+{
     match find_answer(alloc, schema, file, most) {
         Ok(Answer::Accepted(line)) => answer(line.as_bytes(), output, faults),
         Ok(Answer::Refused(lines)) => report(&CommandFault::Refused(lines), faults),
@@ -58,29 +80,27 @@ pub fn check_all_command<S: Read, R: Read, W: Write, F: Write>(
             let _ = write_whole(faults, lines.as_bytes());
             FAILED
         }
-        Err(fault) => report(&fault, faults),
+        Err(NoMemory) => report(&CommandFault::NoMemory, faults),
     }
 }
 
-/// Reads a schema, and a file under it, and gives what the survey has to say.
-fn find_answer<S: Read, R: Read>(
+/// Reads a file of a schema, and gives what the survey has to say.
+fn find_answer<R: Read>(
     alloc: Global,
-    schema: &mut Watched<S>,
+    schema: &Schema,
     file: &mut Watched<R>,
     most: u64,
-) -> Result<Answer, CommandFault>
-    ensures ok { IfOk result (Answers most (S.remaining schema.old.inner) (R.remaining file.old.inner) (R.remaining file.new.inner)) }
-    ensures err { IfErr result (RefusesWith (IsListedUnder most (S.remaining schema.old.inner) (R.remaining file.old.inner) (R.remaining file.new.inner))) }
-    ensures consumed_schema { text.ConsumesAtMost (S.remaining schema.old.inner) (S.remaining schema.new.inner) }
-    ensures consumed_file { ConsumesAtMost usual (R.remaining file.old.inner) (R.remaining file.new.inner) }
+) -> Result<Answer, NoMemory>
+    ensures ok { (reader : Option (List ℕ)) → DeclaresRead reader schema.now
+        → IfOk result (Answers most reader (R.remaining file.old.inner) (R.remaining file.new.inner)) }
+    ensures consumed { ConsumesAtMost usual (R.remaining file.old.inner) (R.remaining file.new.inner) }
 
-    ensures read { IfOk result (IsReadBy (failures_of schema.old schema.new) (failures_of file.old file.new)) }
-    ensures failed { IfErr result (IsFailedBy (failures_of schema.old schema.new) (failures_of file.old file.new)) }
+    ensures read { IfOk result (IsReadBy (failures_of file.old file.new)) }
+    ensures failed { OnErr result (IsLeftBy (failures_of file.old file.new)) }
 {
-    let schema = load_schema(alloc, schema)?;
-    let found = match survey(alloc, &schema, Limits::usual(), most, file) {
+    let found = match survey(alloc, schema, Limits::usual(), most, file) {
         Ok(found) => found,
-        Err(NoMemory) => return Err(CommandFault::NoMemory),
+        Err(NoMemory) => return Err(NoMemory),
     };
     match found {
         Surveyed::Accepted(accepted) => {

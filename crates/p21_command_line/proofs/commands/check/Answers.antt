@@ -9,7 +9,7 @@ pub returns-clause-app : goal.returns-clause-app
 returns-clause-app c =
     let none : app_of c.after_help.result ≡ new_app (codes "check") = search rules in
     let schema = adds_argument c.after_help.result c.in_ok-arg.field-0 c.schema_path.result none c.schema_path.ensures.rule c.schema_path.ensures.local c.in_ok-arg.ensures in
-    let file = adds_argument c.in_ok-arg.field-0 c.in_ok-arg-2.field-0 c.file_path.result schema c.file_path.ensures.rule c.file_path.ensures.local c.in_ok-arg-2.ensures in
+    let file = adds_argument c.in_ok-arg.field-0 c.in_ok-arg-2.field-0 c.file_paths.result schema c.file_paths.ensures.rule c.file_paths.ensures.local c.in_ok-arg-2.ensures in
     let every = adds_argument c.in_ok-arg-2.field-0 c.in_ok-arg-3.field-0 c.all.result file c.all.ensures.rule c.all.ensures.local c.in_ok-arg-3.ensures in
     let some = adds_argument c.in_ok-arg-3.field-0 c.in_ok-arg-4.field-0 c.most.result every c.most.ensures.rule c.most.ensures.local c.in_ok-arg-4.ensures in
     IfOk-weaker _ _ _ (λ new. adds_argument c.in_ok-arg-4.field-0 new c.progress.result some c.progress.ensures.rule c.progress.ensures.local) c.arg-5.ensures
@@ -18,7 +18,7 @@ pub returns-clause-local : goal.returns-clause-local
 returns-clause-local c =
     let none : (fields_of c.after_help.result).has_globals ≡ false = search rules in
     let schema = stays_local c.after_help.result c.in_ok-arg.field-0 c.schema_path.result none c.schema_path.ensures.local c.in_ok-arg.ensures in
-    let file = stays_local c.in_ok-arg.field-0 c.in_ok-arg-2.field-0 c.file_path.result schema c.file_path.ensures.local c.in_ok-arg-2.ensures in
+    let file = stays_local c.in_ok-arg.field-0 c.in_ok-arg-2.field-0 c.file_paths.result schema c.file_paths.ensures.local c.in_ok-arg-2.ensures in
     let every = stays_local c.in_ok-arg-2.field-0 c.in_ok-arg-3.field-0 c.all.result file c.all.ensures.local c.in_ok-arg-3.ensures in
     let some = stays_local c.in_ok-arg-3.field-0 c.in_ok-arg-4.field-0 c.most.result every c.most.ensures.local c.in_ok-arg-4.ensures in
     IfOk-weaker _ _ _ (λ new. stays_local c.in_ok-arg-4.field-0 new c.progress.result some c.progress.ensures.local) c.arg-5.ensures
