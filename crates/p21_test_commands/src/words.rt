@@ -148,7 +148,7 @@ const MISTAKES: NotTaken = &[
     (&["p21", "schema"], ErrorKind::MissingRequiredArgument),
     (&["p21", "schema", "s", "f"], ErrorKind::UnknownArgument),
     (&["p21", "check", "s"], ErrorKind::MissingRequiredArgument),
-    (&["p21", "check", "s", "f", "g"], ErrorKind::UnknownArgument),
+    (&["p21", "canon", "s", "f", "g"], ErrorKind::UnknownArgument),
     (&["p21", "canon", "s"], ErrorKind::MissingRequiredArgument),
     (
         &["p21", "canon", "s", "f", "--name", "1"],
