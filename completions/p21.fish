@@ -2,7 +2,7 @@
 
 complete -c p21 -f -n __fish_use_subcommand -a param -d 'Prints the canonical spelling of one parameter'
 complete -c p21 -f -n __fish_use_subcommand -a schema -d 'Prints the entities of a schema with their attributes'
-complete -c p21 -f -n __fish_use_subcommand -a check -d 'Checks a file against a schema'
+complete -c p21 -f -n __fish_use_subcommand -a check -d 'Checks files against a schema'
 complete -c p21 -f -n __fish_use_subcommand -a canon -d 'Prints the canonical file of a file'
 complete -c p21 -f -n __fish_use_subcommand -a show -d 'Prints the canonical statement of one instance of a file'
 complete -c p21 -f -n __fish_use_subcommand -a same -d 'Says whether two files mean the same'
