@@ -1,5 +1,5 @@
 //! The instances of an accepted file.
-ghost use Rattle.std.specs.Prelude.{◌≡◌, Contains, IfSome, IsNone};
+ghost use Rattle.std.specs.Prelude.{◌≡◌, ◌≤◌, ◌<◌, ℕ, Contains, IfSome, IsNone};
 ghost use Rattle.p21_model.specs.Kept.{AreStated, IsKeptLine, IsStated};
 ghost use Rattle.p21_stream_store.specs.StoredInstance.{instance_names};
 
@@ -28,6 +28,24 @@ impl<'a> AcceptedModel<'a> {
             schema: self.schema,
             name,
             line,
+        })
+    }
+
+    /// The first instance whose name is this one or above it, if there is one. It takes no memory.
+    pub fn first_from(self, least: Name) -> Option<Instance<'a>>
+        ensures from { IfSome result (λ found. least ≤ found.name) }
+        ensures some { IfSome result (λ found. IsKeptLine self.entry.accepted.now.kept found.name found.line.now) }
+        ensures stated { AreStated self.entry.schema.now self.entry.accepted.now.kept → IfSome result IsStated }
+        ensures between { IfSome result (λ found. (other : ℕ) → least ≤ other → other < found.name → Contains (instance_names self.entry.accepted.now.kept) other → ⊥) }
+        ensures none { IsNone result → (other : ℕ) → least ≤ other → Contains (instance_names self.entry.accepted.now.kept) other → ⊥ }
+    {
+        let Some(found) = self.accepted.first_from(least) else {
+            return None;
+        };
+        Some(Instance {
+            schema: self.schema,
+            name: found.0,
+            line: found.1,
         })
     }
 }

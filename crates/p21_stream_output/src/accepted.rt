@@ -1,4 +1,4 @@
-ghost use Rattle.std.specs.Prelude.{◌≡◌, ◌↔◌, ℕ, length, Contains, IfErr, IfSome, IsNone, IsTrue, OnErr, OnOk};
+ghost use Rattle.std.specs.Prelude.{◌≡◌, ◌≤◌, ◌<◌, ◌↔◌, ℕ, length, Contains, IfErr, IfSome, IsNone, IsTrue, OnErr, OnOk};
 ghost use Rattle.std.specs.Io.KnownBytes.{Appends};
 ghost use Rattle.p21_stream_output.specs.Output.{HasLines, IsLineOf, output_text};
 ghost use Rattle.p21_stream_output.specs.Reading.{Takes, rest_at, start};
@@ -120,6 +120,23 @@ impl Accepted {
             Some((_, text)) => Some(text),
             None => None,
         }
+    }
+
+    /// The name and the line of the first instance whose name is this one or above it, if there is one. It takes no memory.
+    pub fn first_from(&self, least: Name) -> Option<(Name, &[u8])>
+        ensures some { IfSome result (λ found. (membership : ℕ) × Contains self.now.kept (record { name = found.0; membership = membership; text = found.1.now })) }
+        ensures line { IfSome result (λ found. IsLineOf found.0 found.1.now (output_text self.now)) }
+        ensures from { IfSome result (λ found. least ≤ found.0) }
+        ensures between { IfSome result (λ found. (other : ℕ) → least ≤ other → other < found.0 → Contains (instance_names self.now.kept) other → ⊥) }
+        ensures none { IsNone result → (other : ℕ) → least ≤ other → Contains (instance_names self.now.kept) other → ⊥ }
+    {
+        let Some((name, _)) = self.instances.next_from(least.0) else {
+            return None;
+        };
+        let Some(line) = self.line(Name(name)) else {
+            return None;
+        };
+        Some((Name(name), line))
     }
 
     /// Writes the canonical file, and nothing else. What was written is the beginning of it, also where a write fails; no
