@@ -163,6 +163,21 @@ fn first_otherwise(alloc: Global, schema: &Schema, accepted: &Accepted) -> &'sta
     "none"
 }
 
+/// The names of the instances, as they are walked.
+fn walked(alloc: Global, schema: &Schema, accepted: &Accepted) -> Vec<u8> {
+    let mut names = Vec::new(alloc);
+    let model = AcceptedModel { schema, accepted };
+    let mut least = 0;
+    for _ in 0..9 {
+        if let Some(instance) = model.first_from(Name(least)) {
+            put_number(&mut names, instance.name.0);
+            put(&mut names, b" ");
+            least = instance.name.0.saturating_add(1);
+        }
+    }
+    names
+}
+
 fn first_wrong(alloc: Global) -> &'static str {
     let Ok(schema) = read_schema(alloc, SCHEMA.as_bytes()) else {
         return "the schema";
@@ -174,6 +189,9 @@ fn first_wrong(alloc: Global) -> &'static str {
     let Ok(accepted) = session.finish() else {
         return "the end of the file";
     };
+    if walked(alloc, &schema, &accepted).as_slice() != "1 3 4 5 20 ".as_bytes() {
+        return "the walk";
+    }
     first_otherwise(alloc, &schema, &accepted)
 }
 
