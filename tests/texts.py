@@ -150,19 +150,27 @@ def helps(folder):
     here, environment = prepared(folder / "help")
     for example in (ROOT / "examples").iterdir():
         (here / example.name).symlink_to(example)
+    # The help has no room for the whole of a long name.
+    (here / "changed.step").symlink_to(ROOT / "examples" / "product-changed.step")
     for command in ("param", "schema", "check", "canon", "show", "same"):
         example = answer([command, "--help"])[0].partition("\nExample")[2]
         given = re.search(r"where (\S+) holds\s+(.*?):?\n    \$", example, re.S)
         if given:
             (here / given[1]).unlink(missing_ok=True)
             (here / given[1]).write_text(given[2] + "\n")
-        line, *wanted = lines("    " + example.partition("\n    ")[2])
-        output = outputs([line.removeprefix("$ ")], here, environment)[0]
-        yield f"help of {command}: {line}", "\n".join(wanted), output.rstrip("\n"), is_shown(wanted, output)
+        for shown_one in re.split(r"^\$ ", "\n".join(lines("    " + example.partition("\n    ")[2])), flags=re.M)[1:]:
+            line, *wanted = shown_one.splitlines()
+            output = outputs([line], here, environment)[0]
+            yield f"help of {command}: {line}", "\n".join(wanted), output.rstrip("\n"), is_shown(wanted, output)
 
 
 def lines(block):
     return [line[4:] for line in block.splitlines()]
+
+
+def without_notes(found):
+    """An answer without what is said behind its lines of the files that were given."""
+    return "\n".join(line for line in found.split("\n") if not line.startswith("note: "))
 
 
 def file_with(text, section, frame):
@@ -228,6 +236,7 @@ def main():
         folder = pathlib.Path(name)
         for title, arguments, wanted in [*shown(), *faults(folder)]:
             found, status = answer(arguments)
+            found = without_notes(found)
             refused = wanted.startswith(("refused", "schema refused", "different", "no #"))
             judge(title, f"{wanted}, status {int(refused)}", f"{found}, status {status}", found == wanted and status == refused)
         for session in [*sessions(folder, left_out), *helps(folder)]:
