@@ -106,7 +106,7 @@ BY_A_PIPE = [["p21-where", PRODUCT, "-"], ["p21-table", PRODUCT, "-"], ["p21-whe
 
 
 # What tries the tools on Linux tries them as on Windows too, with the program for Linux; and the rows that are otherwise there, of
-# programs that a signal ends.
+# programs that a signal ends and of devices.
 TOOLS_TESTS = ("adapt", "diff", "inputs", "manifest", "names", "shelf", "table", "where")
 TOOLS_OTHERWISE = [
     "a signal: its row",
@@ -115,6 +115,7 @@ TOOLS_OTHERWISE = [
     "a program that ends by a signal*",
     "no answer",
     "of the schema",
+    "/dev/zero*",
 ]
 # How files are named on Windows, and the same in a reference and in a manifest of BagIt.
 REFERENCES = {
