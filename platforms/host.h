@@ -1,6 +1,17 @@
 /* What a host shares with another: how it answers the program, which is compiled through another backend of LLVM than the
  * gate's. The toolchain's own C code answers on Linux on x86-64 (`libos_c.a`), and the contracts of the standard library say
- * what each call answers; a failed one leaves its error under the number that Linux has for it. */
+ * what each call answers; a failed one leaves its error under the number that Linux has for it.
+ *
+ * The host gives the version its second line, and the sources say nothing of systems: so the program for Linux on
+ * x86-64, its proofs and its answers are as they were. The line is written behind the program's own answer, where that
+ * is status 0 and the first word asks for the version.
+ *
+ * The hosts are three files of C: `memory.c` for the program and the library on each system, `posix.c`, and
+ * `windows.c`, which takes no file, stream or name by the C library: handles are read and written in bytes, names are
+ * UTF-16 behind the prefix for long ones, files are shared for reading, writing and removing, and a folder is opened as
+ * elsewhere, so that reading it fails. An error is known by Linux's number, since the program tells want of memory by
+ * it.
+ */
 #ifndef HOST_H
 #define HOST_H
 

@@ -1,5 +1,18 @@
 /* The host on Windows. Files and streams are handles, which are read and written in bytes. Names and words are UTF-16 for the
- * system, and UTF-8 for the program. */
+ * system, and UTF-8 for the program.
+ *
+ * On Windows `/dev/stdin` is the program's name for standard input, as in its help, in the tools and in the recipes. No
+ * file of Windows has this name but by intent.
+ *
+ * A word that is no text is refused there too: half of a pair of UTF-16 is handed to the program as a byte that no
+ * UTF-8 has. The first word is the program's name without folder and `.exe`, as help prints it elsewhere.
+ *
+ * A reader that goes away is a write fault, with status 3, on each system: Windows has no SIGPIPE, and Linux's is
+ * ignored.
+ *
+ * A console is set to UTF-8 while the program runs, where an answer goes to one, and set back when it ends. A program
+ * that is killed leaves it so.
+ */
 #define WIN32_LEAN_AND_MEAN
 #include <windows.h>
 

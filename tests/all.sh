@@ -12,6 +12,9 @@
 # hostile/calls.py builds a program of the libraries without a proof, fail_alloc.sh and want_of_memory.sh try tests, and
 # wrong_bodies.sh and records.py read the crates. What else the parts want, and how long they take, is said at
 # the end of tests/README.md.
+#
+# A part of `tests/all.sh` that lacks what it needs is skipped and not passed: it ends with status 77 and names what is
+# missing.
 
 root=$(cd "$(dirname -- "$(readlink -f -- "$0")")/.." && pwd) || exit
 "${P21:-$root/p21}" --version > /dev/null || exit

@@ -10,6 +10,13 @@ starts are processes of its own, ended by their ids; nothing of the system's own
 names another program than ./p21.
 """
 
+# No recipe without the real thing. The recipes for Slurm and Dask run in a test on Debian's own packages. Spark had a
+# recipe over a stand-in; it went, since no Spark was to be had to try it with.
+#
+# On a cluster a table is made whole or not at all: a job writes `.part` and renames it at the end, so that a job that
+# Slurm runs again leaves no row twice. A limit on memory is set for each process by `ulimit`, since the managers' own
+# limits end a whole job, or don't see what a worker starts.
+
 import argparse
 import collections
 import contextlib

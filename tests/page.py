@@ -11,6 +11,14 @@ P21 names another program than ./p21. The status is 77 where there is no Chromiu
 which makes the page.
 """
 
+# What of WCAG 2.2 AA is tested, and how (`people`, `accessible` and `on_paper` in `tests/page.py`): the contrast of
+# each text in light, dark and on paper (1.4.3); that nothing stands beside a width of 320 (1.4.10), nor with more room
+# between letters, words and lines, and then nothing is cut off (1.4.12); that what is pressed has 24 by 24 pixels
+# (2.5.8); that Tab leads to everything, with an outline of two pixels in sight (2.1.1, 2.4.7, 2.4.11), and a link to
+# the answer (2.4.1); that headings leave out no level (1.3.1); roles and names, by the tree that Chromium gives to
+# readers (4.1.2), and what is said without the focus (4.1.3). Not tested: a screen reader itself, forced colours, the
+# contrast of edges, and people who need any of it.
+
 import gzip
 import hashlib
 import io

@@ -13,6 +13,16 @@ P21 names another program for Linux than ./p21. It wants `rt`, which makes what 
 packages wine64, qemu-user, gcc-mingw-w64-x86-64, gcc-aarch64-linux-gnu and libc6-dev-arm64-cross. Where one of them isn't here, the status is 77.
 """
 
+# No Python for Windows is a package of Debian, so the tools are tried by a Python for Linux that has of `os` and
+# `signal` only what is documented for Windows, and lacks the modules that aren't there
+# (`tests/platforms/as_windows.py`): some command lines over the program for Windows under Wine, and all of the tools'
+# tests over that for Linux. What differs in how Windows shares and removes open files isn't tried by that.
+#
+# A run that says nothing under Wine is made again by the test, and counted. With many other processes on four
+# processors, two or three of some 3,500 starts under Wine 8 ended with status 1 and no word, which no answer of `p21`
+# is, and one hung; a program of three lines hung once in 812 starts, and always answered. So the hang is Wine's, and of
+# the answer without a word it is believed and not shown. Three such runs in a row are a failure.
+
 import contextlib
 import hashlib
 import ntpath

@@ -5,6 +5,16 @@ other. Where many refusals are looked for, each has a thread, which waits with i
 then one run of `p21 check --all` answers the questions of all.
 """
 
+# Of several refusals the places are found together. The file is passed over twice for all of them, once for their
+# instances and once for what these refer to. Each refusal has a thread that asks the program about copies of its
+# instance; when all threads wait for an answer, one run of `p21 check --all` over all copies, each under a name of its
+# own, gives it. So hundreds of refusals take as many runs as one does.
+
+# Of several refusals the places are found together. The file is passed over twice for all of them, once for their
+# instances and once for what these refer to. Each refusal has a thread that asks the program about copies of its
+# instance; when all threads wait for an answer, one run of `p21 check --all` over all copies, each under a name of its
+# own, gives it. So hundreds of refusals take as many runs as one does.
+
 import concurrent.futures
 import itertools
 import re

@@ -7,6 +7,13 @@ digests can't tell, the file isn't decided: then equal hashes mean that the file
 hashes differ in any case.
 """
 
+# `p21-table --names` says whether a hash decides. It does where the instances that stay alike hang together in pieces
+# of which each has one instance at most of each kind, once those are taken away that hang on one other alone: then a
+# file is told by its digests. An instance that refers to itself has a digest of its own for that, since it hangs on no
+# other. Digests that all differ decide in a circle only if they differed in front of the last round already: what
+# stands around an instance is told by the digests of the round before. The bit is part of the hash. More than 40 rounds
+# aren't made; then it isn't decided either.
+
 import hashlib
 from typing import Dict, Iterable, List, NamedTuple, Set
 

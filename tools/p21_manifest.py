@@ -8,6 +8,28 @@ is known, since it couldn't be read or the program didn't answer, has no entry.
 A manifest may come from a stranger. Whatever it holds, nothing but plain files is opened for it.
 """
 
+# A manifest is never written over. `--resume` goes on with one, and trusts the entries that stand in it; `--verify`
+# finds what changed since. A last line that was cut is written again. A lock of the system, which goes with its
+# process, keeps a second run away; where a disk has none, no manifest is written there.
+#
+# `--resume` looks by which listing each file would be checked now, by the name in its header, so that another alias or
+# a listing that came is found too. Where it is another one than the entry has, a new manifest is begun; one entry isn't
+# made anew, since a file has one line.
+#
+# Verifying runs the program only where the bytes of a file are others, or with `--full`. Equal bytes mean the same
+# under the same listing, so the listing is held too. Of several schemas that are named, one has to be that of the
+# entry.
+#
+# A file that changes while its entry is made has none, and neither has one whose listing changes: what the system says
+# of a file (its number, size and times) is looked at before and behind.
+#
+# A path that leads out of the base, or to no plain file, is a mistake in the manifest (2), and the other files are
+# still looked at. Without a base, paths are taken as they are written, since the tool writes absolute ones where they
+# are given so.
+#
+# Other bytes of the same meaning have status 0. A manifest is there for the meaning; who wants the bytes looks at the
+# table, or verifies a manifest of BagIt.
+
 import contextlib
 import enum
 import hashlib

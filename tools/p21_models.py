@@ -4,6 +4,9 @@ A graph holds the instances of one file or of two. Where an element of a set ref
 it is a node of its own behind the instances, so that a set holds references alone.
 """
 
+# The elements of a set that hold references and aren't just one are nodes of their own in the refinement, so that a set
+# is a bag of nodes at any depth.
+
 import array
 import mmap
 import re

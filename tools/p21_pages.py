@@ -1,5 +1,12 @@
 """A page for a browser that shows what differs in two files. It stands by itself and asks no network."""
 
+# A point of the picture has three coordinates. In AP203, AP214, AP242 and IFC a point has as many dimensions as
+# coordinates, and those with two lie in the plane of the parameters of a surface. Any entity with an attribute
+# COORDINATES counts, so that subtypes do.
+#
+# `p21-diff --format html` shows 2,000 instances, and as many points as can be told apart in a picture: a page of 100 MB
+# is no help.
+
 import html
 import re
 from typing import Any, Dict, Iterable, Iterator, List, Mapping, NamedTuple, Optional, Sequence, Set, Tuple

@@ -6,6 +6,19 @@ one member in each, or where choosing one pair after another never runs into a c
 whoever says 'the same' has to check. Files that differ are paired from what is alike in them outwards.
 """
 
+# `p21-diff --names` says `same` only with a pairing in hand. Instances are told apart by colour refinement, from below
+# and from above; what is left alike is paired by choosing one pair after another and refining again, and going back
+# where that fails, up to a bound on the work. The pairing is checked instance by instance, and then by the program: it
+# compares the second file with the first one in the second's names. So neither the refinement nor what the tool reads
+# of the schema (which lists are sets) has to be trusted for `same`. For `different` they are; whoever is shown a
+# difference sees it.
+#
+# Files that differ are paired from what is alike outwards: first what is alone in saying what it says with all below
+# it, then along equal places from pair to pair, then what refers to much the same, as a list does that has grown, then
+# by the pairs around an instance, and at last in the order of the files. Files often keep some names: what has one name
+# in both is paired in the end where no fewer instances fit their partners then. A list of differences is right for its
+# pairing, and the pairing is a choice: the last line says how many pairs could be others.
+
 import array
 import collections
 from typing import Any, Callable, Deque, Dict, Iterable, Iterator, List, NamedTuple, Optional, Tuple

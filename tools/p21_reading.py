@@ -5,6 +5,14 @@ The tools judge nothing themselves. Which files are accepted, what is refused an
 may be of any size and hold anything: it is read where it lies, and what is found in it is read again where it is asked for.
 """
 
+# `p21-where` and `p21-table` make no copy of the parts of a text. A list, the parts of a record or the words of a
+# schema are read again where they are asked for, and only the place of each 64th is kept, so that a text costs at most
+# four times its bytes; what is found twice is found by a bit for each byte. Patterns have no repetition within a
+# repetition, and digits become a number only where they are at most 20.
+#
+# Of a pipe or a device 1 GiB is copied (1,073,741,824 bytes), since the tools read a text several times; more is
+# refused by the tool, and has to be saved as a file first.
+
 import argparse
 import array
 import codecs

@@ -1,5 +1,9 @@
 """Refusals in SARIF 2.1.0, the form in which review tools and CI take the findings of a checker."""
 
+# A column counts characters, as SARIF's `unicodeCodePoints`.
+
+# A column counts characters, as SARIF's `unicodeCodePoints`.
+
 import os
 import re
 import urllib.parse

@@ -4,6 +4,9 @@ The program says whether a text is refused and by which number. The place is fou
 or changed: cut behind a word, with some declarations replaced by empty ones of the same name, or without redeclarations.
 """
 
+# `P21_SCHEMAS` counts only where the first name of the command line is no schema. So a command line that names a schema
+# means the same on each machine.
+
 import array
 import collections
 import dataclasses

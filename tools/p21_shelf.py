@@ -5,6 +5,13 @@ is one, says what else a listing serves, in a line each: `AUTOMOTIVE_DESIGN_CC2 
 a copy with that name behind SCHEMA. Blank lines and those that begin with # say nothing.
 """
 
+# A schema that isn't on the shelf, or a listing there that is refused, is an answer about one file, with status 1 as a
+# refusal: of a folder with many schemas the others have theirs. A schema that the command line names is wanted for all
+# files, and ends the run with 2.
+#
+# An alias makes a copy with the other name, which is shown. The program compares names itself, and nothing in the tools
+# says that a file is accepted by a schema that it doesn't name.
+
 import hashlib
 import os
 import pathlib

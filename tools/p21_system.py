@@ -1,6 +1,14 @@
 """What the tools ask of the operating system, where Windows has it otherwise: no signal for a pipe that nobody reads, no path for a
 descriptor or for standard input, no process that begins as a copy of this one, and streams that change texts."""
 
+# The tools ask `tools/p21_system.py` for what Windows has otherwise, and are otherwise the same files. What can be read
+# only once is copied there to a file with a name, since a descriptor has no path. `p21-table --names` runs threads
+# there, since a process can't begin as a copy of another. A manifest is locked there by a byte behind its end, since
+# nobody can read a locked one; and its paths below a base, those of BagIt and references in SARIF have slashes, as
+# other systems read them. Texts go out in UTF-8 with line feeds, as on Linux. On Windows the tools are started by
+# `.cmd` files, all with one text (`platforms/starter.cmd`): a wheel's own starters want functions to import, and the
+# tools are scripts.
+
 import atexit
 import contextlib
 import errno

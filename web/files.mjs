@@ -3,6 +3,14 @@
 // The program says whether a file is refused, by which number, and at which statement or in which instance. The place inside
 // is found by asking it about files that are made for the purpose: of a statement that is cut, or of an instance in which a
 // value is replaced by one that is refused by another number.
+//
+// Files are read as they stand when a job begins. A file that is mended can be chosen once more, as its field is
+// cleared each time, or looked at anew by the button "Check again". Browsers keep of a file what it was when it was
+// chosen: Chromium reads it no more once it has changed, and Firefox reads it up to its old size, which could cut it
+// off without a word. So a file that a job has read before is taken anew before the next one: where it was dropped on
+// Chromium by its handle (`getAsFileSystemHandle`), and elsewhere by reading the whole of it, since Firefox then reads
+// to the end. A file that was chosen in a field in Chromium has to be chosen again, and the page says so;
+// `showOpenFilePicker` would give a handle there, but answers on pages from a disk that the user has cancelled it.
 
 import { oneByOne, together } from "./asking.mjs";
 import { alike } from "./likeness.mjs";

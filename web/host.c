@@ -1,5 +1,8 @@
 // What the program asks of an operating system, for WebAssembly: memory, and the files and words that the page hands to it.
 // The toolchain's own C library stands here otherwise (`libc::heap`, `os::c`), and its contracts say what each call answers.
+//
+// Memory doubles, or where the browser doesn't give as much, grows by half of that, and so on down to what is needed.
+// Firefox moves a memory at each growth, so that steps of 1 MiB cost the square of the size.
 
 typedef unsigned char byte;
 typedef unsigned long size;

@@ -1,4 +1,10 @@
 // What a text is by its first bytes, and whether this browser can run the program. Both the page and its workers ask.
+//
+// Of a folder the page says that the files in it are to be dropped, since Chrome lets no page from a disk read one.
+//
+// Dropped files are sorted by how they begin, a schema here and STEP files there, and only where that says nothing by
+// where they were dropped or by their names. A schema that is dropped with one file starts anew; a file that is dropped
+// alone beside another is compared with it.
 
 export const STEP_FILE = /^[\t-\r ]*ISO-10303-21/;
 export const SCHEMA_TEXT = /^(?:[\t-\r ]|\(\*(?:(?!\*\)).)*\*\)|--[^\n]*(?:\n|$))*SCHEMA\b/is;

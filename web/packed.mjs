@@ -1,4 +1,9 @@
 // Files that are packed, by gzip or in a zip archive, and files of other kinds than STEP. Both the page and its workers ask.
+//
+// Packed files are unpacked in the worker, by the browser's `DecompressionStream`; nothing else is added but the list
+// of an archive and its checksums, which are held against what was unpacked. Of an archive the page takes the one file
+// that begins as a STEP file, and says so where there is none or there are several. What it says of other kinds of
+// files, by their first bytes, is beside the program's refusal and never in place of it.
 
 import { kindOf } from "./kinds.mjs";
 import { Trouble } from "./program.mjs";

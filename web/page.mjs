@@ -1,4 +1,35 @@
 // The page: files are chosen or dropped, a worker does the job, and its answer is shown.
+//
+// The page is one file without anything from outside, so that it works from a disk, can be sent by mail, and can be
+// kept beside the files of a delivery. The module is packed into it by gzip and base64. Its Content-Security-Policy
+// forbids any connection, so that the browser enforces what the page promises: files stay on the machine.
+//
+// An accepted file is read once: `canon` answers whether it is accepted and what its canonical file is, and the line
+// that `check` would print is counted from that. Two files are called the same where their canonical files are equal,
+// which is what `same` compares. `tests/page.py` holds both against the program's own answers.
+//
+// Several refusals are grouped by number. An exporter makes one mistake many times: so the page shows how often each
+// kind comes, what it means once, and a row for each with the instance, the line and what is wrong; 20 of a kind at
+// first. Rows open to the whole; of three kinds or fewer the first of each is open. The text keeps the order of the
+// program.
+//
+// Up to names the page compares at once where both canonical files have 2 MiB together, and larger ones where it is
+// asked to, since that takes some times as long as the comparison by names.
+//
+// The hash beside an accepted file is made by the browser (`crypto.subtle`), and beside it stands the command line that
+// makes it again, unless the listing was given another name. Where the browser has none, as on a page from a server
+// without TLS, it isn't shown.
+//
+// After an answer the focus is on its heading, so that a keyboard and a screen reader go on from there, and on a small
+// screen it is brought into sight; where a choice of the answer led to it, the focus is on that choice. A link in front
+// of everything leads to the answer. As long as there is none, a picture shows what one gets; examples of refusals and
+// what isn't proved stand behind folds.
+//
+// Files compare by the names of instances, as in `p21-diff`, and by a choice up to names. Differences that all stand in
+// the header are said to: the data is then the same. `same` and `different` are always meant by names, as the program
+// means them; that two files are the same up to names is said beside it.
+//
+// Of a canonical file the page shows the first 128 KiB, and of differences the first 1,000. Both can be saved whole.
 
 import { SCHEMA_TEXT, hasWideMemory, namedSchema } from "./kinds.mjs";
 import { beginningOf, otherKindOf } from "./packed.mjs";

@@ -1,4 +1,9 @@
 // Schemas that were used before. The browser keeps them in a store of its own on this machine, for pages of this origin.
+//
+// A schema that was read is remembered in the browser's store (IndexedDB), under the name that it serves, 20 at most;
+// the button "Forget" takes all away. It is taken only where no schema is chosen and the file names it, and the page
+// says so. In Chromium all pages that are opened from a disk share that store, so another page on the disk could read a
+// listing there; files are never kept.
 
 const STORE = "schemas";
 // So many are kept, those that were used last.

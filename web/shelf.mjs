@@ -2,6 +2,9 @@
 //
 // Each listing is known by the name behind its SCHEMA. The text `aliases`, where there is one, says what else a listing serves,
 // in a line each: `AUTOMOTIVE_DESIGN_CC2 = automotive_design.exp`. The program then reads a copy with that name behind SCHEMA.
+//
+// Several schemas are a shelf. A listing is known by the name behind its SCHEMA, as for the tools, and not by that of
+// its file. Two files of two schemas aren't compared. Schemas that are dropped take the place of those that were there.
 
 import { statements } from "./files.mjs";
 import { Text, Trouble } from "./program.mjs";

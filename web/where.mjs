@@ -1,4 +1,14 @@
 // Where a file or a schema text is refused, as tools/p21-where shows it: as a report for the page, and as its lines.
+//
+// Where a text is refused and what differs is found in JavaScript, by the rules of `p21-where` and `p21-diff`. A
+// browser can't run Python without megabytes of an interpreter. The scripts follow the tools function by function,
+// under the same names, and `tests/page_module.py` and `tests/page.py` compare what both print, over the texts that the
+// tools themselves are tested by. What a refusal means comes from the program (`faults`).
+//
+// A file that is refused is read a second time, by `check --all`, which lists its refusals; only who has a refused file
+// waits for that. Of 5,000 refusals the places are looked for, of 256 side by side: what looks for one waits with its
+// question until the others have theirs, and one run of the program answers all. What is found in 0.3 seconds comes
+// with the answer, and the rest while it is read.
 
 import { GivenFile, LONGEST_PLACED, MOST_PLACED, RefusedFile, refusalsOf } from "./files.mjs";
 import { SCHEMA_TEXT, STEP_FILE } from "./kinds.mjs";

@@ -1,6 +1,9 @@
 // One job in a thread of its own: what the program says of schemas and of one or two files, and what there is to say of it.
 //
 // The page starts a worker for each job, and ends it to stop the job. Without a schema, the job is to say the version.
+//
+// Each run has an instance, a memory and streams of its own, and each job a worker of its own. So nothing stays from
+// one run to the next, and a job is stopped by ending its worker.
 
 import { differencesOf, differencesUpToNames, equalBytes } from "./differences.mjs";
 import { GivenFile } from "./files.mjs";

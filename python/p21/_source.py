@@ -1,5 +1,16 @@
 """What a file may be given as."""
 
+# What a file may be in Python. A path and an open file are read piece by piece by a session, so that memory holds no
+# copy of the file; an object with a buffer is read where it lies, by the interpreter's own call for buffers, since
+# `ctypes` alone copies what may only be read. `p21.same` of two buffers is the library's own call, and else the
+# comparison of both canonical files, which is the same by the claim. `p21.hash` answers a hash with the number of
+# instances, as a row of `p21-table` does. `p21.where` and `p21.survey` run the tool and the program that the wheel has,
+# so that nothing is told in two ways.
+#
+# A schema may be a path in Python, which is read for the one call: whoever writes `p21.check("schema.exp", file)` means
+# that. Nothing is kept of it, so that a listing that changes is read as it is; many files want `Schema.read`. A `str`
+# with a semicolon or a line end is a text, and is told so.
+
 import array
 import mmap
 import os

@@ -101,11 +101,11 @@ EDITS = [
     Edit(
         "definitions.py",
         [],
-        "a call says of itself what the page of calls doesn't",
+        "a call doesn't say what it does",
         "crates/p21_values/src/text.rt",
-        "/// How many characters the text has.",
-        "/// How many letters the text has.",
-        "docs/CALLS.md is not what the sources say",
+        "/// How many characters the text has. It takes no memory.",
+        "// How many characters the text has. It takes no memory.",
+        "no line says what p21_values: Text::len does",
     ),
     Edit(
         "definitions.py",

@@ -10,6 +10,14 @@ The toolchain keeps as much of a library that was proved (out/rlib/NAME.rlib), b
 texts apart: `rattle fmt --tokens` leaves comments out, and says where a clause begins and ends.
 """
 
+# A record says over what a wrong body was refused: by a checksum of the edit, and one of all that a proof of its crate
+# rests on, with its parts: the code, definitions and proofs of the crate, and what each crate below shows of itself.
+# That is its contracts, types, constants, traits and impls, its definitions whole, and the statements of its public
+# lemmas with what unfolds among them. Comments and layout count nowhere; bodies, private functions and proofs count in
+# their own crate. The toolchain keeps as much of a library that was proved, but a fresh clone has none, and a record
+# has to be read there too: so a reader of our own takes the texts apart by the toolchain's tokens, and a table of
+# changes says what it has to see (`tests/records.py`).
+
 import collections
 import functools
 import hashlib

@@ -1,6 +1,11 @@
 """What is built of a crate, and whether it is known to be what the gate proved of the sources: by the record that the build
 leaves in `out/record` (tools/building.sh)."""
 
+# What was proved is said by a record that the build leaves, in `out/record` of the crate: the toolchain, a checksum of
+# the sources that the gate read, each crate that it proved, how it ended, and the checksums of what was built. A
+# release is made only where all of it fits the files and the committed sources. `--trial` takes what there is, and
+# names it so.
+
 import hashlib
 import pathlib
 import re

@@ -1,6 +1,17 @@
 """The systems beside Linux on x86-64 for which tools/build-for makes the program and the library: how a module of LLVM becomes
 theirs, and how what is compiled of it is linked."""
 
+# The toolchain's own target for AArch64 isn't taken. `rattle build --target aarch64-unknown-linux-gnu` compiles what is
+# proved for that target, but every crate has to be checked for it again, and its folder of start files and libraries
+# for linking isn't part of the toolchain that is here. Where it is, it makes the better program.
+#
+# Processors are the first of their kind: x86-64 without extensions on Windows, and generic AArch64 without outlined
+# atomics, so no program asks what the processor can do.
+#
+# The program for AArch64 is linked statically, since Debian's start files ask for version 2.34 of the C library; so it
+# runs on any Linux there. Its library is linked with the C library of the system, of which it wants four functions of
+# 2.17. The licenses of what Debian's packages link in go with a release.
+
 import pathlib
 import re
 import shutil

@@ -1,4 +1,10 @@
 //! The commands, over the files that the command line names.
+//!
+//! A command reads an argument that isn't there as an empty one. `clap` requires all of them, so none is missing, but
+//! none of its clauses says so about a command's own arguments; and an empty path can't be opened.
+//!
+//! A command reads an argument that isn't there as an empty one. `clap` requires all of them, so none is missing, but
+//! none of its clauses says so about a command's own arguments; and an empty path can't be opened.
 ghost use Rattle.std.specs.Prelude.{Some, IfErr, IfOk};
 ghost use Rattle.clap.specs.Words.{subcommand_name_of};
 ghost use Rattle.p21.specs.Statuses.{IsOfAnswer, IsOfCommand, IsUnopened, NamesFiles};

@@ -1,4 +1,12 @@
 //! The program `p21`: its command line, the files that it names, and the exit status.
+//!
+//! An argument that isn't UTF-8 is a wrong command line, status 2.
+//!
+//! Help or usage that can't be written gives status 3.
+//!
+//! An argument that isn't UTF-8 is a wrong command line, status 2.
+//!
+//! Help or usage that can't be written gives status 3.
 #![tactic(auto)]
 
 ghost use Rattle.std.specs.Prelude.{◌≡◌, ◌≢◌, ◌⊎◌, IfErr, IfOk, OnErr, map, string_bytes};

@@ -1,4 +1,40 @@
 //! The handles of calls that only read. Any number of threads may read through one at once.
+//!
+//! Threads and the library for C. A call that only reads takes its handle as `const`, and any number of threads may be
+//! in such calls with one handle at once. The toolchain refuses the plain form of this: whatever leads to memory of its
+//! own behind the shared reference of an export, where its type says what a `&` to it holds (`cell-in-c`), since
+//! through such a `&` memory may be written, as the count of an `Arc` is. The smallest such struct:
+//!
+//! ```rust
+//! #[repr(C)]
+//! pub struct Kept {
+//!     bytes: Vec<u8>,
+//! }
+//!
+//! #[unsafe(no_mangle)]
+//! pub extern "C" fn count(kept: &Kept) -> usize {
+//!     kept.bytes.len()
+//! }
+//! ```
+//!
+//! So these calls take a `&Lent`: a struct of one pointer, whose `Model` says what it owns (`also_owns`), and not what
+//! a `&` to it holds. What it owns can be divided among readers: a share of the token of a lifetime, and the content as
+//! it is lent for that lifetime. One function, `Lent::content`, has a proof by hand. It divides the share and gives a
+//! part of it up, so that the content is lent for as long as the `&` lives; reads the pointer; and answers a `&` to the
+//! content. The calls above it need no proof by hand. What C has to uphold is that the content is lent, which is what
+//! the header says in words: nobody frees or changes a handle while another call has it. A part of a share that is
+//! given up doesn't come back, so a caller that were proved too could not take the content back by these rules.
+//!
+//! Two other forms were tried. A lifetime as a parameter of `Lent` would say the same with no share of a token; in an
+//! export the toolchain refuses a lifetime at a struct that has a `Model` (`exported-lasting-borrow`), and no clause
+//! and no ghost field can name one. A raw pointer with a `requires*` could be proved, but each export would need a
+//! proof by hand, and of what lies there the toolchain asks C to treat it as the caller's alone, also behind a `const`.
+//!
+//! A shared handle is a block of 2 kB and a count that is an atomic number: an `Arc`, of which the toolchain says that
+//! C may pass it to other threads where what it holds may go there. That a schema, a session, an accepted file and a
+//! text may (they are plain data, in memory of their own), and that several threads may read them at once, is trusted:
+//! the prover's search gave up on the whole of them. In Python each call takes a handle of its own, under a lock for
+//! that moment: any thread may close a schema while another one is in a call with it, and that must do no harm.
 ghost use Rattle.std.specs.Prelude.{◌≡◌, Option, None, Some, MatchOption};
 ghost use Rattle.p21_c.specs.Contents.{output_in, schema_in, text_in};
 ghost use Rattle.p21_c.specs.Owned.{held_code};

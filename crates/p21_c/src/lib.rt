@@ -1,5 +1,13 @@
 //! The library for C: checks, canonical files and comparisons of files in memory, and sessions that are kept between calls.
 //! `p21.h` beside the sources declares the calls.
+//!
+//! In `p21_c` the calls of C stand over functions that know no handle; the statuses and reports that both answer are
+//! made in `src/answers`. `Handle` is a pointer that is null, or that points to a content in a block of its own; a call
+//! that changes it takes the content out, and puts it back (`src/handles`). A call that only reads takes a `Lent`, the
+//! same pointer, and reads the content where it lies (`src/lent`). The fields of a handle, and of a box that is taken
+//! apart, are in sight in `src/components` alone, and neither type may be let go: so no other function can lose a
+//! block. `proofs/components` are proofs by hand over `proofs/Owning`, as `proofs/lent` is over `proofs/Lending`, and
+//! all else is proved over what they promise.
 #![tactic(auto)]
 
 mod accepting;

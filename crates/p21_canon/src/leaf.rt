@@ -1,3 +1,5 @@
+//! One leaf is found by lengths: a closed set is the closure of one entity exactly where that entity's order is as long
+//! as the set. No list of leaves is made.
 ghost use Rattle.std.specs.Prelude.{◌≡◌, Contains, MatchOption};
 ghost use Rattle.p21_canon.specs.StatementTexts.{IsClosedSet, IsClosureOf};
 ghost use Rattle.p21_express_graph.specs.Lookups.{AreEntities};

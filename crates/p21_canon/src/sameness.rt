@@ -1,4 +1,13 @@
 //! The plain comparison of two values of attributes: the definition of sameness, as code.
+//!
+//! `same` compares bags without memory. The definition pairs elements off one by one. The code tests that both have
+//! equally many elements, and that each occurs equally often (by `same`) in both. It is proved once, over the
+//! definitions, that the two agree; that proof needs sameness to be an equivalence, and no decision procedure in the
+//! definitions.
+//!
+//! `same` ends because the depth of the deeper value falls. The second test of a set exchanges the sides, and a bag's
+//! elements are counted on their own side, so that neither the depth of the first value nor the sum of both depths
+//! falls at each step.
 ghost use Rattle.std.specs.Prelude.{◌↔◌, IsTrue};
 ghost use Rattle.p21_spec_file.specs.SameValue.{Among, EachAmong, Same, SameInOrder, SamePaired};
 ghost use Rattle.p21_mapping_values.specs.View.{view, views};

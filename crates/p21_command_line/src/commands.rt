@@ -1,4 +1,10 @@
 //! What the command line may say, and what its help says.
+//!
+//! The number behind `--name` has digits alone. `clap` reads `+2` too; the program answers it as it answers `#2`, with
+//! the words that `clap` has for a mistake. A last line says how the number is written, since these words don't.
+//!
+//! The number behind `--name` has digits alone. `clap` reads `+2` too; the program answers it as it answers `#2`, with
+//! the words that `clap` has for a mistake. A last line says how the number is written, since these words don't.
 ghost use Rattle.std.specs.Prelude.{◌≡◌, IfOk, codes, false};
 ghost use Rattle.clap.specs.Words.{app_of, rule_of};
 ghost use Rattle.clap.specs.declared.builder.command.Command.TheViews.{out-Command as fields_of};

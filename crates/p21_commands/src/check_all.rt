@@ -1,4 +1,13 @@
 //! The command `check --all`.
+//!
+//! The list is written when all is known. Then out of memory is one line alone, and whoever reads the list knows by its
+//! last line that it is whole.
+//!
+//! A read that fails has the status 3, as always, with the line `read fault` behind the refusals that were found
+//! before. It isn't counted among these.
+//!
+//! `--most N` alone lists too: it means `--all`, up to N. N is 1 at least. The last line says that no more were looked
+//! for, since whether there are more isn't known.
 ghost use Rattle.std.specs.Prelude.{◌≡◌, ◌++◌, IfOk, List, OnErr, OnOk, Option, flat_map, string_bytes, ℕ};
 ghost use Rattle.p21_spec_basics.specs.Limits.{usual};
 ghost use Rattle.p21_commands.specs.CheckAll.{Answers, EndsListing, IsLeftBy, IsReadBy, Lists, count_line, has_read_fault, is_read, listed_count, listed_line};

@@ -1,4 +1,12 @@
 //! The command `show`.
+//!
+//! The line of an entity in what is printed of a schema is put together from texts of its supertypes. Each entity that
+//! declares places has one text for them, where no entity of the schema derives one: then the words are the names,
+//! whatever the subtype. So an entity in a long chain costs a copy for each supertype, and no look-up for each place.
+//!
+//! No line of that text is kept. All that memory is asked for are those texts, one for each entity, before the first
+//! byte is written; the lines go through the 64 KiB that wait for the writer. So a few attributes that thousands of
+//! subtypes inherit cost what the schema costs, and not what is printed of it.
 ghost use Rattle.std.specs.Prelude.{◌≡◌, IfErr, IfOk, List, OnOk, Option, [], ◌∷◌, string_bytes, ℕ};
 ghost use Rattle.p21_spec_basics.specs.Limits.{usual};
 ghost use Rattle.p21_commands.specs.Command.{EndsUnder};

@@ -1,3 +1,7 @@
+//! The attribute that a redeclaration names is looked up in the names of its entity, where that has more than 16
+//! attributes, and else one after another. If the named supertype doesn't declare it itself, its owner is sought: each
+//! name that the text redeclares has the list of the entities that declare an attribute of that name, and of these and
+//! the supertype's closure the fewer are asked. Names and lists are kept only while redeclarations are resolved.
 ghost use Rattle.std.specs.Prelude.{◌≡◌, IfOk, MatchOption};
 ghost use Rattle.p21_spec_schema.specs.Redeclaration.{IsOwnPlace};
 ghost use Rattle.p21_spec_schema.specs.Schema as pure;

@@ -1,3 +1,7 @@
+//! Which of several refusals of a schema text comes is found after the text is refused (`first_refusal`). The reader
+//! proves that no schema is declared; then names that stand twice and places redeclared twice come before names that
+//! aren't declared, and these before all else. So the proof of the reader needs no order, and a text that is accepted
+//! pays nothing for it.
 ghost use Rattle.std.specs.Prelude.{◌≡◌};
 ghost use Rattle.p21_express_outline.specs.declared.fault.SchemaFault.TheVariants.{NoMemory};
 

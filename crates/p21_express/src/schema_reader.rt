@@ -1,3 +1,10 @@
+//! Schemas are read in two steps: first all but redeclarations (the outline), which gives orders and places; then
+//! `SELF\e.a` is resolved in it. It is proved that redeclarations resolve alike in a schema and in the same schema
+//! without them. The second step uses the tables of the first, except those that depend on redeclarations.
+//!
+//! A schema is read by `read_schema(alloc, text)`, a function of `p21_express`, and not by `Schema::read`: `Schema`
+//! stands in `p21_express_tables`, since the crates that only look things up need no reader, and an inherent function
+//! can't stand outside the crate of its type.
 ghost use Rattle.std.specs.List.{enumerate_from};
 ghost use Rattle.p21_express.specs.ReadSchema.{AreOfText, BareRead, IsBareSchema, SchemaDeclared, SchemaRead};
 ghost use Rattle.p21_express_outline.specs.Finding.{FindsEach};

@@ -1,3 +1,5 @@
+//! The items of an enumeration have a set beside their list, which is a tree and not a hash table, so that no choice of
+//! items slows a look-up. It holds their texts a second time.
 ghost use Rattle.std.specs.Prelude.{IfOk};
 ghost use Rattle.p21_express_graph.specs.TextSet.{HasTexts};
 

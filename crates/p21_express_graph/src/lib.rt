@@ -2,6 +2,27 @@
 //! and types, places, types where they are used, and what a declared type is. Bounds and widths are whole numbers up to
 //! 4,294,967,295. Over these numbers stand the graphs of entities and types: their names, the orders of supertypes, circles
 //! and closures, what types rename, and what each select offers.
+//!
+//! The tables that are made of the contents of a schema are plain structs with public fields (`PrefixLists`, `Index`,
+//! `Offered`, `Ranking` of `p21_express_graph`): what they hold is a condition that each call names (`AreRunPrefixes`,
+//! `IsIndex`), and `Schema` keeps them in private fields behind the invariant of its model. The names of a schema are
+//! resolved with its contents alone, so `p21_express_outline` stands on `p21_express_graph` and needs no `Schema`.
+//!
+//! The head of `tables` of `p21_express_tables` says which tables stand behind the model of `Schema`.
+//! `p21_express_graph` makes those that follow from names, supertypes and types alone, and has three helpers for that:
+//! `settled_order` lists numbers so that each stands behind those that come next to it, `collected_lists` uses that
+//! list to visit each number once, and `inverted_lists` inverts a table of lists. `PrefixLists` has the order of each
+//! entity as the front of a run, and `all_above` (`specs/Above`) the front in whose index `is_a` looks for a proper
+//! supertype, and those outside of it; `sharing` takes the front of a supertype where that saves an index. `rising`
+//! keeps the closure of each entity, rising by name, where it has 64 entities at most; that table is complete in every
+//! schema (`specs/RisingSets`). `own_sets` keeps whether the closure has two entities of one ONEOF list: a schema is
+//! made with an empty table, which `new` fills and `without_own_sets` leaves empty. `Holders` (`holders`) has for each
+//! ONEOF list the entity that was noted there last, and for which closure (`noted_in` of `specs/NotedEntities`). What
+//! this table doesn't have is computed when it is asked for, so that every answer is right at any moment. `redeclarers`
+//! has the entities that redeclare each place, and where in its lists each entity redeclares a place; `decision_among`
+//! decides by entities of which those count that are the closure's (`AreMembers` of `specs/Decisions`), so that one
+//! walk serves sets and closures. `with_redeclarations` makes anew only what depends on redeclarations:
+//! `proofs/UnchangedTables` shows that each other table is determined by names, supertypes and types alone.
 #![tactic(auto)]
 
 mod above;

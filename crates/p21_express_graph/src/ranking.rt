@@ -1,3 +1,5 @@
+//! Names of entities are put in order twice, where they are kept and where the entities are ranked. Each order by name
+//! after that sorts ranks, which are numbers.
 ghost use Rattle.std.specs.Prelude.{◌≡◌, ◌<◌, ◌^◌, ℕ, List, Some, length, map, slice_get, slice_index_or, Contains, IfOk};
 ghost use Rattle.std.specs.List.{AllZip};
 ghost use Rattle.p21_spec_schema.specs.Schema.{EntityNamed};

@@ -48,6 +48,7 @@ pub fn lexemes_are_laid()
 {}
 
 impl<'a> Lexemes<'a> {
+    /// The lexemes of a text, of which none is read.
     pub fn new(text: &'a [u8]) -> Lexemes<'a>
         ensures { result ≡ lexemes_of text.now }
     {

@@ -1,3 +1,7 @@
+//! The attributes of one declaration share their type (an `Arc` in `Attribute` and in `Redeclared`), which is resolved
+//! once, and only where one of them is new, or redeclared. So a type takes memory by what is written of it, and not
+//! again for each name before it: a thousand names of one type that is 32 lists deep have one type of 33 parts. A
+//! declaration of one name takes a block more. What is asked for a place is a borrow of the type, as before.
 ghost use Rattle.std.specs.Prelude.{[], ◌∷◌, ◌++◌, ◌≡◌, ◌<◌, ◌↔◌, length, map, IfOk, IsTrue, OnOk};
 ghost use Rattle.std.specs.Arc.{arc_value};
 ghost use Rattle.p21_express_outline.specs.Finding.{AddsEach, FindsEach};

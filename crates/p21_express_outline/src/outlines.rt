@@ -1,3 +1,6 @@
+//! The outline copies words, so that the declarations stay whole for the redeclarations. It refuses a type that is just
+//! the name of an entity; one that is just the name of a SELECT is refused later, since that is a fact of the whole
+//! schema.
 ghost use Rattle.std.specs.Prelude.{◌≡◌, ◌+◌, ◌≤◌, length, map};
 ghost use Rattle.p21_express_outline.specs.Finding.{AddsEach, FindsEach};
 ghost use Rattle.p21_express_outline.specs.Known.{AreFew, names_of};

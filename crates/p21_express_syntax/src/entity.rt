@@ -1,3 +1,5 @@
+//! ONEOF is read ahead on a copy of the reader (two slices) and, where it isn't exactly a list of names, the run is
+//! read over from its start.
 ghost use Rattle.std.specs.Prelude.{◌≡◌, codes};
 ghost use Rattle.p21_spec_schema.specs.Run.{is_word, is_symbol, none};
 ghost use Rattle.p21_express_lexemes.specs.Taking.{TakesExpected, ReadBy, WasTaken};

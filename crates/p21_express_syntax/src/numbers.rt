@@ -1,3 +1,5 @@
+//! `?` as an upper bound is taken like digits: behind either one an operator or a name is refused as S6, since bounds
+//! by an expression aren't read, and a number as S2.
 ghost use Rattle.std.specs.Prelude.{◌≡◌, ◌<◌, ◌≤◌, MatchOption};
 ghost use Rattle.p21_spec_basics.specs.Digits.{AllDigits, number};
 

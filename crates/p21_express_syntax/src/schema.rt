@@ -1,3 +1,4 @@
+//! Entities and types are kept as two lists, each in the order of the text: no rule looks at the order between them.
 ghost use Rattle.std.specs.Prelude.{◌≡◌, ◌+◌, ◌≤◌, ◌<◌, codes, length};
 ghost use Rattle.p21_spec_schema.specs.Run.{is_word, none};
 ghost use Rattle.p21_express_lexemes.specs.Lexemes.{lexemes_of};

@@ -1,3 +1,5 @@
+//! `Base` stands in `p21_express_tables`, beside the look-ups, and not in `p21_express_graph`: many crates that stand
+//! on the latter don't need it.
 ghost use Rattle.p21_spec_schema.specs.Schema.{defined};
 ghost use Rattle.p21_express_graph.specs.Meaning.{type_use};
 ghost use Rattle.p21_express_graph.specs.DirectRenaming.{IsEnd};

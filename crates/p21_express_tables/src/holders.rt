@@ -1,3 +1,7 @@
+//! Whether closures clash is found with one table of all ONEOF lists. Each entity of a closure is noted at its lists,
+//! with the number of the entity whose closure it is; so nothing is cleared between two closures, a note costs a few
+//! steps where a tree would cost a walk, and what a closure costs is at most the lists in which its entities stand. A
+//! set of a file has a tree of its own in place of the table, since the schema may have many more lists than the set.
 ghost use Rattle.std.specs.Prelude.{◌≡◌, ◌≢◌, ◌↔◌, ◌++◌, ◌∷◌, ◌<◌, [], ℕ, List, length, slice_get, IfOk, IsTrue, MatchBool, Some};
 ghost use Rattle.std.specs.List.{AllByRecursion as Each};
 ghost use Rattle.std.specs.BTreeMap.{get};

@@ -1,3 +1,6 @@
+//! Two walks decide which redeclaration counts. Of the entities of a set that redeclare a place, the first walk keeps
+//! one after another, each a subtype of the one kept before it, and the second compares the last with all. If one of
+//! them is a subtype of all others, it is that last one; so no other has to be compared.
 ghost use Rattle.std.specs.Prelude.{◌≡◌, ◌↔◌, ℕ, List, IsTrue, Contains, MatchOption, IfSome, Some};
 ghost use Rattle.p21_spec_schema.specs.Schema.{Redeclared as MeantRedeclared};
 ghost use Rattle.p21_spec_schema.specs.PlaceType.{TypeAt, IsDerivedIn};

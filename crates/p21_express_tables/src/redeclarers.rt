@@ -1,3 +1,16 @@
+//! What decides at a redeclared place is kept for no entity, but looked up by the place, so that an entity that only
+//! inherits redeclarations costs nothing. Of the entities that redeclare the place and those of the closure the fewer
+//! are looked at: a place that many siblings redeclare costs as much as the closure is deep, and a place that one of a
+//! long chain redeclares costs one step. Where one entity alone redeclares a place, it decides where it is a supertype,
+//! which is mostly seen by two comparisons: the orders of both are fronts of one run, and its own is no longer. The
+//! entities that redeclare a place stand in a table, by the entity that declares it and its number there; whether one
+//! of them derives it, and where in a list it redeclares it, is found in a tree by the place. A decision says which
+//! entity, and which of its redeclarations, and no type is copied. Whether a closure leaves a place open is found in
+//! the same way, place by place, where it is asked for: an instance writes at least two bytes for each place. In a set
+//! that is no closure the fewer are looked at too: of the entities that redeclare the place those count that are in the
+//! set, which is seen in a tree where it has more than 16 (`type_among`). So a record with many parts, each of which
+//! redeclares one attribute of another, costs a look-up for each and no walk. The shorter way has no such tree: it
+//! leaves an instance to the general way where such a set redeclares the attribute.
 ghost use Rattle.std.specs.Prelude.{◌≡◌, ◌≢◌, ◌++◌, ◌∷◌, [], ◌<◌, ◌≤◌, ◌^◌, ℕ, length, map, slice_get, Contains, IfOk, OnOk, Some};
 ghost use Rattle.p21_spec_schema.specs.Schema.{Entity as MeantEntity, Place as MeantPlace, Schema as Meant};
 ghost use Rattle.p21_express_graph.specs.Meaning.{place as place_of};

@@ -1,3 +1,9 @@
+//! The model of `Schema` is the pure schema itself and not a record of the program's: so no caller meets a table, and
+//! tables may change under one contract. The price is that schemas have to be coded as numbers and lists
+//! (`specs/Coding`), on which nothing that is claimed rests.
+//!
+//! An entity has fewer than 2^32 attributes (a text of 16 MB can't write more): this is a field of `HoldsTogether`,
+//! since the place is numbered by a u32.
 ghost use Rattle.std.specs.Prelude.{◌≡◌, ◌↔◌, ℕ, IsTrue, length, map, ◌++◌, slice_get, Contains, MatchOption, IfOk, OnOk, Some};
 ghost use Rattle.p21_spec_schema.specs.Schema.{EntityNamed, TypeNamed, PlaceNamed, IsAbstract, entity_member, kind_of, attribute_at, attributes_of};
 ghost use Rattle.p21_spec_schema.specs.Select.{Offers};

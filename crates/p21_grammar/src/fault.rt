@@ -1,3 +1,5 @@
+//! Fault 26 is one variant, `LeftOut(part)`, whose name has the part in parentheses: `LeftOut(Scope)`. So a caller can
+//! tell the parts apart by the type, and they share one number.
 use p21_tokens::{Absent, TokenFault};
 use std::alloc::{AllocError, AllocFailed};
 use thiserror::Error;

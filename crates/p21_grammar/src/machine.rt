@@ -1,3 +1,6 @@
+//! One value holds what was taken last, and the open row of parameters stands beside it. A parameter enters its row
+//! when it comes. So most tokens touch one vector and one small state, and no list is copied on its way up: `)` moves
+//! the vector.
 ghost use Rattle.std.specs.Prelude.{◌≡◌, ◌↔◌, IfOk, IfErr, IsTrue, true};
 ghost use Rattle.p21_spec_exchange.specs.Parameter.{key_of};
 ghost use Rattle.p21_grammar.specs.Stage.{is_in_data};

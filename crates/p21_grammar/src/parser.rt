@@ -1,3 +1,4 @@
+//! A refused parser keeps its depth, and nothing else: `depth` answers that of the tokens taken.
 ghost use Rattle.std.specs.Prelude.{◌≡◌, ◌≤◌, ◌↔◌, IsTrue, true, Some, None, Err, IfErr, IfOk};
 ghost use Rattle.p21_spec_basics.specs.History.{StandsForEmptyHistory};
 ghost use Rattle.p21_spec_exchange.specs.OpenNesting.{IsDepth};

@@ -1,3 +1,6 @@
+//! Statements are judged twice. Token by token the machine knows only what is open; at each `;` one small type,
+//! `Stage`, says whether a file has this statement there. So the order of a file and the shape of its header are tested
+//! in one place, and the proof divides there too.
 ghost use Rattle.std.specs.Prelude.{◌≡◌, ℕ};
 ghost use Rattle.p21_spec_exchange.specs.Record.{Record};
 ghost use Rattle.p21_spec_exchange.specs.Statement.{section, header, instance, section_end};

@@ -1,3 +1,8 @@
+//! External mapping has one simple record at least. The grammar gives no empty one. A check that is called on its own
+//! with an empty one refuses it, since it means nothing.
+//!
+//! `Parts::from_vec` answers `None` for no records, so that the type of a record of external mapping says that it has
+//! at least one.
 ghost use Rattle.std.specs.Prelude.{◌≡◌, ◌<◌, [], length, IfSome, IfNone};
 
 use crate::param::{Key, Params};

@@ -1,3 +1,10 @@
+//! A record is checked by value: `check_owned_record` takes it and moves its texts, numbers and names into the typed
+//! record. Recursion follows the parameter alone; renamed types are passed in a separate step without recursion. So
+//! whoever could build and drop a parameter can have it checked, and callers owe no bound on its depth.
+//!
+//! `check_record` copies the record and checks the copy. So the check has one walk and one proof. A number or a binary
+//! is copied by its canonical spelling, a text character by character, so that the crates below need no copies; a
+//! session uses `check_owned_record` and copies nothing.
 ghost use Rattle.std.specs.Prelude.{◌≡◌, IfOk, MatchResult};
 ghost use Rattle.p21_express_graph.specs.Orders.{numbers};
 ghost use Rattle.p21_express_graph.specs.Resolved.{HoldsTogether};

@@ -1,3 +1,5 @@
+//! The positions of more than 16 entities of a record are kept by number, in a tree and not in a hash table, so that no
+//! choice of entities slows a look-up; fewer are looked at one by one, with no memory.
 ghost use Rattle.std.specs.Prelude.{◌≡◌, ◌↔◌, Contains, IfOk, IsTrue};
 ghost use Rattle.std.specs.BTreeMap.{get};
 ghost use Rattle.std.specs.Ordering.{nat_cmp};

@@ -1,3 +1,6 @@
+//! Why the set of an entity is refused is asked in the order of the refusals, and the set is walked for the last reason
+//! alone, so that a record of an abstract entity, or one of a set that clashes, costs no walk. A set whose places stay
+//! open is walked each time.
 ghost use Rattle.std.specs.Prelude.{◌≡◌, ℕ, Contains, MatchBool, MatchResult, IfOk};
 ghost use Rattle.p21_spec_exchange.specs.Record.{simple, complex};
 ghost use Rattle.p21_express_graph.specs.Lookups.{AreEntities};

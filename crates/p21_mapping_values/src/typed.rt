@@ -1,3 +1,4 @@
+//! The typed record rises by keyword, so the external form is written without sorting.
 ghost use Rattle.std.specs.Prelude.{◌≡◌};
 
 use crate::value::Values;

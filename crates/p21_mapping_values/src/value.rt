@@ -1,3 +1,5 @@
+//! List types of a recursion have no Model (the toolchain gives none to types that contain one another): contracts see
+//! `Values` by `list_of`. `Ids` and `Rows` are outside the recursion, so their Model is the list itself.
 ghost use Rattle.std.specs.Prelude.{◌≡◌};
 
 use p21_express_graph::TypeId;

@@ -1,3 +1,5 @@
+//! `write_value` asks less than that the value fits a type: only that the types that its keywords name are of the
+//! schema. Each value that fits meets this, so no proof of fit has to be carried to the printer.
 ghost use Rattle.std.specs.Prelude.{◌≡◌, ◌++◌, OnErr, OnOk};
 ghost use Rattle.p21_spec_file.specs.Sorting.{sort_texts};
 ghost use Rattle.p21_spec_file.specs.ValueText.{list_text, value_text, value_texts};

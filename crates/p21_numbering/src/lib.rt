@@ -1,4 +1,19 @@
 //! The numbers that a model gives its instances: ranks of the nodes of a graph, round by round.
+//!
+//! `p21_numbering` makes the node of an instance from its typed record (`node`), and ranks the nodes of a graph
+//! (`ranks`). A node has a name, a label as a row of numbers, and its references with the ways to them (`uses_in`). The
+//! label is the text of the record with other names, each of them 0 (`src/labels`, `src/renaming`: an empty map of new
+//! names gives 0); `specs/Nodes` says of which graph such nodes are (`IsGraph`), and `specs/NodesOf` of which file
+//! (`AreNodesOf`). Labels and ways are ranked by sorting (`src/rows`), so that numbers stand for them
+//! (`proofs/PlaceNumbers`). `src/edges` has each use once, by the numbers of both nodes and of the way, and
+//! `src/adjacency` those of each node side by side; `Represents` (`specs/Arrays`) is what ties these arrays to a graph,
+//! and `proofs/Graphs` shows it.
+//!
+//! A round (`src/rounds`) makes the key of each node as a row of numbers, ranks these rows, and finds by two passes
+//! over all nodes which are fresh. `proofs/RoundKeys` shows that such rows compare as the keys of the definition, and
+//! `proofs/Telling` that rounds over arrays are those of the definition. A round costs a sort of all rows, so r rounds
+//! over n instances cost r n log n, and a path of n equal instances has n / 2 rounds. No call above the crate ranks a
+//! file yet, so nothing was measured.
 #![tactic(auto)]
 
 mod adjacency;

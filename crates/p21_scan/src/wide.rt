@@ -1,4 +1,7 @@
 //! Bytes of a class, tested 32 at a time.
+//!
+//! The proofs `wide/no_*` look alike: each cites one lemma (`mask-tests` in `proofs/Lanes`) with the test of its own
+//! class, which the prover can't find.
 ghost use Rattle.std.specs.Prelude.{◌≡◌, ◌<◌, false, length, map, slice_index};
 ghost use Rattle.std.specs.Simd.Lanes.{mask_l};
 ghost use Rattle.p21_scan.specs.Class.{AreOfClass, is_of_class, is_of_other_class};

@@ -1,5 +1,9 @@
 //! What follows from the definitions alone, up to the claim that each meaning has one canonical file: the laws of values and
 //! records, of files, and of a session that takes statement by statement. It holds no code beside them.
+//!
+//! The laws that lead to the claim stand in `p21_spec_laws`, in three modules: records and their printing cite those of
+//! `records`, sessions those of `files`, and what a session keeps, statement by statement, those of `sessions`. The
+//! statement of each law stands in `specs/*Laws`. docs/CLAIM.md has the order of the argument.
 #![tactic(auto)]
 
 mod files;

@@ -1,6 +1,23 @@
 //! Whole files: read in pieces, accepted or refused, written in their canonical form, and compared. A session reads a file
 //! piece by piece: its statements are checked as they come, and what they leave is kept. A survey leaves out the instances
 //! that are refused, and lists them.
+//!
+//! A session is a `StatementReader` (`p21_stream_statements`), a `Kept` (`p21_stream_kept`) and a refusal.
+//! `StatementReader::step` speaks of bytes and statements alone, `Kept::take_*` of statements alone; neither knows the
+//! other. A `Walk` (`p21_stream/src/walk`) reads a file piece by piece, generic over what is kept (`Keeper`,
+//! `src/keeper`): by the ghost members of that trait `specs/Walk` says what a token, an instance and a piece give, and
+//! `proofs/Walking` has a lemma for each branch, once for a session and for a survey. `IsLive` there joins the
+//! statement reader and what is kept. `Progress` is a walk over a `Kept` with the refusal that is answered again.
+//!
+//! A session keeps to its limits (`IsBounded`) by an invariant of its type: while it has refused nothing, it stands for
+//! some bytes, and these have no fewer bytes than references. So `Kept` is asked to take an instance only where it
+//! stands in a tree behind the statements that are kept, with fewer than 2^64 tokens (`Follows`), and the count of
+//! references can't overflow.
+//!
+//! `p21_stream` has the calls on whole files. `accept` feeds a session piece by piece: `feed_all` is the loop,
+//! `feed_piece` does one read and feeds what it gave, and `proofs/Feeding` has a lemma for each branch. `same_meaning`
+//! reads both files by `read_whole`: what is kept of the first goes into the session of the second
+//! (`AnySession::beside`), and neither is put into order.
 #![tactic(auto)]
 
 mod any_session;

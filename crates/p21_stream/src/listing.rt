@@ -1,4 +1,9 @@
 //! The refusals that one reading finds of a file.
+//!
+//! `check --all` goes on behind refusals of records, of names and of references alone. Behind a wrong byte or statement
+//! nobody knows what the next one is, and a wrong header or schema name makes every record wrong. So any other refusal
+//! is the last of the list, and of references nothing is said then, since their targets may stand in what wasn't read.
+//! 24 EndsEarly is one of these.
 ghost use Rattle.std.specs.Prelude.{◌≡◌, ◌≢◌, ◌≤◌, ◌<◌, ◌+◌, ◌⊎◌, ◌^◌, length, IfErr, IfOk, OnErr, OnOk};
 ghost use Rattle.p21_spec_basics.specs.Limits.{Limits as MeantLimits};
 ghost use Rattle.p21_spec_schema.specs.WellFormed.{IsWellFormed};

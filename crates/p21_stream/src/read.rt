@@ -1,4 +1,8 @@
 //! Reading a file to its end.
+//!
+//! `accept` is public: it reads a file to its end and gives `Accepted`. `rewrite` stands on it, and a caller that shows
+//! or counts instances needs it too. `same_meaning` doesn't: it puts no lines into order, and keeps none of the second
+//! file.
 ghost use Rattle.std.specs.Prelude.{◌≡◌, ◌≤◌, ◌+◌, ◌<◌, length, IfErr, IfOk, Ok, OnOk};
 ghost use Rattle.p21_stream.specs.Bounds.{StaysKept};
 ghost use Rattle.p21_stream.specs.Feeding.{FeedsMore, IsFedWhole, RefusesFedBytes, RefusesPiece, TakesAtMost};

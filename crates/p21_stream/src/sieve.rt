@@ -1,3 +1,30 @@
+//! An instance that is refused is left out, and its name counts as come. A second instance of its name is refused as
+//! 40. Its set of entities isn't known, so nothing is said of references to its name, even if another instance of the
+//! name is accepted: a list blames nothing that may be right.
+//!
+//! The name is judged before the record, as by `check`, and an instance has one refusal; of what is refused as 40 the
+//! record isn't checked.
+//!
+//! A refused record has no canonical line, and counts for no limit. So 27 comes where the lines of the other statements
+//! are too long.
+//!
+//! `Sieve` (`sieve` of p21_stream) stands beside `Kept` and wraps it: it takes statements, keeps those that are right,
+//! and lists the others. A session that only accepts or refuses has no part in it, and pays nothing for it.
+//!
+//! A survey takes instances straight from their bytes too. What such an instance needs of the sieve is one look-up, of
+//! its name among those that were refused.
+//!
+//! A survey has a `Sieve` (`src/sieve`) around what is kept. `AreSifted` joins three lists, built statement by
+//! statement: the statements given, those that passed, and the refusals of the others; what is kept is kept of those
+//! that passed (`Sifts`). These stand in a tree too, since a tree without an instance is a tree (`passed-first` in
+//! `proofs/Sifted`), so that `Kept` may be asked to take the next one. Where an instance was refused, all bytes that
+//! begin so are dead (`refused-dead`); so a survey owes for the bytes nothing but the statements that they begin with.
+//! A `Surveying` (`p21_stream`), a sieve with the number of refusals that are asked for, is the other `Keeper`:
+//! `specs/Surveying` says what it keeps, and what is left of it where a refusal ends the reading (`proofs/Keepers`),
+//! `specs/SurveyReading` what a reader gives (`proofs/SurveyFeeding`, `SurveyEnding`), and `specs/Survey` what a list
+//! says. A statement has one refusal at most (`ListsOne`), and as many as were asked for aren't listed before each step
+//! (`is_full` of `Keeper`), or the survey stops (`StopsWithin`, `ListsAtMost`). What `check --all` prints of a list is
+//! `specs/CheckAll` of `p21_commands` (`listed_text`).
 ghost use Rattle.std.specs.Prelude.{◌≡◌, ◌≢◌, ◌≤◌, ◌∷◌, [], length, IfErr, OnOk};
 ghost use Rattle.p21_spec_laws.specs.Keeping.{nothing_kept};
 ghost use Rattle.p21_spec_exchange.specs.Statement.{instance};

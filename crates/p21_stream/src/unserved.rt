@@ -1,4 +1,7 @@
 //! The references that no instance serves.
+//!
+//! Each reference that isn't served has a line of its own, so the same line may stand more than once: for each of an
+//! instance's references in the order of its parameters.
 ghost use Rattle.std.specs.Prelude.{◌≡◌, ◌≤◌, ◌+◌, length, OnOk};
 ghost use Rattle.std.specs.List.{AllZip};
 ghost use Rattle.p21_spec_laws.specs.Keeping.{Kept as MeantKept};

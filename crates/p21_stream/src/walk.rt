@@ -1,4 +1,12 @@
 //! A file that is read piece by piece, whatever is kept of its statements.
+//!
+//! `Walk::read` is proved by what the rest of a piece gives: what the rest gives, the piece gives (`IsRest` in
+//! `proofs/Walking`). Its loop over `advance` counts its rounds, since a token that waited is given without a further
+//! byte: each round gives a token or more, and a file has no more tokens than bytes, which 64 bits count. `advance`
+//! first has `pass_instances` take whole instances straight from their bytes, each by `pass`. They give as much as
+//! their tokens would (`HasPassed` in `proofs/PassedInstances`), and where there is none nothing changes (`PassGives`
+//! in `specs/Walk`); then `step` takes one token. What is found of such an instance (`IsFoundIn`) is what
+//! `Keeper::take_found` asks for.
 ghost use Rattle.std.specs.Prelude.{◌≡◌, ◌<◌, ◌^◌, [], IfErr, OnOk, None};
 ghost use Rattle.p21_spec_schema.specs.Schema.{Schema as Meant};
 ghost use Rattle.p21_stream_statements.specs.Source.{IsOfBytes};

@@ -1,4 +1,10 @@
 //! Reading in pieces and writing whole texts. No call is tried again.
+//!
+//! The program has its own loops to read and write, since those of std assume short reads and retry an interrupted call
+//! without an end that can be proved.
+//!
+//! The program has its own loops to read and write, since those of std assume short reads and retry an interrupted call
+//! without an end that can be proved.
 ghost use Rattle.std.specs.Prelude.{◌≡◌, ◌+◌, ◌<◌, ◌≤◌, length, IfOk, OnErr, OnOk};
 ghost use Rattle.std.specs.Io.KnownBytes.{Appends, ReadConsumes};
 ghost use Rattle.p21_stream_io.specs.Transfer.{AppendsPartOf};

@@ -1,4 +1,7 @@
 //! A reader or a writer whose calls are counted.
+//!
+//! A watched reader or writer has methods of its own rather than impls of `Read` and `Write`, so that no call can
+//! bypass the counts (`read_to_end` and `write_all` of std retry interrupted calls).
 ghost use Rattle.std.specs.Prelude.{◌≡◌};
 ghost use Rattle.std.specs.Io.{ReadsAtMost, WritesAtMost};
 ghost use Rattle.std.specs.Io.KnownBytes.{ReadConsumes, WriteAppends};

@@ -1,5 +1,12 @@
 //! Whether large sets serve what is wanted of them, remembered under one schema, and why no instance serves the references that
 //! wait.
+//!
+//! What a large set doesn't serve is found once in each look at the references that wait, and once at the end, for all
+//! that want the same of it (`Judgements`): so a thousand references that are looked at together cost one walk through
+//! the set and a look-up each, and so does a list of refused references. That an entity serves is remembered from look
+//! to look, since it can be asked again; that none does can't be asked again for less than the walk, and nothing binds
+//! what is remembered to the schema of the next call, so that `look_again` leaves exactly the references that none
+//! serves. Where there is no memory to remember it, the set is walked for each reference, and no refusal comes of it.
 ghost use Rattle.std.specs.Prelude.{◌≡◌, ◌↔◌, ◌⊎◌, ◌<◌, ◌++◌, ◌∷◌, [], List, Some, length, slice_get, IfOk, IfSome, IsTrue};
 ghost use Rattle.std.specs.List.{AllZip};
 ghost use Rattle.p21_express_graph.specs.Meaning.{member};

@@ -1,3 +1,4 @@
+//! A header line is appended before it is measured; if it is too long, the session refuses and never writes it.
 ghost use Rattle.std.specs.Prelude.{◌≡◌, ◌≢◌, ◌≤◌, ◌↔◌, ◌+◌, [], Contains, IfErr, IsTrue, OnErr, OnOk, length, map, nat_eq, true, vec_capacity};
 ghost use Rattle.std.specs.List.{AllZip, IsDistinct};
 ghost use Rattle.p21_spec_basics.specs.Limits.{Limits as MeantLimits};

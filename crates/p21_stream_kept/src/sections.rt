@@ -1,4 +1,8 @@
 //! The data sections of a file, with their names.
+//!
+//! Two files are held against each other by the numbers of their sections. Names of sections are compared once for each
+//! section, at the end, and the number of the section of the earlier file is kept for each of the later one; then an
+//! instance costs a comparison of two numbers. It is for these numbers that `same` asks for memory at the end.
 ghost use Rattle.std.specs.Prelude.{◌≡◌, ◌<◌, ◌≤◌, ◌+◌, ◌++◌, ◌∷◌, ◌↔◌, [], length, Contains, IfOk, IfSome, IsNone, IsTrue, List, OnOk, Some, slice_get, ℕ};
 ghost use Rattle.std.specs.List.{AllByRecursion as Each};
 ghost use Rattle.p21_spec_laws.specs.Keeping.{headings_behind};

@@ -1,4 +1,15 @@
 //! Which entity of a set serves a need, as it was found before.
+//!
+//! Which entity of a set with more than 16 serves a need is remembered (`Servers`), by the number of the set and by
+//! what is wanted, so that a reference costs one look-up and no walk through the set. What is remembered is a place,
+//! and the entity there is asked again before it counts: so it owes nothing, and needs no relation to the schema. Where
+//! none is known to serve, the set is gone through once in each look.
+//!
+//! Where the entity stands that serves is guessed for all other sets, from the membership and the entity that is
+//! wanted, by a table of 1,024 bytes in `Servers`. The entity there is compared with the one that is wanted, which is
+//! one comparison and a branch that nearly always goes one way, in place of a walk through the set that ends somewhere
+//! else each time. A guess that is wrong costs that comparison; it is made anew where a reference is looked at. What a
+//! select offers isn't guessed: a test of the kind of what is wanted made the boundary model slower by one per cent.
 ghost use Rattle.std.specs.Prelude.{◌≡◌, ◌<◌, ◌≤◌, false, length, IfSome, IsSome, IsTrue, OnErr};
 ghost use Rattle.p21_express_graph.specs.Meaning.{member};
 ghost use Rattle.p21_spec_file.specs.Reference.{Serves};

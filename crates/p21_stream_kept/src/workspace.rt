@@ -1,3 +1,11 @@
+//! What a general instance uses again: the line, the parser's stack of open rows, and the order and the set of its
+//! entity, which the schema keeps. Each parameter is moved into the value that it means, so that no text or number is
+//! copied. A set of entities is made anew only where it has more than 64, or the record is of external form (`Ids`).
+//!
+//! Rows of parameters and of values are made anew for each instance. Emptied rows were used again once. That brought
+//! 240 of 11,300 instructions of a point, and hardly any time (docs/dev/LAYERS.md), since glibc keeps blocks of each
+//! size at hand; it cost 240 lines, an argument of `Parser::take`, another call beside `check_owned_record`, and
+//! contracts that spoke of rooms. So it was taken out.
 ghost use Rattle.std.specs.Prelude.{◌≡◌, ◌<◌, ◌≤◌, []};
 ghost use Rattle.std.specs.Vec.{vec_capacity};
 

@@ -1,3 +1,7 @@
+//! An accepted file keeps the number of the statement that was open at the end of its bytes, which `finish` gives it,
+//! so that `Accepted::write_to` answers the refusal 92 as `rewrite` does. That is eight bytes a file. `Refusal` stands
+//! with `Fault`, below all that refuses files. `NoMemory`, `ReadFault` and `WriteFault` are one case each; their
+//! numbers and names are those of the fault that a caller makes of them: 90, 91 and 92.
 ghost use Rattle.std.specs.Prelude.{◌≡◌, ◌≤◌, ◌<◌, ◌↔◌, ℕ, length, Contains, IfErr, IfSome, IsNone, IsTrue, OnErr, OnOk};
 ghost use Rattle.std.specs.Io.KnownBytes.{Appends};
 ghost use Rattle.p21_stream_output.specs.Output.{HasLines, IsLineOf, output_text};

@@ -1,4 +1,11 @@
 //! The canonical file piece by piece, into a buffer of the caller's.
+//!
+//! A reading of a canonical file is three numbers, which its caller keeps (`Cursor`): a part, a line of it, and a byte
+//! of that. So it takes no memory and nothing has to be let go, several read one file side by side, and `Accepted`
+//! stays as it is. A line is found by its number, so a call costs what it puts and some look-ups for each line, and
+//! never walks through what was read. What a section ends with counts to its last line, so that each line has a byte
+//! and each step one. From numbers that no reading came by, `read` goes on from some place or finds nothing left, so a
+//! caller owes nothing for them.
 ghost use Rattle.std.specs.Prelude.{◌≡◌, ◌<◌, ◌≤◌, ◌+◌, ◌-◌, ◌^◌, ℕ, [], ◌∷◌, ◌++◌, get_or, length, take, drop, MatchOption};
 ghost use Rattle.p21_stream_output.specs.Reading.{IsFrontOf, IsNext, Takes, behind_line, header_lines, line_at, lines_at, rest_of, section_lines, start};
 ghost use Rattle.p21_stream_output.specs.Stored.{ArePositions, texts_at, written_section};

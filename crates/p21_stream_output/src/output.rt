@@ -1,4 +1,7 @@
 //! Lines on their way to a writer.
+//!
+//! What `write_to` writes waits in 64 KiB on the stack. Without that, a file of lines out of order would cost a system
+//! call a line; and the stack takes no memory. Nothing waits once the call has answered.
 ghost use Rattle.std.specs.Prelude.{◌≡◌, ◌++◌, map, OnErr, OnOk};
 ghost use Rattle.std.specs.Io.KnownBytes.{Appends};
 ghost use Rattle.p21_stream_output.specs.Output.{header_text, line_of, lines_of, section_text, sections_text, written_text};

@@ -1,3 +1,10 @@
+//! Fault 26 keeps what is left out inside the lower fault, and 91 and 92 are named `ReadFault` and `WriteFault`. Want
+//! of memory is one fault, whichever layer met it.
+//!
+//! `Fault::Token` holds the lexer's own faults, though two of them never come of a file: that of a text that is no
+//! single parameter, which only `p21 param` answers, and want of memory, which is `NoMemory`. A type without these two
+//! would repeat fourteen names, numbers and sentences. Instead each call that reads a file says in its contract that
+//! they never stand in its refusal (`IsOfBytes`).
 ghost use Rattle.std.specs.Prelude.{◌≡◌};
 ghost use Rattle.p21_stream_statements.specs.Fault.{fault_number, fault_name};
 

@@ -1,4 +1,14 @@
 //! The statements of a file that comes in pieces, by a lexer and a parser behind it; and why a file is refused, and where.
+//!
+//! Where a refusal stands in the file is found without a second reading. The lexer counts the bytes that it has taken,
+//! and notes where the open token and the statement begin (`Starts`, p21_tokens), which its view leaves out: `Places`
+//! says both, and `Place::of` (p21_stream_statements) which of them a fault has. Of a byte that no token goes on with
+//! it is proved that it is the refused one (`RefusesByteAt`, carried through the walk by `StepPlaces` and `places` of
+//! `IsRest`); the other places are held against `FAULTS` of `tests/tools_where.py` by rows in any cut (`places` of
+//! `p21_test_stream`). What stands inside a header record or the line of a section is found by reading that statement
+//! alone once more, from its bytes: of a statement that is open at the end of a piece these are kept (`Source`), and
+//! given up with its `;`. An instance that is taken straight from its bytes notes where it begins only where it is
+//! refused (`note_statement`).
 #![tactic(auto)]
 
 mod fault;

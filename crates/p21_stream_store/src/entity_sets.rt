@@ -1,4 +1,13 @@
 //! Sets of entities by number.
+//!
+//! An entity set is kept once, and has a number (`EntitySets`); a membership is the number of a section and that of a
+//! set, 16 bytes however large the set is. A tree finds both: with a hash whose seed is fixed, whoever writes the file
+//! chooses the sets that collide. There sets of fewer entities come first, so that most are told apart by their
+//! lengths. Before the tree, one or two of 64 remembered memberships are compared, which nearly all instances need
+//! alone: so two sets that take turns cost no search. Entities are compared 16 at a time, in lanes. An instance still
+//! costs a comparison of its whole set, since nothing but equal entities says that a set is the one with a number. A
+//! tree is asked by a key of its own type: so the entities that are looked for stand in a list that has room for those
+//! of the largest set, and a set that is there is found without asking for memory.
 ghost use Rattle.std.specs.Prelude.{◌≡◌, ◌<◌, ◌≤◌, [], length, slice_get, vec_capacity, Contains, IfOk, None, OnErr, OnOk, Some};
 ghost use Rattle.std.specs.BTreeMap.{get_by};
 ghost use Rattle.p21_mapping_values.specs.TypedView.{ids_view};

@@ -1,4 +1,7 @@
 //! The instances that a session has taken.
+//!
+//! The kept instances are a list in an order that is left open (a permutation): where lines are kept it is that in
+//! which they came, and where none are, those whose memberships are noted stand by name in front of the others.
 ghost use Rattle.std.specs.Prelude.{◌≡◌, ◌↔◌, ◌<◌, ◌≤◌, ◌^◌, ℕ, List, [], ◌∷◌, length, slice_get, Contains, IfOk, IfSome, IsNone, IsPermutation, IsTrue, OnErr, OnOk, Some};
 ghost use Rattle.std.specs.List.{range_with_len};
 ghost use Rattle.std.specs.List.Sorted.{IsNonDecreasingBy};

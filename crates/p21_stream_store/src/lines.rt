@@ -1,4 +1,9 @@
 //! Lines that are looked up together.
+//!
+//! Lines are looked up 64 at a time where a file is written or held against a text (`Lines`). Lines in no order lie in
+//! no order in memory: one by one, each would be waited for, and looked up together many are on their way at once. They
+//! stand in an array of slices on the stack, which takes no memory. The block of a text is guessed by its number, since
+//! blocks have about as many texts each, and the guess is compared before it counts.
 ghost use Rattle.std.specs.Prelude.{◌≡◌, ◌+◌, ◌<◌, ◌≤◌, ℕ, [], ◌∷◌, ◌++◌, length, map, take, drop};
 ghost use Rattle.std.specs.List.{AllByRecursion as Each};
 ghost use Rattle.p21_stream_store.specs.Lines.{read_lines};

@@ -1,3 +1,8 @@
+//! The section of an instance is part of its membership, whose number is kept with it. An instance has that number and
+//! the start of its text beside the text itself, and its position by its name (docs/PERFORMANCE.md has the bytes of
+//! each). Where lines aren't kept, an instance whose name has a place in the table has the byte of its membership alone
+//! (`NamedMemberships`); one whose name has no byte is stored as where lines are kept, with an empty text. There is no
+//! hash table: whoever writes the file chooses the names, and with a fixed seed of the hash also the collisions.
 ghost use Rattle.std.specs.Prelude.{◌≡◌, ◌+◌, ◌<◌, [], length, slice_get, Some, IfOk, IfSome, IsSome, IsTrue, OnErr};
 ghost use Rattle.p21_mapping_values.specs.TypedView.{ids_view};
 ghost use Rattle.p21_stream_store.specs.Memberships.{AreNumberedRows, HaveOneSet, HaveSets, membership_of};

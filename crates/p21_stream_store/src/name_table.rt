@@ -1,4 +1,17 @@
 //! Names found by name.
+//!
+//! A table has the position of each name, and lines stand in the order in which they came (`NamedLines`, `NameTable`),
+//! so that nothing is kept twice. Names that came first by equal steps, as by one or by ten in nearly every file, are a
+//! run: a first one, a step and a count, which take no memory and say where each stands. Pages have the others, and a
+//! tree those that no page has. Only names in front of which all belong to the run come to it, so that its positions
+//! are known without a list. The step costs a division where it isn't one; without it each name of a file that is
+//! numbered by tens would take 40 bytes. Names that rise by no equal steps could stand in a list of their own, in 1 to
+//! 4 bytes each, where a search by halves finds them; with a page for them a look-up is one read, and in exchange they
+//! take what names in no order take.
+//!
+//! No list has the names. The view of `NameTable` needs the name at each position, and the code doesn't. There is one
+//! list at most at whose positions run, pages and tree find names; so that there is one is a fact, which a ghost field
+//! may state (`NamesOf`), and the view reads the list from it.
 ghost use Rattle.std.specs.Prelude.{◌≡◌, ◌+◌, ◌<◌, ◌≤◌, ◌^◌, ℕ, [], ◌∷◌, ◌++◌, length, slice_get, Contains, IfSome, IsNone, MatchBool, None, OnErr, OnOk, Some, true};
 ghost use Rattle.std.specs.BTreeMap.{get};
 ghost use Rattle.std.specs.Ordering.{nat_cmp};

@@ -1,4 +1,10 @@
 //! Lines of instances by name.
+//!
+//! All room is asked for before anything is added (`NamedLines::push`): first that of the text, of its start and of its
+//! membership, then that of the name, which is stored where it is found and otherwise leaves all as it was; the text is
+//! added last, and that can't fail. So nothing has to be taken back. If the last block doesn't take the text, an empty
+//! one follows it by then, which changes no text. Room for a membership is asked for in each of its widths, some 300
+//! bytes in all while there are few, so that its number needn't be known.
 ghost use Rattle.std.specs.Prelude.{◌≡◌, ◌+◌, ◌<◌, ◌^◌, ℕ, List, [], ◌∷◌, length, slice_get, Contains, IfSome, IsNone, IsPermutation, OnErr, OnOk, Some, false};
 ghost use Rattle.p21_stream_store.specs.StoredInstance.{StoredInstance, instance_names};
 

@@ -1,4 +1,11 @@
 //! The memberships of names, a byte for each, so that most references take one look.
+//!
+//! A byte for each name says its membership, so that a reference takes one look, where the way by its position takes
+//! three that leave the processor's cache: its bit, its position, and the membership there. The byte has numbers below
+//! 255, which is all memberships of usual files; where it says nothing, the name is looked up as before. It is written
+//! behind the line, so that it says the membership of an instance that is kept; where there is no room for it, nothing
+//! is said. While each instance that is kept with its line has such a byte, a name without one hasn't come, and no
+//! further look is taken (`all_noted`).
 ghost use Rattle.std.specs.Prelude.{◌≡◌, ◌≤◌, ◌*◌, ℕ, IfOk, IsOk, MatchBool, OnErr, Some};
 ghost use Rattle.p21_stream_store.specs.Pages.{HasPage, most_names};
 ghost use Rattle.p21_stream_store.specs.Positions.{Changes, IsSame, position_marked};

@@ -1,4 +1,9 @@
 //! Numbers of any size, in as few bytes as hold them.
+//!
+//! Positions stand in a list whose first part takes no memory while they rise by equal steps; behind it each takes one
+//! byte up to the first that a byte doesn't hold, then two, three, four and eight (`Numbers`). The numbers of
+//! memberships have these widths alone (`Widths`). Only memory limits the numbers. No list is copied when it gets
+//! wider, which would briefly take twice its memory.
 ghost use Rattle.std.specs.List.{range_with_len};
 ghost use Rattle.std.specs.Prelude.{◌≡◌, ◌+◌, ◌<◌, ◌≤◌, ◌^◌, [], ◌∷◌, ◌++◌, length, slice_get, OnErr, OnOk, Some};
 

@@ -1,4 +1,13 @@
 //! Tables from names to numbers, by pages.
+//!
+//! Tables by name have pages of 4,096 names (`Pages`), and room for no more names than 12 for each that they have, or
+//! than 1,048,576; other names stand in a `BTreeMap`, and move into the page of theirs once it is made. So a name costs
+//! at most 64 bytes beyond the first five megabytes, however far names lie apart, and names that lie close together are
+//! found at once, wherever that is. A table by the largest name would take memory by what whoever writes the file
+//! chooses, and a tree alone costs more time where names are shuffled. The price is that names of which fewer than one
+//! in 12 came stand in the tree. With room for 262,144 the first 83,000 names of a shuffled file of 1,000,000 stood
+//! there at first, and each was moved later; the price of the larger room is 4 MB more for a file whose names lie a
+//! page apart. A page is made behind the attempt to use it, so that a name whose page is there costs no further look.
 ghost use Rattle.std.specs.Prelude.{◌≡◌, ◌≢◌, ◌↔◌, ◌+◌, ◌*◌, ◌/◌, ◌<◌, ◌≤◌, ◌^◌, ℕ, false, length, max, min, slice_index_or, vec_capacity, vec_len, IfSome, IsNone, IsTrue, MatchBool, Ok, OnErr, OnOk};
 ghost use Rattle.p21_stream_store.specs.Pages.{HasPage, most_names, number_in, page_at, rooms};
 

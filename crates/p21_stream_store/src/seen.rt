@@ -1,4 +1,11 @@
 //! Which names have come, a bit for each.
+//!
+//! A bit for each name below 8,388,608 says which have come, so that no table is searched for a name that hasn't: in a
+//! file whose names are shuffled these are two of three look-ups, and a bit of each fits in the processor's cache where
+//! a position doesn't. That the name of an instance is new is said by its bit too (`has_name`), where the byte of its
+//! membership had to be read before it was written. Without the bits `check` of the shuffled boundary model took 1.15
+//! times as long, `canon` and `same` 1.06 times. A bit that is set claims nothing, so a push that fails leaves it. Bits
+//! of more names would take more than a megabyte for one name alone.
 ghost use Rattle.std.specs.Prelude.{◌≡◌, ◌≢◌, ◌<◌, ◌≤◌, ℕ, length, slice_index_or, vec_capacity, IsOk, OnOk, false};
 ghost use Rattle.std.specs.Int.{bit_at};
 ghost use Rattle.p21_stream_store.specs.Seen.{HasBit, MayHaveCome};

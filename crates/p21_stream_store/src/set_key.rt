@@ -1,4 +1,7 @@
 //! Sets of entities as keys of a tree.
+//!
+//! The number of a membership is guessed from the first, the last and the count of its entities, among 64 that were
+//! asked for, and compared before it counts.
 ghost use Rattle.std.specs.Prelude.{◌≡◌, refl, Some};
 ghost use Rattle.std.specs.Cmp.{eq_by_cmp_equiv, on_equiv, on_per, on_po, on_total, partial_equiv_from_equiv, po};
 ghost use Rattle.std.specs.Ordering.{eq_by_cmp};

@@ -1,3 +1,5 @@
+//! Want of memory stays possible wherever memory may run out: for a number of any length, even a bad one. The contracts
+//! exclude it only between tokens, and for a text that is too long.
 use p21_tokens_automaton::{Absent, Wrong};
 use p21_values::{NoMemory, ValueFault};
 use std::alloc::{AllocError, AllocFailed};

@@ -1,3 +1,16 @@
+//! `pending` after a refusal is what was open in front of the refused byte. So a session can say how long the record
+//! was, and the limit holds there too.
+//!
+//! `keep_run`, `put_run` and `put_utf8_run` are three functions: each keeps bytes by a different call, and then counts
+//! them twice. A common function would have to take that call as a closure.
+//!
+//! `Lexer::new` takes the allocator. It allocates nothing by itself.
+//!
+//! The lexer never says `OpenString` or `OpenComment` before the end. Inside a string or a comment, more bytes can
+//! always follow.
+//!
+//! A call of `next` answers at most one token, and how many bytes it took. The caller offers the rest again. So nothing
+//! is queued, and a piece of any size needs no memory of its size.
 ghost use Rattle.std.specs.Prelude.{◌≡◌, ◌≢◌, ◌+◌, ◌<◌, ◌≤◌, [], ◌∷◌, ◌++◌, length, take, true, false, Option, None, Some, OnOk, OnErr, IfOk, IfErr};
 ghost use Rattle.std.specs.Str.{IsUtf8, chars};
 ghost use Rattle.p21_spec_exchange.specs.Laying.{count_behind};

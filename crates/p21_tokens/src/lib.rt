@@ -1,5 +1,18 @@
 //! The tokens of an exchange structure (ISO 10303-21, tokens), read from bytes that come in pieces of any size, and the
 //! canonical spelling of one scalar parameter.
+//!
+//! `Lexer::next` (`p21_tokens`) is offered a piece, and takes bytes until a token is known:
+//!
+//! 1. Between tokens `scan` asks `leading_token` for a token that stands whole in the piece with the byte behind it,
+//! and then passes blanks. Most tokens are read this way, where they lie. All others take the next steps, in pieces of
+//! any size.
+//! 2. `walk` takes a run of like bytes at once, or gives one byte and the state to `advance` of the automaton.
+//! 3. The answer says what to do: pass over a separator, keep a byte, add a character to a string, close a token, end
+//! it before this byte, or refuse.
+//! 4. At the end of a token `read_token` has `p21_values` read the pending bytes, and a `Token` comes out.
+//!
+//! Where whole statements are read elsewhere, `lexer/passing` passes over their bytes (`specs/Passing`): behind a `;`
+//! the lexer holds what it holds at the start of a statement, and only the count of the file's bytes grows.
 #![tactic(auto)]
 
 mod fault;

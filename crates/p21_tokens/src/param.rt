@@ -1,3 +1,5 @@
+//! The lexer reads a single parameter too, so that `p21 param` and whole files can't disagree about a scalar. A second
+//! token is refused when it is known, before the rest of the text is read.
 ghost use Rattle.std.specs.Prelude.{◌≡◌, ◌≤◌, ◌↔◌, ◌++◌, ◌∷◌, [], length, IsTrue, OnOk, IfOk, MatchResult};
 ghost use Rattle.p21_spec_basics.specs.Limits.{text_limit};
 ghost use Rattle.p21_spec_exchange.specs.Token.{IsScalarToken};

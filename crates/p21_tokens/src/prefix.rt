@@ -1,4 +1,11 @@
 //! Tokens that stand whole at the front of bytes, read without a state.
+//!
+//! A token that stands whole in a piece, with the byte behind it, is read where it lies; only tokens that are cut by
+//! the end of a piece, or that need more care, go byte by byte through the states. Both ways owe the same contract, so
+//! nobody can tell which one read a token. Where memory fails for a token that is read where it lies, that is the
+//! answer: read again byte by byte it might find memory, since it then grows in smaller steps, and nobody would see
+//! that some was refused. So what reads such a token has three answers, `Option<Result<.., NoMemory>>`, and owes a
+//! proof that want of memory never comes at a separator.
 ghost use Rattle.std.specs.Prelude.{◌≡◌, ◌≤◌, false, true, IfOk, IfSome, OnErr, get_or};
 ghost use Rattle.p21_scan.specs.Bytes.{is_blank};
 ghost use Rattle.p21_tokens_automaton.specs.Step.{advance};

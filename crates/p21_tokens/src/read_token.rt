@@ -1,3 +1,10 @@
+//! The lexer keeps the bytes of a number, word, name or binary until its end, and then has `p21_values` read them. So
+//! there is one reader of each, and its range rules stand in one crate. Each byte of such a token is kept once.
+//! Instance names need only their digits, and a name out of range is refused at the digit that passes the range, so
+//! that a long name needs no memory.
+//!
+//! A last token is read by `read_ended_token`, whose `BadByte` says that the state ends no token; `read_last_token`
+//! turns it into an early end. A case of its own would be built and taken apart again for each token.
 ghost use Rattle.std.specs.Prelude.{◌≡◌, IfOk, OnErr, Some};
 ghost use Rattle.p21_spec_exchange.specs.Keyword.{IsKeyword};
 ghost use Rattle.p21_tokens_automaton.specs.Reading.{closed_token, ended_token_in, ended_name, ended_number, ended_word, single_token, marker_of};

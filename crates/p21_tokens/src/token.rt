@@ -1,3 +1,5 @@
+//! `Token::write_canonical` has four lines of its own for an item and a user-defined keyword, and doesn't call those of
+//! `p21_mapping_values`: that crate stands on the laws of files, and the tokens don't.
 ghost use Rattle.std.specs.Prelude.{◌≡◌, ◌++◌, ◌∷◌, [], OnOk, OnErr};
 ghost use Rattle.p21_spec_exchange.specs.Spelling.{spelling};
 ghost use Rattle.p21_tokens.specs.Token.{meant};

@@ -1,3 +1,6 @@
+//! A fault of form is named by the automaton. The clause names the mode in which the open bytes end and what `advance`
+//! does there, so that no rule of the standard is written a second time. The definitions say that a real is out of
+//! range where a byte or the end of the bytes ends it.
 ghost use Rattle.std.specs.Prelude.{◌≡◌};
 ghost use Rattle.p21_tokens_automaton.specs.Step.{advance};
 

@@ -1,4 +1,12 @@
 //! The text that is written of some statements.
+//!
+//! An instance for which memory is refused where it is taken straight from its bytes is refused, and doesn't go the
+//! general way. Who gives it up for that leaves a note in the draft (`Draft::note_want_of_memory`), and the loop over a
+//! piece answers want of memory where an instance isn't taken and there is a note. With a third answer beside taken and
+//! not taken each function on that way would ask after it at each token. The note is no part of a draft's value, since
+//! no clause can say that memory was refused: so none says that a note is made, or looked at. `hostile/allocations.py`
+//! refuses each allocation in turn. Clauses say that want of memory isn't answered for separators between tokens
+//! (`no_memory`).
 ghost use Rattle.std.specs.Prelude.{◌≡◌, ℕ, ◌+◌, ◌≤◌, [], ◌∷◌, ◌++◌, length, drop, take, slice_range};
 ghost use Rattle.p21_spec_basics.specs.Digits.{AllDigits};
 ghost use Rattle.p21_scan.specs.Digits.{WithoutTrailingZeros};

@@ -1,4 +1,9 @@
 //! Bytes tested 16 at a time: a bit for each, the lowest for the first.
+//!
+//! A real is found in lanes where 64 bytes of the piece are left, and digit by digit elsewhere, by the same contract.
+//! The masks (`masks` of `p21_transcribe`) stand on the definitions of digits alone, so that other tokens can be found
+//! by them too, and their proofs know no token. Rows of 32 bytes are written whole, past what counts, so a real isn't
+//! taken so where less than 96 bytes of room are left for its line.
 ghost use Rattle.std.specs.Prelude.{◌+◌, ◌≤◌, length};
 ghost use Rattle.p21_transcribe.specs.Masks.{Shows};
 ghost use Rattle.p21_transcribe.specs.Places.{is_other_at, is_zero_at, ShowDigits};

@@ -1,4 +1,12 @@
 //! Guesses of the entities that keywords name.
+//!
+//! A keyword is guessed before it is looked up: the first `(` ends it, and some of its bytes choose a row of a table of
+//! 256 entities. The name of the guess is compared with the bytes before the `(`, so the table owes nothing, and
+//! neither the end of a keyword nor its bytes are looked for one by one; that an entity's name is a keyword is tested
+//! once, when the entity is prepared (`Row`). Most writers put a blank behind the `=`, and some one before the `(`:
+//! behind separators and before such a blank the same guess is made, in a call of its own (`append_other_opening`), so
+//! that an instance without blanks pays for one look at its first byte. If it is another name, the keyword is read and
+//! the schema is asked, and its answer fills the row.
 ghost use Rattle.std.specs.Prelude.{IfSome, IsTrue};
 ghost use Rattle.p21_spec_schema.specs.Schema.{EntityNamed};
 

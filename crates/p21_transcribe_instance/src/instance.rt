@@ -1,4 +1,13 @@
 //! The statement of an instance (ISO 10303-21, data sections; mapping of EXPRESS entity data types).
+//!
+//! The call that takes an instance prepares its entity (`take_instance` of p21_transcribe_instance), so that its caller
+//! has nothing to retry. Where memory is refused it answers none and leaves a note in the draft, by which the session
+//! answers want of memory: the instance isn't tried again the general way.
+//!
+//! One call takes an instance of either form. It reads the name and the `=` once, and guesses a keyword before it looks
+//! for a `(` alone (`append_opening`): so an instance of internal form, as nearly each is, pays nothing for the other
+//! one, and an instance of external form is known by its first byte. A call for each form, the second where the first
+//! gave up, read the name and the `=` of the latter twice.
 ghost use Rattle.std.specs.Prelude.{[], ◌∷◌, ◌++◌, ◌+◌, ◌≤◌, IfNone, IfSome, length};
 ghost use Rattle.p21_spec_exchange.specs.Spelling.{name_spelling};
 ghost use Rattle.p21_spec_exchange.specs.Token.{equals, name};

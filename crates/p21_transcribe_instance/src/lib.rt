@@ -2,6 +2,11 @@
 //! references, with no token, no tree and no value made of them (ISO 10303-21, mapping of EXPRESS entity data types): what is
 //! kept of a schema for that, the values of attributes, and the whole instance. All else is left to those who read it token
 //! by token.
+//!
+//! The proofs of `p21_transcribe_instance` make the typed record that is meant. For internal form `Rows` makes its
+//! values, `Texts` its canonical record, and `Meaning` the whole; its entity set stands in the plan. For external form
+//! `Joining` joins the simple records, and `Whole` is the whole; an entity set is tested once, by what the general way
+//! asks of it (`specs/ExternalSet`), and then kept.
 #![tactic(auto)]
 
 mod aggregate;

@@ -1,3 +1,11 @@
+//! What may stand at the attributes of an entity is looked up at its first instance (p21_transcribe_instance), and not
+//! with the schema: a file uses few of the entities of a large schema.
+//!
+//! A plan stays with its session (`Progress`), like the room for a line and for references, so that small pieces
+//! prepare nothing again. A `SharedSession` owns the schema, so nothing that is kept between two calls may borrow it: a
+//! row has the type of an attribute where that holds no other type, or is a list or set of such types, and names every
+//! other aggregate type by the entity and the place, so that the schema is asked for it at each value. So a plan has a
+//! few words for each attribute of the entities that a file uses, however deep its lists are.
 ghost use Rattle.std.specs.Prelude.{◌↔◌, IfOk, IfSome, IsTrue};
 ghost use Rattle.p21_express_graph.specs.Resolved.{IsEntity};
 ghost use Rattle.p21_spec_schema.specs.Schema.{EntityNamed, Schema as Meant};

@@ -1,4 +1,7 @@
 //! Scalars, which need no instance (ISO 10303-21, mapping of EXPRESS simple data types and of enumerations).
+//!
+//! An item of an ENUMERATION of more than 128 items goes the general way, which looks it up in a set, where the shorter
+//! way compares it with each.
 ghost use Rattle.std.specs.Prelude.{◌≡◌, ◌≤◌, ℕ, [], length, IfNone, IfSome, Some, drop};
 ghost use Rattle.p21_spec_laws.specs.Needs.{FitsWithNeeds};
 ghost use Rattle.p21_express_graph.specs.Meaning.{type_use, width_option};

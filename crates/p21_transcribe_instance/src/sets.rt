@@ -1,5 +1,12 @@
 //! Sets of entities that instances of external mapping had (ISO 10303-21, mapping of EXPRESS entity data types: external
 //! mapping).
+//!
+//! Of instances of external form the shorter way takes those whose keywords rise, as the standard demands, and whose
+//! set has several leaves: then the canonical line has the simple records in the order of the file. A session keeps
+//! their sets (`Sets`), each tested once by the functions of the general way, and found by a tree. Before that it tries
+//! the one that was taken last behind bytes like the first ones of the simple records: that is the right one for nearly
+//! all, also where instances of several sets come in turn. What it keeps of a set is less than what the file says of
+//! it, since each of its entities is named there.
 ghost use Rattle.std.specs.Arc.{arc_slice_items};
 ghost use Rattle.std.specs.Prelude.{◌≡◌, ◌+◌, ◌<◌, ◌≤◌, [], List, ℕ, Some, length, slice_get, IfSome, IsTrue};
 ghost use Rattle.p21_express_graph.specs.Orders.{numbers};

@@ -1,3 +1,5 @@
+//! `Bits::len` answers a number of 128 bits. A token of more than a quarter of the address space has more bits than a
+//! number of 64 bits can count, and no binary is refused for its length.
 ghost use Rattle.std.specs.Prelude.{◌↔◌, IsTrue};
 ghost use Rattle.p21_spec_exchange.specs.Binary.{SpellsBits};
 ghost use Rattle.p21_values.specs.Bits.{bits_of};

@@ -1,4 +1,12 @@
 //! Bytes, which lie in the value itself where they are few.
+//!
+//! The digits of a number are kept as bytes '0' to '9'. A canonical spelling then costs one copy, reading and writing
+//! are linear, and no big-number arithmetic is needed. A shorter form can come later behind the same contract.
+//!
+//! Up to 24 bytes of a number, a word or a binary lie in place. Most then need no allocation: a double has at most 17
+//! digits. A list takes 24 bytes itself, so the bytes in place cost only the variant and the count. The count has four
+//! bytes to keep the others aligned: copies of 8 or 16 bytes that straddle two earlier stores cost more than an
+//! allocation did. `smallvec` with room for 16 was no faster than a list.
 ghost use Rattle.std.specs.Prelude.{◌≡◌, ◌≤◌, [], ◌++◌, length, take, IfOk};
 
 use std::alloc::{AllocError, Global};

@@ -1,3 +1,5 @@
+//! `restore_on_failure` is the only function that cuts an output back when memory runs out on the way, for values and
+//! for tokens.
 ghost use Rattle.std.specs.Prelude.{◌≡◌, ℕ, ◌↔◌, ◌++◌, List, OnOk, OnErr, take};
 
 use crate::fault::NoMemory;

@@ -1,3 +1,5 @@
+//! Equality of `Decimal` is equality of what is kept. The significand is no multiple of ten, so one ratio has one form.
+//! `==` needs no memory and no arithmetic.
 ghost use Rattle.std.specs.Prelude.{◌≡◌, ◌-◌, ◌^◌, ◌<◌, ◌≤◌, ◌+ℤ◌, ◌-ℤ◌, pos, [], ◌∷◌, ◌++◌, length, if◌then◌else◌, IfNone, IfOk, IfSome, OnErr, OnOk};
 ghost use Rattle.p21_spec_basics.specs.Digits.{AllDigits, number};
 ghost use Rattle.p21_spec_exchange.specs.Number.{IsExponentInRange, whole_ratio};

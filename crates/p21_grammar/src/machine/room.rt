@@ -1,4 +1,8 @@
 //! The room that parameters are kept in.
+//!
+//! A list gives back the room that it doesn't need where eight parameters or more stand in the rows around it. A vector
+//! begins with room for four, so a list of one would hold four times what it needs; where few stand around it, the call
+//! of the allocator would cost more than the room is worth.
 ghost use Rattle.std.specs.Prelude.{◌≡◌, IfOk, IfErr};
 ghost use Rattle.p21_grammar.specs.declared.fault.GrammarFault.TheVariants.{NoMemory};
 
