@@ -105,6 +105,7 @@ pub struct Inputs {
 }
 
 impl Inputs {
+    /// Inputs of which none is open.
     pub fn new() -> Inputs {
         Inputs {
             is_standard_read: false,

@@ -27,6 +27,7 @@ pub struct Given<'a> {
 }
 
 impl<'a> Given<'a> {
+    /// An input by its path, what it is to hold, and what was read of it.
     pub fn new(path: &'a str, wanted: Wanted, read: &'a Kept<Source>) -> Given<'a> {
         Given { path, wanted, read }
     }
