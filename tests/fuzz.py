@@ -56,15 +56,18 @@ class Program:
         return str(path)
 
     def answer(self, command, texts, options):
-        """What the program writes to both streams, and its status; a signal is a status below 0."""
+        """What the program writes to both streams, and its status; a signal is a status below 0. What it notes of files behind
+        its lines is left out."""
         paths = [self.file(name, text) for name, text in zip(names_of(command), texts)]
         line = [self.path, *WORDS.get(command, [command]), *paths, *options]
         child = os.posix_spawn(self.path, line, os.environ, file_actions=self.actions)
         status = os.waitstatus_to_exitcode(os.waitpid(child, 0)[1])
         output, error = (pathlib.Path(stream).read_bytes().decode("utf-8", "replace") for stream in self.streams)
-        return output, error, status
+        return output, NOTE.sub("", error), status
 
 
+# A line behind those of a command, about a file that it was given.
+NOTE = re.compile("^note: .*\n", re.M)
 # The words of a command that is not its own word.
 WORDS = {"check_all": ["check", "--all"]}
 

@@ -114,7 +114,7 @@ refused_schema() {
 note: $here/schema: $3"
     expect "a schema refused: $1" 1 '' "$line"
 }
-adapted="p21-adapt makes a copy of it that fits; p21-adapt $here/schema -o COPY"
+adapted="p21-adapt may make a copy of it that fits; p21-adapt $here/schema -o COPY"
 
 refused_schema 'S1 Token' 'SCHEMA s; (* END_SCHEMA;'
 refused_schema 'S2 Syntax' 'SCHEMA s; END_SCHEMA'
@@ -129,7 +129,7 @@ refused_schema 'S8 RedeclaredPlace' 'SCHEMA s; ENTITY a; y : REAL; END_ENTITY;
 
 run schema "$here/long"
 expect 'a schema too long' 1 '' "schema refused S9 TooLarge
-note: $here/long: p21-adapt makes a copy of it that fits; p21-adapt $here/long -o COPY"
+note: $here/long: p21-adapt may make a copy of it that fits; p21-adapt $here/long -o COPY"
 
 run schema
 expect 'no schema' 2 '' '*S*'

@@ -63,7 +63,7 @@ WORDS = [
     ["frob"],
     ["chekc"],
     ["param"],
-    ["check", "demo.exp", "point", "more"],
+    ["canon", "demo.exp", "point", "more"],
     ["show", "demo.exp", "point", "--name", "x"],
     ["show", "demo.exp", "point", "--name", "+2"],
     ["show", "demo.exp", "point", "--nam", "2"],
@@ -118,16 +118,22 @@ END_SCHEMA;
 
 
 SUGGESTIONS = "of words like a mistaken one"
+# What is asked for beside the answer: bytes in which the place of a refusal is looked for, and what is known of large sets.
+BESIDE = {
+    "p21_stream_statements::source::Source::": "for the place of a refusal",
+    "p21_stream_kept::judgements::Judgements::remember": "of what large sets don't serve",
+}
 
 
 def excuse(functions):
     """Why an allocation that these functions asked for, the innermost first, may be refused unseen; none where it may not.
 
     For words like a mistaken one `clap` collects letters, and where that finds no room it asks for less; only wrong command
-    lines come there.
+    lines come there. The place of a refusal is then that of its statement, and a large set is looked through again.
     """
     asking = next((name for name in functions if not name.startswith("std_alloc::vec::Vec::grow_amortized")), "")
-    return SUGGESTIONS if asking.startswith("strsim::chars_of") else None
+    beside = next((BESIDE[way] for way in BESIDE for name in functions if name.startswith(way)), None)
+    return SUGGESTIONS if asking.startswith("strsim::chars_of") else beside
 
 
 class Refusing:

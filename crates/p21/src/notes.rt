@@ -153,7 +153,7 @@ pub fn note_listing(rt: &HostRuntime, path: &str, said: &[u8]) {
         };
         let word = Quoted(path);
         let _ = eprintln!(rt;
-            "{front}p21-adapt makes a copy of it that fits; p21-adapt {word} -o COPY"
+            "{front}p21-adapt may make a copy of it that fits; p21-adapt {word} -o COPY"
         );
     }
 }

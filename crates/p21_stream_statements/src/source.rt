@@ -42,7 +42,9 @@ impl Source {
         }
     }
 
-    /// Takes what the bytes of a piece up to a place have of the last statement.
+    /// Takes what the bytes of a piece up to a place have of the last statement, unless it is an instance, in which nothing is
+    /// looked for.
+    #[inline(never)]
     pub fn take(&mut self, piece: &[u8], places: Places) {
         let before = self.taken;
         self.taken = places.byte;
@@ -55,6 +57,12 @@ impl Source {
             self.start = Some(places.statement);
             &front[offset_in(front, before, places.statement)..]
         };
+        if self.bytes.is_empty() && is_of_instance(bytes) {
+            self.start = None;
+        }
+        if self.start.is_none() {
+            return;
+        }
         if let Err(AllocError) = self.bytes.extend_from_slice(bytes) {
             self.start = None;
         }
@@ -74,6 +82,14 @@ impl Source {
             Some(Err(NoMemory)) => None,
             None => None,
         }
+    }
+}
+
+/// Whether these bytes begin an instance.
+fn is_of_instance(statement: &[u8]) -> bool {
+    match statement.first() {
+        Some(first) => *first == b'#',
+        None => false,
     }
 }
 
