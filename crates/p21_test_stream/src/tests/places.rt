@@ -29,7 +29,7 @@ fn refused_at(
     size: usize,
 ) -> Option<(u8, Option<Place>)> {
     let mut session = Session::new(alloc, schema, Limits::usual());
-    for piece in file.chunks(size) {
+    for piece in file.chunks(size.max(1)) {
         if let Err(refusal) = session.feed(piece) {
             return Some((refusal.number(), session.place()));
         }
