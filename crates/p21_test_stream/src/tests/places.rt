@@ -1,7 +1,7 @@
 //! Where in a file refusals stand.
 use super::files::{DEMO, ENDED, Frame, HEADER, OPEN, SECTIONS, SHAPES, framed};
 use super::{Rows, Wrong, check};
-use p21_stream::{Limits, Place, Schema, Session};
+use p21_stream::{Limits, Place, Refusal, Schema, Session};
 use std::alloc::{AllocError, Global};
 
 /// The number of a refusal, and a text with a `^` in front of the place where it stands.
@@ -21,6 +21,16 @@ fn unmarked(alloc: Global, text: &[u8]) -> Result<(Vec<u8>, usize), AllocError> 
     Ok((plain, place))
 }
 
+/// The refusal of a file in pieces of so many bytes, in front of its end.
+fn refusal_of_pieces(session: &mut Session<'_>, file: &[u8], size: usize) -> Option<Refusal> {
+    for piece in file.chunks(size.max(1)) {
+        if let Err(refusal) = session.feed(piece) {
+            return Some(refusal);
+        }
+    }
+    None
+}
+
 /// The number of the refusal of a file in pieces of so many bytes, and its place.
 fn refused_at(
     alloc: Global,
@@ -29,16 +39,12 @@ fn refused_at(
     size: usize,
 ) -> Option<(u8, Option<Place>)> {
     let mut session = Session::new(alloc, schema, Limits::usual());
-    for piece in file.chunks(size.max(1)) {
-        if let Err(refusal) = session.feed(piece) {
-            return Some((refusal.number(), session.place()));
-        }
+    if let Some(refusal) = refusal_of_pieces(&mut session, file, size) {
+        return Some((refusal.number(), session.place()));
     }
     let places = session.places();
-    match session.finish() {
-        Ok(_) => None,
-        Err(refusal) => Some((refusal.number(), Place::of(refusal.fault, places))),
-    }
+    let refusal = session.finish().err()?;
+    Some((refusal.number(), Place::of(refusal.fault, places)))
 }
 
 /// Whether a file is refused by a number at a place, in whatever pieces it comes.
@@ -60,7 +66,7 @@ pub(super) fn wrong_place(alloc: Global, schema: &Schema, frame: Frame, rows: Ma
         let Some(file) = framed(alloc, frame, &text) else {
             return Some(("memory", row));
         };
-        let byte = (frame.before.len() + place) as u64;
+        let byte = frame.before.len().saturating_add(place) as u64;
         if !is_refused_at(alloc, schema, &file, *number, byte) {
             return Some(("a place", row));
         }
