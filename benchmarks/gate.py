@@ -83,9 +83,11 @@ def write(sums, clock, last, edits, commit):
     lines = [
         "# What the gate costs",
         "",
-        f"Made by `benchmarks/gate.py` on {datetime.date.today():%-d %B %Y}, on {os.cpu_count()} processors, over commit {commit}: `rt ci` from nothing took",
+        f"Made by `benchmarks/gate.py` on {datetime.date.today():%-d %B %Y}, on {os.cpu_count()} processors, over commit {commit}:"
+        " `rt ci` from nothing took",
         f"{clock / 60:.0f} minutes by the clock and {whole:,.0f} seconds of a processor, and ended with `{last}`.",
-        f"The processors were busy for {100 * busy:.0f} per cent of that time. Two take {whole / 120:.0f} minutes at least, and {whole / 120 / busy:.0f} where they are no busier.",
+        f"The processors were busy for {100 * busy:.0f} per cent of that time. Two take {whole / 120:.0f} minutes at least,"
+        f" and {whole / 120 / busy:.0f} where they are no busier.",
         "",
         "Seconds of a processor. The first wrong body of a crate costs the crate's proof once more.",
         "",

@@ -1,4 +1,4 @@
-# Completions of p21-adapt for bash. Made by tools/make-pages from the tool's own options.
+# Completions of p21-adapt for bash. Made by making/make-pages from the tool's own options.
 
 _p21_adapt() {
     local word=${COMP_WORDS[COMP_CWORD]}

@@ -1,4 +1,4 @@
-# Completions of p21-table for fish. Made by tools/make-pages from the tool's own options.
+# Completions of p21-table for fish. Made by making/make-pages from the tool's own options.
 
 complete -c p21-table -s h -l help -d 'Print help'
 complete -c p21-table -l schemas -r -F -d 'a folder of schemas, each found by what a file names; in place of S. P21_SCHEMAS names one too'

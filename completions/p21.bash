@@ -1,22 +1,23 @@
-# Completions of p21 for bash. Made by tools/make-pages from the help of the program.
+# Completions of p21 for bash. Made by making/make-pages from the help of the program.
 
 _p21() {
     local word=${COMP_WORDS[COMP_CWORD]} words=
     COMPREPLY=()
     if [ "$COMP_CWORD" -eq 1 ]; then
-        words='param schema check canon show same faults help --help --version'
+        words='param syntax schema check canon show same faults help --help --version'
         COMPREPLY=($(compgen -W "$words" -- "$word"))
         return
     fi
     case ${COMP_WORDS[1]} in
         param) words='--help' ;;
+        syntax) words='--progress --help' ;;
         schema) words='--help' ;;
-        check) words='--all --most --progress --help' ;;
+        check) words='--all --most --where --progress --help' ;;
         canon) words='--progress --help' ;;
         show) words='--name --help' ;;
         same) words='--progress --help' ;;
         faults) words='--help' ;;
-        help) words='param schema check canon show same faults' ;;
+        help) words='param syntax schema check canon show same faults' ;;
     esac
     case ${COMP_WORDS[1]}:$word in
         *:-* | help:*) COMPREPLY=($(compgen -W "$words" -- "$word")) ;;

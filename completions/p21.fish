@@ -1,6 +1,7 @@
-# Completions of p21 for fish. Made by tools/make-pages from the help of the program.
+# Completions of p21 for fish. Made by making/make-pages from the help of the program.
 
 complete -c p21 -f -n __fish_use_subcommand -a param -d 'Prints the canonical spelling of one parameter'
+complete -c p21 -f -n __fish_use_subcommand -a syntax -d 'Says whether files are well formed, without a schema'
 complete -c p21 -f -n __fish_use_subcommand -a schema -d 'Prints the entities of a schema with their attributes'
 complete -c p21 -f -n __fish_use_subcommand -a check -d 'Checks files against a schema'
 complete -c p21 -f -n __fish_use_subcommand -a canon -d 'Prints the canonical file of a file'
@@ -11,9 +12,12 @@ complete -c p21 -f -n __fish_use_subcommand -a help -d 'Print this message or th
 complete -c p21 -n __fish_use_subcommand -l help -d 'Print help'
 complete -c p21 -n __fish_use_subcommand -l version -d 'Print version'
 complete -c p21 -n '__fish_seen_subcommand_from param' -l help -d 'Print help'
+complete -c p21 -n '__fish_seen_subcommand_from syntax' -l progress -d 'Says on a terminal how much of a file is read, a line for each 64 MiB'
+complete -c p21 -n '__fish_seen_subcommand_from syntax' -l help -d 'Print help'
 complete -c p21 -n '__fish_seen_subcommand_from schema' -l help -d 'Print help'
 complete -c p21 -n '__fish_seen_subcommand_from check' -l all -d 'Lists the first refusal of each record and those of references, and counts them'
 complete -c p21 -n '__fish_seen_subcommand_from check' -l most -x -d 'Lists refusals as --all does, and ends after N of them'
+complete -c p21 -n '__fish_seen_subcommand_from check' -l where -d 'Says of one FILE, without --all and --most, the line and column of its refusal'
 complete -c p21 -n '__fish_seen_subcommand_from check' -l progress -d 'Says on a terminal how much of a file is read, a line for each 64 MiB'
 complete -c p21 -n '__fish_seen_subcommand_from check' -l help -d 'Print help'
 complete -c p21 -n '__fish_seen_subcommand_from canon' -l progress -d 'Says on a terminal how much of a file is read, a line for each 64 MiB'
@@ -24,4 +28,4 @@ complete -c p21 -n '__fish_seen_subcommand_from same' -l progress -d 'Says on a 
 complete -c p21 -n '__fish_seen_subcommand_from same' -l help -d 'Print help'
 complete -c p21 -n '__fish_seen_subcommand_from faults' -l help -d 'Print help'
 complete -c p21 -f -n '__fish_seen_subcommand_from faults' -a '1 2 3 4 5 6 7 8 9 10 11 12 13 20 21 22 23 24 25 26 27 30 31 32 33 40 41 42 43 44 45 46 47 48 49 50 51 52 53 54 55 56 57 58 90 91 92 S1 S2 S3 S4 S5 S6 S7 S8 S9 Abstract AfterEnd BadBinary BadByte BadCodePoint BadDirective BadName BadNumber BadWord Bounds CanonicalTooLong Circular Count Dangling DerivedNotStar Duplicate DuplicateName EndsEarly FileTooLong HeaderShape LeftOut Missing NameRange NoMemory NotDistinct NotOneParameter NotUtf8 NumberRange OneOf OpenComment OpenString PartMissing PartTwice ReadFault RecordTooLong RedeclaredPlace SchemaName SectionShape SectionTwice SelectType StarNotDerived Syntax Token TooDeep TooLarge TwoRedeclarations Unexpected UnknownEntity UnknownItem UnknownName Width WriteFault WrongKind WrongTarget'
-complete -c p21 -f -n '__fish_seen_subcommand_from help' -a 'param schema check canon show same faults'
+complete -c p21 -f -n '__fish_seen_subcommand_from help' -a 'param syntax schema check canon show same faults'

@@ -107,7 +107,7 @@ typedef struct p21_report {
     uint64_t bytes;     /* how many bytes its canonical file has */
 } p21_report;
 
-/* Made from docs/FAULTS.md by tools/make-refusals, up to the mark of the end: edit the document. */
+/* Made from docs/FAULTS.md by making/make-refusals, up to the mark of the end: edit the document. */
 /* The refusals of files, as docs/FAULTS.md explains them. */
 enum {
     P21_BAD_BYTE = 1,
@@ -180,7 +180,7 @@ enum {
     P21_ABSENT_SECOND_SECTION = 8,
     P21_ABSENT_NO_DATA_SECTION = 9
 };
-/* The end of what tools/make-refusals makes. */
+/* The end of what making/make-refusals makes. */
 
 /* The parts of a version. */
 typedef struct p21_parts {

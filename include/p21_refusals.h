@@ -1,7 +1,7 @@
 /*
  * The refusals in words: the name and the sentence of each number of a report, as `p21 faults` prints them. p21.h includes it.
  *
- * Made from docs/FAULTS.md by tools/make-refusals: edit the document, and not this file.
+ * Made from docs/FAULTS.md by making/make-refusals: edit the document, and not this file.
  */
 #ifndef P21_REFUSALS_H
 #define P21_REFUSALS_H

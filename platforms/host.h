@@ -9,8 +9,8 @@
  * The hosts are three files of C: `memory.c` for the program and the library on each system, `posix.c`, and
  * `windows.c`, which takes no file, stream or name by the C library: handles are read and written in bytes, names are
  * UTF-16 behind the prefix for long ones, files are shared for reading, writing and removing, and a folder is opened as
- * elsewhere, so that reading it fails. An error is known by Linux's number, since the program tells want of memory by
- * it.
+ * elsewhere, so that reading it fails. An error is known by Linux's number and has Linux's text (`errors.h`), since the
+ * program tells want of memory by the one and shows the other behind a file that can't be read.
  */
 #ifndef HOST_H
 #define HOST_H

@@ -18,10 +18,11 @@
 
 #include <stdlib.h>
 
+#include "errors.h"
 #include "host.h"
 
-/* The numbers that Linux has for errors. The program tells want of memory from all others. */
-enum { NO_SUCH_FILE = 2, INPUT_OUTPUT = 5, OUT_OF_MEMORY = 12 };
+/* The most characters of a part of a name between slashes. */
+enum { MOST_OF_NAME = 255 };
 
 /* The most bytes that are asked of the system at once, and of a console. */
 enum { MOST_AT_ONCE = 1 << 30, MOST_OF_CONSOLE = 1 << 14 };
@@ -37,7 +38,7 @@ int rattle_errno(void) { return last_error; }
 
 void rattle_set_errno(int error) { last_error = error; }
 
-/* The answer of a call that failed. */
+/* The answer of a call that failed, for which the system gave this error. */
 static int failed(DWORD error) {
     switch (error) {
     case ERROR_NOT_ENOUGH_MEMORY:
@@ -48,7 +49,19 @@ static int failed(DWORD error) {
         break;
     case ERROR_FILE_NOT_FOUND:
     case ERROR_PATH_NOT_FOUND:
+    case ERROR_INVALID_NAME:
+    case ERROR_BAD_PATHNAME:
         last_error = NO_SUCH_FILE;
+        break;
+    case ERROR_ACCESS_DENIED:
+    case ERROR_SHARING_VIOLATION:
+        last_error = NOT_PERMITTED;
+        break;
+    case ERROR_DIRECTORY:
+        last_error = NO_FOLDER;
+        break;
+    case ERROR_FILENAME_EXCED_RANGE:
+        last_error = NAME_TOO_LONG;
         break;
     default:
         last_error = INPUT_OUTPUT;
@@ -122,6 +135,34 @@ static HANDLE opened_by_whole_name(const wchar_t *name) {
     return file;
 }
 
+static bool is_slash(wchar_t letter) { return letter == L'/' || letter == L'\\'; }
+
+/* The error that Linux has where no file of this name can be opened: by the first part of the name that is too long, or that is a
+ * file and has a slash behind it. The name is changed and changed back. */
+static DWORD as_on_linux(DWORD error, wchar_t *name) {
+    if (name[wcsspn(name, L" ")] == L'\0')
+        return ERROR_FILE_NOT_FOUND;
+    for (wchar_t *part = name, *at = name;; at++) {
+        if (*at && !is_slash(*at))
+            continue;
+        if (at - part > MOST_OF_NAME)
+            return ERROR_FILENAME_EXCED_RANGE;
+        if (!*at)
+            return error;
+        if (at > part) {
+            wchar_t slash = *at;
+            *at = L'\0';
+            DWORD found = GetFileAttributesW(name);
+            *at = slash;
+            if (found == INVALID_FILE_ATTRIBUTES)
+                return error;
+            if (!(found & FILE_ATTRIBUTE_DIRECTORY))
+                return ERROR_DIRECTORY;
+        }
+        part = at + 1;
+    }
+}
+
 /* --- Files and streams --- */
 
 /* What is open under a number: a stream under its own, and a file under its handle, of which 32 bits say all. The last two of a
@@ -147,9 +188,15 @@ int p21_open(const char *name, int flags, ...) {
     if (!asked)
         return failed(ERROR_NOT_ENOUGH_MEMORY);
     HANDLE file = opened_by_whole_name(asked);
-    DWORD error = GetLastError();
+    DWORD error = file == INVALID_HANDLE_VALUE ? as_on_linux(GetLastError(), asked) : ERROR_SUCCESS;
     free(asked);
     return file == INVALID_HANDLE_VALUE ? failed(error) : (int)(intptr_t)file;
+}
+
+/* Is this a folder? */
+static bool is_folder(int file) {
+    BY_HANDLE_FILE_INFORMATION found;
+    return GetFileInformationByHandle(handle_of(file), &found) && (found.dwFileAttributes & FILE_ATTRIBUTE_DIRECTORY);
 }
 
 /* Is this a console? */
@@ -166,7 +213,13 @@ int64_t p21_read(int file, void *into, uint64_t room) {
         return count;
     DWORD error = GetLastError();
     /* Whoever wrote to a pipe has closed it. */
-    return error == ERROR_BROKEN_PIPE || error == ERROR_HANDLE_EOF ? 0 : failed(error);
+    if (error == ERROR_BROKEN_PIPE || error == ERROR_HANDLE_EOF)
+        return 0;
+    if (is_folder(file)) {
+        last_error = A_FOLDER;
+        return -1;
+    }
+    return failed(error);
 }
 
 int64_t p21_write(int file, const void *from, uint64_t count) {

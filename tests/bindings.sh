@@ -6,7 +6,7 @@
 # their sanitizers too; that pkg-config and CMake find the library; that the programs of README and docs/LIBRARY.md do what these
 # pages say; that mypy finds no fault in the Python package and its users' programs; and that the package's tests pass.
 #
-#   tests/bindings.sh [PREFIX]     what tools/build-library has put below PREFIX is tried; without one it is built
+#   tests/bindings.sh [PREFIX]     what making/build-library has put below PREFIX is tried; without one it is built
 #
 # It wants a C compiler (CC) and, without PREFIX, `rt`. Where something else isn't here (valgrind, g++, clang++, libabigail, pkg-config, CMake, mypy, or
 # pytest for the Python of PYTHON, with numpy and distributed), what wants it is left out, the last line says so, and the status is
@@ -23,7 +23,7 @@ prefix=$here/built
 if [ $# -gt 0 ]; then
     prefix=$(readlink -f -- "$1")
 else
-    "$root/tools/build-library" "$prefix" || exit
+    "$root/making/build-library" "$prefix" || exit
 fi
 shared=$prefix/lib/libp21.so
 static=$prefix/lib/libp21.a
@@ -337,7 +337,7 @@ else
 fi
 
 # The tests of the Python package run the programs of both pages in Python, as docs/LIBRARY.md says: in a clone, by the library
-# that tools/build-library puts into the package. What they lack is named.
+# that making/build-library puts into the package. What they lack is named.
 in_clone() (
     mkdir "$here/repository" && ln -s "$root"/* "$here/repository" && rm "$here/repository/python" &&
         cp -R "$root/python" "$here/repository" && cp "$shared" "$here/repository/python/p21/libp21.so" && cd "$here/repository" &&

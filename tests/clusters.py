@@ -32,6 +32,8 @@ import sys
 import tempfile
 import time
 
+import exchange
+
 ROOT = pathlib.Path(__file__).resolve().parent.parent
 PROGRAM = os.path.abspath(os.environ.get("P21", ROOT / "p21"))
 PYTHON = "/usr/bin/python3"
@@ -153,17 +155,12 @@ class Place:
         """Files of one point each, a refused one, one of another schema, and in the middle, where it is wanted, the one that takes its
         memory."""
         (self.folder / "files").mkdir()
-        head, end = (
-            "ISO-10303-21;\nHEADER;\nFILE_DESCRIPTION((''),'2;1');\nFILE_NAME('','',(''),(''),'','','');\n",
-            "ENDSEC;\nEND-ISO-10303-21;\n",
-        )
         for number in range(count):
             name = f"files/{number:05}.step"
             text = "x" * LONG if with_long and number == count // 2 else str(number)
             values = "0." if number == 3 else f"'{text}',(0.,1.,{number}.)"
             schema = "ANOTHER" if number == 5 else "PRODUCT_MODEL"
-            data = f"FILE_SCHEMA(('{schema}'));\nENDSEC;\nDATA;\n#1=CARTESIAN_POINT({values});\n"
-            (self.folder / name).write_text(f"{head}{data}{end}")
+            (self.folder / name).write_text(exchange.file_of(schema, f"#1=CARTESIAN_POINT({values});\n"))
             yield name
 
     def wanted(self):

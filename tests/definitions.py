@@ -16,9 +16,9 @@ import sys
 
 ROOT = pathlib.Path(__file__).resolve().parent.parent
 CRATES = ROOT / "crates"
-# A page that tools/make-contracts makes, and that is not committed.
+# A page that making/make-contracts makes, and that is not committed.
 MADE = b"docs/CALLS.md"
-DEFINITIONS = ("p21_spec_basics", "p21_spec_exchange", "p21_spec_schema", "p21_spec_file", "p21_spec_syntax")
+DEFINITIONS = ("p21_spec_basics", "p21_spec_exchange", "p21_spec_schema", "p21_spec_file", "p21_spec_syntax", "p21_spec_survey")
 COLUMNS = ["Rule", "Definition", "Example or law", "Code", "Test", "Wrong body", "Plain reading"]
 # Where the table of tokens has a further column: behind the code, what scans the token where it stands whole
 WHOLE = COLUMNS.index("Code") + 1
@@ -225,14 +225,14 @@ def check(page, found, missing):
 
 def calls_without_a_line():
     """The public calls above which no line says what they do, each with its crate."""
-    made = runpy.run_path(str(ROOT / "tools" / "make-contracts"))
+    made = runpy.run_path(str(ROOT / "making" / "make-contracts"))
     for crate in made["crates_in_order"]():
         yield from (f"{crate}: {call.name}" for call in made["calls_of"](crate) if not call.about)
 
 
 def missing_pages():
     """The pages of docs that a file names and that aren't there, each with the file."""
-    places = ("*.md", "docs/**/*.md", "tests/**/*", "tools/**/*", "benchmarks/**/*", "include/*", "python/**/*.py", "web/*.mjs")
+    places = ("*.md", "docs/**/*.md", "tests/**/*", "tools/**/*", "making/**/*", "benchmarks/**/*", "include/*", "python/**/*.py", "web/*.mjs")
     for path in sorted(path for place in places for path in ROOT.glob(place) if path.is_file() and "corpus" not in path.parts):
         for page in sorted(set(re.findall(rb"\bdocs/[\w/]+\.md", path.read_bytes()))):
             if page != MADE and not (ROOT / page.decode()).exists():

@@ -13,6 +13,7 @@ from pathlib import Path
 
 ROOT = Path(__file__).resolve().parent.parent
 sys.path[:0] = [str(ROOT / "tests"), str(ROOT / "tests" / "hostile")]
+import exchange  # noqa: E402
 from plain import commands  # noqa: E402
 from rigged import Answer, Rigged, Tally  # noqa: E402
 
@@ -40,15 +41,7 @@ ENTITY link; a : text; END_ENTITY;
 END_SCHEMA;
 """.encode()
 
-HEAD = b"""ISO-10303-21;
-HEADER;
-FILE_DESCRIPTION((''),'2;1');
-FILE_NAME('','',(''),(''),'','','');
-FILE_SCHEMA(('EDGES'));
-ENDSEC;
-DATA;
-"""
-FOOT = b"ENDSEC;\nEND-ISO-10303-21;\n"
+HEAD, FOOT = exchange.front("EDGES").encode(), exchange.BACK.encode()
 TARGET = b"#1000000000000000003=TEXT('');\n"
 
 

@@ -14,6 +14,8 @@ import subprocess
 import sys
 import tempfile
 
+from exchange import BACK, front
+
 ROOT = pathlib.Path(__file__).resolve().parent.parent
 PROGRAM = os.environ.get("P21", str(ROOT / "p21"))
 
@@ -36,11 +38,7 @@ ENTITY u SUBTYPE OF (s); END_ENTITY;
 END_SCHEMA;
 """
 
-FRONT = (
-    "ISO-10303-21;\nHEADER;\nFILE_DESCRIPTION((''),'2;1');\nFILE_NAME('','',(''),(''),'','','');\nFILE_SCHEMA(('EVERY'));\nENDSEC;\nDATA;\n"
-    "#1=POINT($,1.,1.);\n#2=CLOUD((),(TALLY(1)));\n"
-)
-BACK = "ENDSEC;\nEND-ISO-10303-21;\n"
+FRONT = front("EVERY") + "#1=POINT($,1.,1.);\n#2=CLOUD((),(TALLY(1)));\n"
 
 # Records that are refused, each by its number and name.
 RECORDS = [

@@ -31,7 +31,7 @@ def arguments():
     parser.add_argument("--cases", type=int, default=10_000, help="how many cases")
     parser.add_argument("--first", type=int, default=0, help="the number of the first case")
     parser.add_argument("--only", type=int, default=None, help="run this case alone, and print it")
-    parser.add_argument("--kinds", default="param,schema,file,same,all", help="the kinds of cases")
+    parser.add_argument("--kinds", default="param,schema,file,same,all,syntax", help="the kinds of cases")
     parser.add_argument("--keep", default=None, help="where the texts of a difference are kept")
     return parser.parse_args()
 
@@ -74,9 +74,12 @@ WORDS = {"check_all": ["check", "--all"]}
 
 def names_of(command):
     """The names of the files that a command takes."""
-    return {"param": ["parameter.txt"], "schema": ["schema.exp"], "same": ["schema.exp", "first.step", "second.step"]}.get(
-        command, ["schema.exp", "file.step"]
-    )
+    return {
+        "param": ["parameter.txt"],
+        "schema": ["schema.exp"],
+        "syntax": ["file.step"],
+        "same": ["schema.exp", "first.step", "second.step"],
+    }.get(command, ["schema.exp", "file.step"])
 
 
 class Cases:
@@ -148,6 +151,16 @@ class Cases:
             text = mutate.inside(chance, text) if chance.random() < 0.9 else mutate.file(chance, text)
         options = ["--most", str(chance.choice([1, 2, 3, 5]))] if chance.random() < 0.2 else []
         return "check_all", [schema, text], options
+
+    def syntax(self, chance):
+        """A file by itself, changed or not, or cut off."""
+        _, found = self.one_file(chance)
+        text = found if isinstance(found, bytes) else found.write(chance)
+        for _ in range(chance.choice([0, 0, 1, 1, 2])):
+            text = mutate.inside(chance, text) if chance.random() < 0.5 else mutate.file(chance, text)
+        if chance.random() < 0.1:
+            text = text[: chance.randrange(len(text) + 1)]
+        return "syntax", [text], []
 
     def same(self, chance):
         """Two files: one spelled twice, two of one schema, or one of which something is changed."""

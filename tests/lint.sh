@@ -1,7 +1,7 @@
 #!/bin/sh
-# Holds the scripts against Debian's checkers: pyflakes3 over all Python, mypy --strict over the tools, whose functions all have
-# type hints, and shellcheck over all scripts of a shell. The tools run on Python 3.8; what makes a release has no such promise,
-# and is checked as for the Python that is here. Without one of the three the part is skipped.
+# Holds the scripts against Debian's checkers: pyflakes3 over all Python, mypy --strict over the tools and what makes and builds, whose
+# functions all have type hints, and shellcheck over all scripts of a shell. The tools run on Python 3.8; what makes and builds has
+# no such promise, and is checked as for the Python that is here. Without one of the three the part is skipped.
 
 cd "$(dirname -- "$(readlink -f -- "$0")")/.." || exit
 for checker in pyflakes3 mypy shellcheck; do
@@ -22,22 +22,19 @@ with() {
     ' {} + | sort
 }
 
-python=$({ with '^#!.*python' tools tests benchmarks; find tools tests benchmarks python -name '*.py'; } | sort -u)
+python=$({ with '^#!.*python' tools making tests benchmarks; find tools making tests benchmarks python -name '*.py'; } | sort -u)
 echo "$python" | xargs -d '\n' pyflakes3 || failed=1
 
-MYPYPATH=tools
+MYPYPATH=tools:making
 MYPY_CACHE_DIR=$(mktemp -d) || exit
 export MYPYPATH MYPY_CACHE_DIR
 trap 'rm -rf "$MYPY_CACHE_DIR"' EXIT
 mypy --strict --no-error-summary --python-version 3.8 --scripts-are-modules tools/*.py tools/p21-* || failed=1
-for tool in $(with '^#!.*python' tools); do
-    case $tool in
-        tools/p21-*) ;;
-        *) mypy --strict --no-error-summary --scripts-are-modules "$tool" || failed=1 ;;
-    esac
+for maker in $(with '^#!.*python' making); do
+    mypy --strict --no-error-summary --scripts-are-modules "$maker" || failed=1
 done
 
-{ with '^#!.*(sh|bash)$' tools tests benchmarks .ci p21; echo tools/building.sh; } |
+{ with '^#!.*(sh|bash)$' making tests benchmarks .ci p21; echo making/building.sh; } |
     xargs -d '\n' shellcheck --severity=warning || failed=1
 
 [ "$failed" -eq 0 ] && echo "lint: $(echo "$python" | wc -l) files of Python, and all scripts of a shell"

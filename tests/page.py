@@ -58,6 +58,7 @@ ANSWER = """(() => {
         })),
         differences: [...answer.querySelectorAll(".differences li")].map(
             (found) => `${texts(found, ".what")[0]}: ${texts(found, ".value").join(" -> ")}`),
+        plain: [...answer.querySelectorAll(".differences li")].map((found) => texts(found, ".plain")),
     };
 })()"""
 SAID = "document.getElementById('said').textContent"
@@ -125,6 +126,7 @@ class Page:
     def judge_file(self, name, shown, schema, file, places=True):
         """What the page shows of a file is what the program and p21-where print."""
         output, error, _ = self.program("check", schema, file)
+        error = "".join(line for line in error.splitlines(True) if not line.startswith("note: "))
         canonical, _, status = self.program("canon", schema, file)
         wanted = {"line": (output + error).rstrip("\n"), "canonical": canonical if status == 0 else None}
         found = {key: shown[key] for key in wanted}
@@ -169,6 +171,8 @@ def examples(page):
                 for file in shown["files"]:
                     page.judge_file("pair", file, schema, file["name"], places=False)
                 page.judge_pair(f"{first} and {second}", shown, schema, *names)
+    shown = page.dropped("product.step", "product-changed.step", schema)
+    page.tests.judge("values as people write them", [["(80, 50, 12.5) mm", "(80, 50, 12.25) mm"]], [both for both in shown["plain"] if both])
 
 
 def chance(page):
@@ -251,11 +255,23 @@ def up_to_names(page):
     text = (page.folder / "product.step").read_bytes()
     page.tests.make("renumbered.step", shuffled(text, 1)[0])
     page.tests.make("changed.step", shuffled((page.folder / "product-changed.step").read_bytes(), 2)[0])
-    for file, said in (("renumbered.step", True), ("changed.step", False)):
+    page.tests.make("stamped.step", text.replace(b"2024-", b"2025-"))
+    page.tests.make("both.step", shuffled(text.replace(b"2024-", b"2025-"), 3)[0])
+    words = "Up to the names of their instances the files are the same."
+    cases = {
+        "renumbered.step": ("DifferentThe same but for numbering.", True),
+        "changed.step": ("Different", False),
+        "stamped.step": ("DifferentThe same but for the time stamp.", False),
+        "both.step": ("DifferentThe same but for numbering and the time stamp.", False),
+    }
+    for file, (first, said) in cases.items():
         shown = page.dropped("product.exp", "product.step", file)
-        page.judge_pair(f"{file} by names", shown, "product.exp", "product.step", file)
-        words = "Up to the names of their instances the files are the same."
+        page.tests.judge(f"{file}: what is said first", True, re.match(f"{first} ?[\\d,]+ difference", shown["verdict"]) is not None)
         page.tests.judge(f"{file}: what is said", said, words in shown["verdict"])
+        way = page.browser.ask("document.querySelector('[name=way]:checked').value")
+        page.tests.judge(f"{file}: how instances are told at first", "names" if file == "stamped.step" else "shapes", way)
+        page.browser.ask("document.querySelector('[name=way][value=names]').click()")
+        page.judge_pair(f"{file} by names", page.browser.wait(ANSWER), "product.exp", "product.step", file)
         page.browser.ask("document.querySelector('[name=way][value=shapes]').click()")
         shown = page.browser.wait(ANSWER)
         known = page.browser.ask("document.querySelector('.known').textContent")
@@ -921,7 +937,7 @@ def people(page):
     tab.look()
     version = page.program("--version")[0].strip()
     tests.judge("the version", version, tab.ask("document.getElementById('version').textContent"))
-    checksum = subprocess.run([ROOT / "tools" / "build-page", "--sources"], capture_output=True, text=True, check=True).stdout
+    checksum = subprocess.run([ROOT / "making" / "build-page", "--sources"], capture_output=True, text=True, check=True).stdout
     tests.judge("the checksum", checksum.strip(), tab.ask("document.getElementById('checksum').textContent"))
     words = "What runs here is WebAssembly: the same sources as the proved program’s, through LLVM’s other backend."
     module = tab.ask("document.getElementById('module').textContent")

@@ -238,17 +238,17 @@ def marks(tests, _):
     """The page is marked as unproved unless the record of the build says that the gate passed these sources. Tried in a copy of
     the repository, with files in place of what is built."""
     copy = tests.here / "copy"
-    for part in ("crates", "tools", "web", "examples"):
-        shutil.copytree(ROOT / part, copy / part, ignore=shutil.ignore_patterns("must-fail", "__pycache__"))
+    shutil.copytree(ROOT / "crates", copy / "crates", ignore=shutil.ignore_patterns("must-fail", "out"))
+    for part in ("making", "platforms", "web", "examples"):
+        shutil.copytree(ROOT / part, copy / part, ignore=shutil.ignore_patterns("__pycache__"))
     (copy / "docs").mkdir()
     for part in ("crates.txt", "HANDLES", "docs/SCHEMAS.md"):
         shutil.copy(ROOT / part, copy / part)
     out = copy / "crates" / "p21" / "out"
-    shutil.rmtree(out, ignore_errors=True)
     out.mkdir()
 
     def said(*words):
-        command = [copy / "tools" / "build-page", *words, tests.here / "marked.html"]
+        command = [copy / "making" / "build-page", *words, tests.here / "marked.html"]
         line = subprocess.run(command, check=True, capture_output=True, text=True, env={**os.environ, "P21_KEEP": "1"}).stdout
         is_marked = "const isProved = false;" in (tests.here / "marked.html").read_text()
         return line.strip().partition("marked as unproved: ")[2], is_marked
@@ -265,12 +265,14 @@ def marks(tests, _):
     tests.judge("with a whole record", ("", False), recorded(record))
     own = "is a module of its own"
     tests.judge("with another module", (True, True), ((found := said("--module", making.MODULE))[0].endswith(own), found[1]))
+    checked = ["checks over kept work" if line.startswith("gate ") else line for line in record]
+    tests.judge("with checks in place of the gate", ("p21 was proved by checks over kept work, and not by the gate", True), recorded(checked))
     failed = [line.replace("passed, 0 failed", "passed, 1 failed") for line in record]
     tests.judge("with a gate that failed", ("the gate ended with", True), ((found := recorded(failed))[0][:19], found[1]))
     without = [line for line in record if line != "proved p21_stream"]
-    tests.judge("with a crate unproved", ("the gate proved nothing of p21_stream", True), recorded(without))
+    tests.judge("with a crate unproved", ("nothing of p21_stream was proved", True), recorded(without))
     source = copy / "crates" / "p21_values" / "src" / "lib.rt"
-    checksum = [copy / "tools" / "build-page", "--sources"]
+    checksum = [copy / "making" / "build-page", "--sources"]
     before = subprocess.run(checksum, check=True, capture_output=True, text=True).stdout
     source.write_text(source.read_text() + "\n")
     os.utime(source, (0, 0))

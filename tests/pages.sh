@@ -1,5 +1,5 @@
 #!/bin/sh
-# Whether man/ and completions/ are what tools/make-pages makes of the program's help and of the tools' options, and what the
+# Whether man/ and completions/ are what making/make-pages makes of the program's help and of the tools' options, and what the
 # completions offer. Give another program than ./p21 as the first argument. What a shell that isn't there would say is left
 # out, and the status is then 77.
 
@@ -7,7 +7,7 @@ cd "$(dirname -- "$(readlink -f -- "$0")")/.." || exit
 failed=0
 left_out=
 
-tools/make-pages --check "${1:-./p21}" || failed=1
+making/make-pages --check "${1:-./p21}" || failed=1
 
 # offers WORDS.. WANTED: bash completes the last of the words so.
 offers() {

@@ -1,8 +1,9 @@
 #!/usr/bin/env python3
-"""Whether no pattern of the tools has a repetition without a bound inside another one: on some text such a pattern may never end.
+"""Whether no pattern of the tools, and of what builds, has a repetition without a bound inside another one: on some text such a
+pattern may never end.
 
-All texts in the sources of tools that are patterns are looked at, wherever they stand; those of the tools named make-.. apart,
-which read nothing but the repository's pages. The status is 1 where one has such a repetition.
+All texts in their sources that are patterns are looked at, wherever they stand; those of making/make-.. apart, which read nothing
+but the repository's pages. The status is 1 where one has such a repetition.
 """
 
 import ast
@@ -65,9 +66,10 @@ def texts(tree):
 
 
 def sources():
-    """The sources of the tools in Python."""
-    for path in sorted((ROOT / "tools").rglob("*")):
-        if path.is_file() and not path.name.startswith("make-") and (path.suffix == ".py" or path.read_bytes()[:40].startswith(b"#!/usr/bin/env python3")):
+    """The sources of the tools and of what builds, in Python."""
+    for path in sorted(it for folder in ("tools", "making") for it in (ROOT / folder).rglob("*")):
+        is_python = path.is_file() and (path.suffix == ".py" or path.read_bytes()[:40].startswith(b"#!/usr/bin/env python3"))
+        if is_python and not path.name.startswith("make-"):
             yield path
 
 

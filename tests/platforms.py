@@ -1,5 +1,5 @@
 #!/usr/bin/env python3
-"""The program, its tools and its library for Windows and for Linux on AArch64, as tools/build-for makes them, under Wine and under
+"""The program, its tools and its library for Windows and for Linux on AArch64, as making/build-for makes them, under Wine and under
 QEMU's user mode. What each answers is what the program for Linux on x86-64 answers, byte for byte.
 
     tests/platforms.py [SYSTEM..]     x86_64-windows and aarch64-linux; both without any
@@ -41,7 +41,7 @@ import needs
 ROOT = pathlib.Path(__file__).resolve().parent.parent
 TESTS = ROOT / "tests"
 OUT = ROOT / "platforms" / "out"
-sys.path[:0] = [str(ROOT / "tools"), str(TESTS / "hostile")]
+sys.path[:0] = [str(ROOT / "tools"), str(ROOT / "making"), str(TESTS / "hostile")]
 import p21_manifest  # noqa: E402
 import p21_sarif  # noqa: E402
 import p21_system  # noqa: E402
@@ -297,7 +297,7 @@ def files(made, tally):
 def built(name):
     """Builds all for a system twice; the second time it is linked alone."""
     for _ in range(2):
-        subprocess.run([ROOT / "tools" / "build-for", "--library", name], check=True, stdout=subprocess.DEVNULL)
+        subprocess.run([ROOT / "making" / "build-for", "--library", name], check=True, stdout=subprocess.DEVNULL)
         yield
 
 
@@ -586,7 +586,7 @@ PARTS = {
 
 def tried(name, tally):
     """All parts for a system, in a folder of their own."""
-    subprocess.run([ROOT / "tools" / "build-for", "--library", name], check=True, stdout=subprocess.DEVNULL)
+    subprocess.run([ROOT / "making" / "build-for", "--library", name], check=True, stdout=subprocess.DEVNULL)
     with tempfile.TemporaryDirectory(prefix="platforms-") as folder:
         made = Made(name, pathlib.Path(folder))
         here = made.folder / "here"

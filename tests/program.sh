@@ -218,6 +218,73 @@ note: '"$here: a folder"
 run check --all "$here/schema" "$here/point"
 expect 'every refusal, with a schema that is refused' 1 '' 'schema refused S2 Syntax'
 
+# The place behind the line of a refusal: of a record, a byte, a token, a record of the header and a name in it; none of a reference, and none of a
+# schema. A line ends with a line feed, a carriage return, or both, and a column is a byte.
+run check --where "$demo" "$here/twice"
+expect 'the place of a record' 1 '' "refused 40 DuplicateName in #1
+$here/twice:9:1"
+
+file '#1=POINT($,1.,1.);  #2=POINT($,1.);' > "$here/placed"
+run check --where "$demo" "$here/placed"
+expect 'the place of a record behind another' 1 '' "refused 45 Count in #2
+$here/placed:8:21"
+
+file '#1=POINT($,1.,1.);' '#2=point();' > "$here/placed"
+run check "$demo" "$here/placed" --where
+expect 'the place of a byte' 1 '' "refused 1 BadByte at statement 9
+$here/placed:9:4"
+
+run check --where "$demo" "$here/broken"
+expect 'the place of the first of two refusals' 1 '' "refused 45 Count in #1
+$here/broken:8:1"
+
+file '#2=POINT($,1.,1.);;' > "$here/placed"
+run check --where "$demo" "$here/placed"
+expect 'the place of a token' 1 '' "refused 20 Unexpected at statement 9
+$here/placed:8:19"
+
+file | sed "s/(('DEMO'))/(('OTHER'))/" > "$here/placed"
+run check --where "$demo" "$here/placed"
+expect 'the place of the name of a schema' 1 '' "refused 31 SchemaName at statement 5
+$here/placed:5:14"
+
+file | sed "s/^FILE_NAME.*/  FILE_NAME('');/" > "$here/placed"
+run check --where "$demo" "$here/placed"
+expect 'the place of a record of the header' 1 '' "refused 30 HeaderShape at statement 4
+$here/placed:4:15"
+
+printf 'ISO-10303-21;\r\n\rHEADER;\n/*\303\274*/x' > "$here/placed"
+run check --where "$demo" "$here/placed"
+expect 'a place behind each end of a line' 1 '' "refused 1 BadByte at statement 3
+$here/placed:4:7"
+
+run check --where "$demo" "$here/nothing"
+expect 'the place of an end' 1 '' "refused 24 EndsEarly at statement 1
+$here/nothing:1:1"
+
+file '#3=CLOUD((#9),(),(TALLY(1)));' > "$here/placed"
+run check --where "$demo" "$here/placed"
+expect 'no place of a reference' 1 '' 'refused 56 Dangling in #3'
+
+run check --where "$demo" "$here"
+expect 'no place of a read' 3 '' "read fault
+note: $here: a folder"
+
+run check --where "$here/schema" "$here/twice"
+expect 'no place in a schema' 1 '' 'schema refused S2 Syntax'
+
+run check --where "$demo" "$here/point"
+expect 'no place in a file that is accepted' 0 'accepted, instances 1, canonical bytes 171' ''
+
+run check --where --all "$demo" "$here/broken"
+expect 'no places in a list' 1 '' 'refused 45 Count in #1
+refused 20 Unexpected at statement 10
+refusals 2, the rest was not read'
+
+run check --where "$demo" "$here/twice" "$here/empty"
+expect 'no places of several files' 1 "$here/empty: accepted, instances 0, canonical bytes 152" \
+    "$here/twice: refused 40 DuplicateName in #1"
+
 run check --most 0 "$demo" "$here/several"
 expect 'no refusals asked for' 2 '' "error: invalid value '0' for '--most <N>'*"
 # How the number of an instance is written is said of that number alone.
@@ -242,6 +309,10 @@ expect 'a schema from standard input' 0 'accepted, instances 1, canonical bytes 
 
 fed "$here/point" check "$demo" -
 expect 'a file from standard input' 0 'accepted, instances 1, canonical bytes 171' ''
+
+fed "$here/twice" check --where "$demo" -
+expect 'a place in standard input' 1 '' 'refused 40 DuplicateName in #1
+-:9:1'
 
 fed "$here/point" check - -
 expect 'standard input for two' 3 '' 'cannot open -
@@ -327,6 +398,11 @@ run check "$demo" "$here/packed file"
 expect 'a file packed by gzip' 1 '' "refused 1 BadByte at statement 1
 note: $here/packed file: packed by gzip; gunzip -c < '$here/packed file' | p21 check $demo -"
 
+run check --where "$demo" "$here/packed file"
+expect 'a place in front of a note' 1 '' "refused 1 BadByte at statement 1
+$here/packed file:1:2
+note: $here/packed file: packed by gzip; gunzip -c < '$here/packed file' | p21 check $demo -"
+
 run check "$demo" "$here/packed file" "$here/point"
 expect 'a file packed by gzip, among several' 1 "$one" "$here/packed file: refused 1 BadByte at statement 1
 $here/packed file: note: packed by gzip; gunzip -c < '$here/packed file' | p21 check $demo -"
@@ -355,6 +431,53 @@ note: $here/point: a STEP file, where a schema is wanted"
 run same "$demo" "$here/point" "$demo"
 expect 'a schema as the second file' 1 '' "second: refused * at statement 1
 note: $demo: a schema, where a STEP file is wanted"
+
+# Files by themselves.
+run syntax "$here/point"
+expect 'a file by itself' 0 'well formed, instances 1, schema DEMO' ''
+
+run syntax "$here/several"
+expect 'a file by itself with a name given twice' 1 '' 'refused 40 DuplicateName in #1'
+
+file '#1=NO(#2);' '#2=(B()A(#1,$));' > "$here/other"
+run syntax "$here/other"
+expect 'a file by itself that no schema accepts' 0 'well formed, instances 2, schema DEMO' ''
+
+fed "$here/point" syntax -
+expect 'standard input by itself' 0 'well formed, instances 1, schema DEMO' ''
+
+run syntax "$here/none"
+expect 'no file by itself' 3 '' "$(unopened "$here/none")"
+
+run syntax "$here"
+expect 'a folder by itself' 3 '' "read fault
+note: $here: a folder"
+
+run syntax "$demo"
+expect 'a schema by itself' 1 '' "refused * at statement 1
+note: $demo: a schema, where a STEP file is wanted"
+
+run syntax "$here/packed file"
+expect 'a packed file by itself' 1 '' "refused 1 BadByte at statement 1
+note: $here/packed file: packed by gzip; gunzip -c < '$here/packed file' | p21 syntax -"
+
+run syntax "$here/point" "$here/twice" "$here/none" "$here/other"
+expect 'several files by themselves' 3 "$here/point: well formed, instances 1, schema DEMO
+$here/other: well formed, instances 2, schema DEMO" "$here/twice: refused 40 DuplicateName in #1
+$gone"
+
+run syntax "$here/twice" "$here/packed file"
+expect 'several files by themselves, of which one is packed' 1 '' "$here/twice: refused 40 DuplicateName in #1
+$here/packed file: refused 1 BadByte at statement 1
+$here/packed file: note: packed by gzip; gunzip -c < '$here/packed file' | p21 syntax -"
+
+printf '%s\n' "$here/point" "$here/other" > "$here/list"
+run syntax "@$here/list"
+expect 'the files of a list by themselves' 0 "$here/point: well formed, instances 1, schema DEMO
+$here/other: well formed, instances 2, schema DEMO" ''
+
+run syntax
+expect 'nothing by itself' 2 '' '*FILE*'
 
 # The large run: 100,000 points.
 file "$(seq 100000 | sed 's/.*/#&=POINT($,1.,1.);/')" > "$here/large"
@@ -459,7 +582,7 @@ run --version
 expect 'the version' 0 'p21 0.1.0 (canonical form 1)' ''
 
 # The toolchain that README names is the one that is here.
-if command -v rt > /dev/null && ! grep -qF "The toolchain \`$(rt version)\`" README.md; then
+if command -v rt > /dev/null && ! grep -qF "\`$(rt version)\`" README.md; then
     echo "README does not name the toolchain $(rt version)" >&2
     failed=1
 fi
@@ -499,7 +622,7 @@ done
 run faults 11 12
 expect 'two refusals' 2 '' '*12*'
 
-tools/make-refusals --check || failed=1
+making/make-refusals --check || failed=1
 
 # blanks COUNT: a file with so many blanks between its data section and its end.
 blanks() {
@@ -557,7 +680,7 @@ expect 'progress of 130,000,000 bytes' 0 'accepted, instances 0, canonical bytes
 run show --progress "$demo" "$here/point" --name 2
 expect 'progress of show' 2 '' '*--progress*'
 
-for command in param schema check canon show same faults; do
+for command in param syntax schema check canon show same faults; do
     "$program" "$command" --help > "$here/help" 2> "$here/error" < /dev/null
     status=$?
     : > "$here/output"

@@ -1,5 +1,5 @@
 #!/usr/bin/env python3
-"""Whether each refusal has one number, one name and one sentence. What tools/make-refusals makes of docs/FAULTS.md has to be as it
+"""Whether each refusal has one number, one name and one sentence. What making/make-refusals makes of docs/FAULTS.md has to be as it
 makes it. The list there is compared with the titles of its sections and with what the pages show, with the code
 (crates/*/src/fault.rt) and with the definitions that its contracts cite (crates/*/specs/Fault.antt); so are the names and numbers
 of what is left out, by their table there and by the section of LeftOut; the sentence of each fault of each crate, by the table of
@@ -25,7 +25,7 @@ CODE = {
 SENTENCE = re.compile(r'#\[error\("([^"]*)"\)\]\n\s*(?:pub struct )?(\w+)')
 # Faults that print what they hold.
 HOLDS = ("{0}", "{fault} {at}")
-MADE = runpy.run_path(str(ROOT / "tools" / "make-refusals"))
+MADE = runpy.run_path(str(ROOT / "making" / "make-refusals"))
 
 
 def read(name):
@@ -134,10 +134,10 @@ def wrong_in_wanted():
 
 
 def stale():
-    """What isn't as tools/make-refusals makes it."""
+    """What isn't as making/make-refusals makes it."""
     for name, text in MADE["sources"](read("docs/FAULTS.md")).items():
         if read(name) != text:
-            yield f"{name} is not what docs/FAULTS.md says: tools/make-refusals makes it"
+            yield f"{name} is not what docs/FAULTS.md says: making/make-refusals makes it"
 
 
 def wrong_in_places():

@@ -7,7 +7,7 @@ In a clone of what stands in this tree, records are written as a build would lea
 release is made only where every crate is proved of these very sources. Then a trial is made of what is built in this tree,
 proved or not, and each of its packages is installed and tried, here and in a root of Debian 11 without a network.
 
-It wants `rt`, which links, and what ./p21 and tools/build-library build. What can't be tried for want of something is named
+It wants `rt`, which links, and what ./p21 and making/build-library build. What can't be tried for want of something is named
 in the last line, and the status is then 77.
 """
 
@@ -102,7 +102,7 @@ def must(*words, **more):
 
 def make_release(tree, *words, **environment):
     """Makes a release of a tree."""
-    return run(tree / "tools/make-release", *words, env={**os.environ, **environment})
+    return run(tree / "making/make-release", *words, env={**os.environ, **environment})
 
 
 def sum_of(path):
@@ -130,7 +130,7 @@ def clone(folder):
 
 def true_record(tree, crate):
     """The record of a build of a crate, as if the gate had proved it."""
-    script = f'root={tree}; . "$root/tools/building.sh"; sum_of_sources "$root" {crate}; needed_crates {crate}'
+    script = f'root={tree}; . "$root/making/building.sh"; sum_of_sources "$root" {crate}; needed_crates {crate}'
     sources, *needed = must("sh", "-c", script).splitlines()
     files = [pathlib.Path(name) for name in BUILT if f"/{crate}/" in name]
     return [
@@ -140,6 +140,11 @@ def true_record(tree, crate):
         f"gate {len(needed)} passed, 0 failed",
         *(f"file {sum_of(tree / name)}  {name.name}" for name in files),
     ]
+
+
+def gate_of(record):
+    """The line of a record that says how the gate ended."""
+    return next(line for line in record if line.startswith("gate "))
 
 
 def records(parts, folder):
@@ -166,8 +171,9 @@ def records(parts, folder):
     for crate in crates:
         write(crate, whole[crate])
     turned = [
-        ("a crate that isn't proved", "proved p21_stream\n", "", "the gate proved nothing of p21_stream"),
+        ("a crate that isn't proved", "proved p21_stream\n", "", "nothing of p21_stream was proved"),
         ("a gate that failed", "passed, 0 failed", "passed, 1 failed", "passed, 1 failed`"),
+        ("checks in place of the gate", gate_of(whole["p21"]), "checks over kept work", "checks over kept work, and not by the gate"),
         ("other sources", "sources ", "sources 0", "the sources below p21 aren't those that were proved"),
         ("another program", f"{sum_of(tree / BUILT[0])}  p21", f"{'0' * 64}  p21", "crates/p21/out/p21 isn't the one that was built"),
         ("another toolchain", "toolchain ", "toolchain another ", "p21 was built by another "),
@@ -188,11 +194,11 @@ def records(parts, folder):
     refused("a file that isn't committed", "changes that are not committed")
     must("git", "checkout", "-q", "LICENSE", cwd=tree)
     if len(crates) < 2:
-        parts.leave_out("a whole release", f"there is no {BUILT[2]}: tools/build-library builds it")
+        parts.leave_out("a whole release", f"there is no {BUILT[2]}: making/build-library builds it")
         return
     missing = [name for name in FOR_OTHERS if not (ROOT / name).is_file()]
     if missing:
-        parts.leave_out("a whole release", f"there is no {missing[0]}: tools/build-for --library makes it")
+        parts.leave_out("a whole release", f"there is no {missing[0]}: making/build-for --library makes it")
         return
     status, output = make_release(tree, release, P21_KEEP="1")
     parts.judge("a release of what is proved", 0, status)
@@ -214,7 +220,7 @@ def start(parts, folder):
     with the toolchain's own start: here by the C library, which is new enough for both."""
     kit = pathlib.Path(shutil.which("rt")).resolve().parent.parent
     (folder / "started.c").write_text(STARTED)
-    for source in (folder / "started.c", ROOT / "tools/release/start.c"):
+    for source in (folder / "started.c", ROOT / "making/release/start.c"):
         must(kit / "toolchain/bin/clang", "-O2", "-fPIE", "-ffreestanding", "-c", source, "-o", folder / f"{source.stem}.o")
     said = []
     for name, further in (("as-the-toolchain", []), ("as-a-release", [folder / "start.o"])):
@@ -276,7 +282,7 @@ def others(parts, release, folder):
     for system, tag in TAGS.items():
         packed = next((path for path in release.iterdir() if re.search(rf"-{system}\.(zip|tar\.gz)$", path.name)), None)
         if packed is None:
-            parts.leave_out(f"the packages for {system}", f"there is no platforms/out/{system}/p21_c.o: tools/build-for --library makes it")
+            parts.leave_out(f"the packages for {system}", f"there is no platforms/out/{system}/p21_c.o: making/build-for --library makes it")
             continue
         shutil.unpack_archive(packed, folder / system)
         top = next((folder / system).iterdir())
@@ -292,9 +298,10 @@ def others(parts, release, folder):
         licensed = [name for name in names if name.startswith("share/doc/p21/licenses/") and name.endswith("-copyright")]
         parts.judge(f"{packed.name}: licenses of what is linked in", 2, len(licensed))
         target = folder / f"{system}-wheel"
-        words = ["-m", "pip", "install", "--quiet", "--no-index", "--find-links", release, "--only-binary=:all:", "--platform", tag, "--target", target, "p21"]
-        if run(sys.executable, *words)[0] != 0:
-            parts.judge(f"the wheel for {system}", "installed", run(sys.executable, *words)[1])
+        words = ["-m", "pip", "install", "--quiet", "--no-index", "--find-links", release, "--only-binary=:all:", "--platform", tag]
+        status, output = run(sys.executable, *words, "--target", target, "p21")
+        if status != 0:
+            parts.judge(f"the wheel for {system}", "installed", output)
             continue
         library = target / "p21" / ("p21.dll" if tag == "win_amd64" else "libp21.so")
         parts.judge(f"the wheel for {system}: the library", (True, BEGINS[system]), (library.is_file(), library.read_bytes()[: len(BEGINS[system])]))

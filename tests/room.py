@@ -12,6 +12,7 @@ from pathlib import Path
 
 ROOT = Path(__file__).resolve().parent.parent
 sys.path[:0] = [str(ROOT / "tests"), str(ROOT / "tests" / "hostile")]
+import exchange  # noqa: E402
 from rigged import Answer, Rigged, Tally  # noqa: E402
 
 ROOM = 16_384
@@ -84,15 +85,8 @@ VALUES = {
 # Instances in external mapping, whose last part has the long string.
 PARTS = [("(BELOW(7)BESIDE(.T.)TEXT('{}','b'))",) * 2, ("(BESIDE(.T.)TEXT('{0}','b')BELOW(7))", "(BELOW(7)BESIDE(.T.)TEXT('{0}','b'))")]
 
-FRONT = """ISO-10303-21;
-HEADER;
-FILE_DESCRIPTION((''),'2;1');
-FILE_NAME('','',(''),(''),'','','');
-FILE_SCHEMA(('ROOM'));
-ENDSEC;
-DATA;
-"""
-BACK = "#10000=TEXT('','');\n#10001=TEXT('','');\nENDSEC;\nEND-ISO-10303-21;\n"
+FRONT = exchange.front("ROOM")
+BACK = f"#10000=TEXT('','');\n#10001=TEXT('','');\n{exchange.BACK}"
 
 
 def forms():

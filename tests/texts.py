@@ -2,8 +2,9 @@
 """Runs each command line that README, docs and the help show with its answer, and each text of docs/FAULTS.md.
 
 A command line stands in a table beside its answer, in a line above the words "prints `..`", or behind `$` above what it
-prints, where `..` stands for lines that are left out. The commands behind `$` of one page are run one behind the other in one shell, in a folder that has the examples, with the
-program and the tools in its path. Those of a program that isn't there are named and left out.
+prints, where `..` stands for lines that are left out. The commands behind `$` of one page are run one behind the other in
+one shell, in a folder that has the examples, with the program and the tools in its path. Those of a program that isn't there
+are named and left out.
 
 P21 in the environment, or the first argument, names another program than ./p21. The status is 1 where an answer is
 another one, and 77 where something was left out.
@@ -18,22 +19,14 @@ import subprocess
 import sys
 import tempfile
 
+import exchange
+
 ROOT = pathlib.Path(__file__).resolve().parent.parent
 PROGRAM = os.path.abspath(sys.argv[1] if len(sys.argv) > 1 else os.environ.get("P21", ROOT / "p21"))
 SCHEMA = ROOT / "examples" / "product.exp"
 
 # A file of the schema without instances, line by line.
-FRAME = [
-    "ISO-10303-21;",
-    "HEADER;",
-    "FILE_DESCRIPTION((''),'2;1');",
-    "FILE_NAME('','',(''),(''),'','','');",
-    "FILE_SCHEMA(('PRODUCT_MODEL'));",
-    "ENDSEC;",
-    "DATA;",
-    "ENDSEC;",
-    "END-ISO-10303-21;",
-]
+FRAME = exchange.file_of("PRODUCT_MODEL", "").splitlines()
 
 
 def answer(arguments):

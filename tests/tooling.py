@@ -8,6 +8,7 @@ import sys
 import tempfile
 import time
 
+import exchange
 import needs
 
 ROOT = pathlib.Path(__file__).resolve().parent.parent
@@ -26,15 +27,7 @@ OTHERWISE = os.environ.get("P21_TOOLS_OTHERWISE", "").split("|")
 os.chdir(ROOT)
 os.environ.setdefault("P21", str(ROOT / "p21"))
 
-FRAME = """ISO-10303-21;
-HEADER;
-FILE_DESCRIPTION((''),'2;1');
-FILE_NAME('','',(''),(''),'','','');
-FILE_SCHEMA(('PRODUCT_MODEL'));
-ENDSEC;
-{data}
-END-ISO-10303-21;
-"""
+FRAME = exchange.header("PRODUCT_MODEL") + "{data}\n" + exchange.END
 
 
 def file_of(instances, changes=()):

@@ -13,6 +13,7 @@ import re
 import subprocess
 import sys
 
+import exchange
 from tooling import ROOT, Tests
 from renaming import shuffled
 
@@ -22,20 +23,11 @@ import p21_schemas  # pylint: disable=wrong-import-position
 import p21_sets  # pylint: disable=wrong-import-position
 
 SCHEMA = "tests/naming.exp"
-FRONT = """ISO-10303-21;
-HEADER;
-FILE_DESCRIPTION((''),'2;1');
-FILE_NAME('','',(''),(''),'','','');
-FILE_SCHEMA(('NAMING'));
-ENDSEC;
-DATA;
-"""
-END = "ENDSEC;\nEND-ISO-10303-21;\n"
 
 
 def file_of(records):
     """A file of these records, by their names."""
-    return (FRONT + "".join(f"#{name}={record};\n" for name, record in records.items()) + END).encode("ascii")
+    return exchange.file_of("NAMING", "".join(f"#{name}={record};\n" for name, record in records.items())).encode("ascii")
 
 
 # --- Files that are made ---

@@ -80,6 +80,7 @@ def looked_at(tests):
     tests.judge("the run", ("", 1), (error, status))
     tests.judge("nothing is asked of a network", [], re.findall(r"https?:|src=|@import|url\(", page))
     tests.judge("the name of the file", True, "&lt;b&gt;delivery &amp; \\x1b.step" in page)
+    tests.judge("values as people write them", True, "COORDINATES</span> (80, 50, 12.5) mm → (80, 50, 12.25) mm</p>" in page)
     if CHROMIUM is None:
         return
     stepped = tests.make("page.html", page.replace("</body>", STEPS))

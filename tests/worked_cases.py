@@ -1091,6 +1091,50 @@ def of_commands():
         yield Case(f"same, {title}", "same", [DEMO, first, second], answered(answer))
 
 
+# The name of the schema in FILE_SCHEMA, instances, and what `p21 syntax` answers of a file with these by itself.
+ALONE = [
+    ("DEMO", "", "well formed, instances 0, schema DEMO"),
+    ("DEMO", "#1=NO(#2,(#1));#2=(B($)A(C(#1)));", "well formed, instances 2, schema DEMO"),
+    ("demo {1 0 10303}", "#7=A();#07=B();", "refused 40 DuplicateName in #7"),
+    ("a_b2-c", "#0=A('#9',#00);", "well formed, instances 1, schema A_B2"),
+    ("_a", "", "refused 31 SchemaName at statement 5"),
+    ("203", "", "refused 31 SchemaName at statement 5"),
+    (" DEMO", "", "refused 31 SchemaName at statement 5"),
+    ("", "", "refused 31 SchemaName at statement 5"),
+    ("\\X\\44EMO", "", "well formed, instances 0, schema DEMO"),
+    ("\\X2\\00C4\\X0\\", "", "refused 31 SchemaName at statement 5"),
+    ("DEMO", "#1=A(#2);#3=A(#4);", "refused 56 Dangling in #1"),
+    ("DEMO", "#1=A(#2);#2=A(B((#4)));", "refused 56 Dangling in #2"),
+    ("DEMO", "#1=(A()B(#2,#1));", "refused 56 Dangling in #1"),
+    ("DEMO", "#1=A(#2);#1=A();", "refused 40 DuplicateName in #1"),
+    ("DEMO", "#1=A(1)", "refused 20 Unexpected at statement 8"),
+    ("DEMO", "#1=A('\\X\\0');", "refused 4 BadDirective at statement 8"),
+    ("DEMO", "#1=A(nan);", "refused 1 BadByte at statement 8"),
+    ("DEMO", "#1=!A();", "refused 26 LeftOut(UserKeyword) at statement 8"),
+    ("DEMO", "#18446744073709551615=A(#18446744073709551615);", "well formed, instances 1, schema DEMO"),
+    ("DEMO", "#18446744073709551616=A();", "refused 10 NameRange at statement 8"),
+]
+# What stands behind the header, and what is answered.
+SECTIONS_ALONE = [
+    (f"DATA('x',('Demo {{1}}'));#1=A(#2);ENDSEC;DATA('',('DEMO'));#2=A();ENDSEC;{END}", "well formed, instances 2, schema DEMO"),
+    (f"DATA('x',('DEMO'));ENDSEC;DATA('\\X\\78',('DEMO'));ENDSEC;{END}", "refused 33 SectionTwice at statement 9"),
+    (f"DATA('x',('DEMO_'));ENDSEC;{END}", "refused 31 SchemaName at statement 7"),
+    (f"DATA('x',('DEMO'));#1=A();ENDSEC;DATA('y',('DEMO'));#1=A();ENDSEC;{END}", "refused 40 DuplicateName in #1"),
+    (f"DATA;ENDSEC;{END}#1", "refused 25 AfterEnd at statement 10"),
+]
+
+
+def of_files_alone():
+    """Files by themselves, and one that is cut off in front of its last `;`."""
+    for schema, instances, answer in ALONE:
+        yield Case(f"syntax, {schema} {instances}", "syntax", [file_of(schema, instances)], answered(answer))
+    for sections, answer in SECTIONS_ALONE:
+        yield Case(f"syntax, {sections}", "syntax", [behind_header("DEMO", sections)], answered(answer))
+    for length in range(CONVERTED.rindex(";") + 1):
+        text = CONVERTED[:length]
+        yield Case(f"syntax, a file of a converter, {length} bytes", "syntax", [text], answered(cut_off(text)))
+
+
 def of_cuts():
     """Files and a schema that are cut off in front of their last `;`, and one of no byte."""
     for title, text in (("a file", file_of("DEMO", "#2 = POINT($, 1.0, 10.E-1);")), ("a file of a converter", CONVERTED)):
@@ -1148,6 +1192,7 @@ def cases(folder):
         yield Case(f"schema, {text[:200]}", "schema", [text], answered(answer))
     yield from of_instances()
     yield from of_commands()
+    yield from of_files_alone()
     yield from of_cuts()
     yield from of_pages(folder)
 

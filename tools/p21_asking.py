@@ -10,11 +10,6 @@ then one run of `p21 check --all` answers the questions of all.
 # instance; when all threads wait for an answer, one run of `p21 check --all` over all copies, each under a name of its
 # own, gives it. So hundreds of refusals take as many runs as one does.
 
-# Of several refusals the places are found together. The file is passed over twice for all of them, once for their
-# instances and once for what these refer to. Each refusal has a thread that asks the program about copies of its
-# instance; when all threads wait for an answer, one run of `p21 check --all` over all copies, each under a name of its
-# own, gives it. So hundreds of refusals take as many runs as one does.
-
 import concurrent.futures
 import itertools
 import re
@@ -41,12 +36,6 @@ def refusals(answer: reading.Answer) -> Optional[List[str]]:
     """The lines of `p21 check --all`, without that of the count, or None where it has none."""
     *lines, count = answer.error.split("\n")
     return lines if COUNT.fullmatch(count) else None
-
-
-def rest_of(answer: reading.Answer) -> str:
-    """What the count says of the rest of the file: nothing where all was read."""
-    found = COUNT.fullmatch(answer.error.rpartition("\n")[2])
-    return (found and found[1]) or ""
 
 
 class Question:

@@ -15,9 +15,6 @@ value is replaced by one that is refused by another number.
 # `p21-where` keeps the bytes of a file, which take no more memory than the file where it lies, of which all is looked
 # at: a file that is mapped and cut short meanwhile ends the tool by a signal. What is found of a place is found in
 # these bytes; a file that was changed while the program read it is said to be, and nothing else.
-#
-# A missing value is looked for by an entity that has the same attributes, all optional, in a copy of the schema. At
-# most 100 ways are tried; where several fit, the last attributes are named, as the values are read from the front.
 
 import array
 import collections

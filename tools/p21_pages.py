@@ -13,6 +13,8 @@ from typing import Any, Dict, Iterable, Iterator, List, Mapping, NamedTuple, Opt
 
 import p21_models as models
 from p21_differences import CAME, CHANGED, WENT, Counts, Difference
+from p21_plainly import is_spelled, plainly
+from p21_units import Lengths, unit_of, with_unit
 from p21_reading import shown
 from p21_models import key_of, parts_of, record_of, stretch_of, values_of
 
@@ -56,7 +58,7 @@ button.entity:focus-visible { outline: 2px solid var(--link); }
   border: 1px solid var(--line); border-radius: 4px; font: inherit; }
 .item { border: 1px solid var(--line); border-radius: 6px; margin: .6rem 0; padding: .5rem .8rem; background: var(--card);
   scroll-margin-top: 4rem; }
-.item:target, .line:target { outline: 2px solid var(--link); }
+.written { font-family: inherit; } .item:target, .line:target { outline: 2px solid var(--link); }
 .item h3 { font-size: .95rem; margin: 0 0 .2rem; } .line { margin: .1rem 0; padding-left: 2rem; text-indent: -2rem;
   scroll-margin-top: 4rem; }
 .side { display: inline-block; width: 1.6rem; text-indent: 0; color: var(--soft); }
@@ -115,11 +117,6 @@ def quoted(text: str) -> str:
     return html.escape(str(shown(text)))
 
 
-def entity_of(line: bytes) -> str:
-    """The keyword of an instance's line, or those of its parts."""
-    return "+".join(map(key_of, parts_of(record_of(stretch_of(line)))))
-
-
 def place_of(coordinates: bytes) -> Optional[Tuple[float, ...]]:
     """The place in space that coordinates say, or None where they say none."""
     found = IN_SPACE.fullmatch(coordinates)
@@ -132,10 +129,19 @@ def place_of(coordinates: bytes) -> Optional[Tuple[float, ...]]:
 class Page:
     """Takes the differences of two files, and writes the page."""
 
-    def __init__(self, first: str, second: str, data: Tuple[models.Text, models.Text], attributes: Mapping[str, Sequence[str]]) -> None:
+    def __init__(
+        self,
+        first: str,
+        second: str,
+        data: Tuple[models.Text, models.Text],
+        attributes: Mapping[str, Sequence[str]],
+        lengths: Lengths,
+    ) -> None:
         self.paths = (first, second)
         self.data = data
         self.attributes = attributes
+        self.lengths = lengths
+        self.units = [unit_of(data[0]), unit_of(data[1])]
         self.items: List[Item] = []
         self.left_out = 0
         self.points: List[Difference] = []
@@ -341,7 +347,30 @@ class Page:
         for each in item.all:
             if found.what == "header" or each.what != "instance":
                 yield from self.texts(each)
+            else:
+                yield from self.written(each)
         yield "</div>"
+
+    def written(self, found: Difference) -> Iterator[str]:
+        """The values of an attribute that changed as people write them, where that is other than in the lines above."""
+        if found.kind != CHANGED or found.attribute is None:
+            return
+        lines = [self.lines_by_name[at].get(-1 if name is None else name, b"") for at, name in enumerate((found.first, found.second))]
+        spans = [next(self.spans(line, {(found.entity or "", found.attribute)}), (0, 0)) for line in lines]
+        values = [line[start:end].decode("latin-1") for line, (start, end) in zip(lines, spans)]
+        if max(map(len, values)) > MOST_BYTES:
+            return
+        units = self.units if self.is_length(lines[0], found) else [None, None]
+        plain = [with_unit(value, plainly(value), unit) for value, unit in zip(values, units)]
+        if any(map(is_spelled, values)) or plain != list(map(plainly, values)):
+            before, after = map(quoted, plain)
+            yield f'<p class="line written"><span class="soft">{quoted(found.attribute)}</span> {before} → {after}</p>'
+
+    def is_length(self, line: bytes, found: Difference) -> bool:
+        """Are the values of the attribute that changed in an instance lengths, of files that have a unit for these?"""
+        keys = list(map(key_of, parts_of(record_of(stretch_of(line)))))
+        is_known = any(self.units) and found.entity in keys
+        return is_known and self.lengths.at(keys, found.entity or "", found.attribute or "")
 
     def texts(self, found: Difference) -> Iterator[str]:
         """The texts of a difference outside of instances."""

@@ -102,7 +102,10 @@ class Sets:
         asked = (key, *keys)
         if asked not in self.parts:
             entities = self.outline.closure(keys)
-            order = self.outline.order(key) if len(keys) == 1 else [key]
-            places = [(entity, attribute) for entity in order for attribute in self.own.get(entity, ())]
-            self.parts[asked] = tuple(self.of_place(entities, entity, attribute) for entity, attribute in places)
+            self.parts[asked] = tuple(self.of_place(entities, entity, attribute) for entity, attribute in self.places_of(key, keys))
         return self.parts[asked]
+
+    def places_of(self, key: str, keys: Tuple[str, ...]) -> List[Tuple[str, str]]:
+        """The attributes of the values behind a keyword, each with the entity that declares it."""
+        order = self.outline.order(key) if len(keys) == 1 else [key]
+        return [(entity, attribute) for entity in order for attribute in self.own.get(entity, ())]

@@ -3,9 +3,11 @@
 
 import { Graph, elementsOf, renamedFile, renamedText, sectionsOf, sortedText } from "./models.mjs";
 import { NONE, SAME, DIFFERENT, UNDECIDED, fitsWhole, pairing } from "./pairing.mjs";
+import { isSpelled, plainly } from "./plainly.mjs";
 import { joined } from "./program.mjs";
 import { namesOfValues, readParts, shortened, textOf } from "./reading.mjs";
 import { nestingOf } from "./sets.mjs";
+import { Units, withUnit } from "./units.mjs";
 
 const LINE_END = 10;
 const EQUALS = 0x3d;
@@ -22,6 +24,8 @@ const HEADER_NAMES = new Map([
 const [CHANGED, CAME, WENT] = ["changed", "came", "went"];
 // No file has a name so great.
 const NO_NAME = 2n ** 64n;
+// A value of more characters isn't written as people would.
+const MOST_READ = 4_000;
 
 // --- Canonical files ---
 
@@ -104,6 +108,12 @@ function commonFront(first, second) {
   return count;
 }
 
+/** Two texts around the first place at which they differ. */
+function shortenedPair(texts) {
+  const at = commonFront(...texts);
+  return texts.map((text) => shortened(text, at));
+}
+
 /** The entity of an instance's line, or those of its parts. */
 function entityOf(line) {
   return readParts(line)
@@ -114,19 +124,26 @@ function entityOf(line) {
 /**
  * The differences of two records or lines, one after the other. Each has what happened (changed, came or went), to what (a
  * header, a section, an instance or its section), the names of the instance in the first and in the second file, its entity and
- * attribute, and the texts of either file or of one alone.
+ * attribute, the texts of either file or of one alone, and what gives those of values as people write them, where that is other.
  */
 class Comparison {
-  constructor(attributes, sets = null) {
+  constructor(attributes, { sets = null, lengths = null } = {}) {
     this.attributes = attributes;
     this.sets = sets;
+    this.lengths = lengths;
   }
 
   /** What changed in a pair. */
-  change({ what, names, told }, entity, attribute, ...given) {
+  change({ what, names, told, keys }, entity, attribute, ...given) {
     const texts = given.map((text, side) => named(text, told?.[side]));
     const at = commonFront(...texts);
-    return { kind: CHANGED, what, names, entity, attribute, texts: texts.map((text) => shortened(text, at)) };
+    const isRead = attribute !== null && texts.every(({ length }) => length <= MOST_READ);
+    const plain = (units) => {
+      const isLength = isRead && keys && units.some(Boolean) && this.lengths?.at(keys, entity, attribute);
+      const read = isRead && texts.map((text, side) => withUnit(text, plainly(text), isLength ? units[side] : null));
+      return isRead && (texts.some(isSpelled) || read.some((text, side) => text !== plainly(texts[side]))) ? shortenedPair(read) : null;
+    };
+    return { kind: CHANGED, what, names, entity, attribute, texts: texts.map((text) => shortened(text, at)), plain };
   }
 
   /** A line that stands in one of the files alone. */
@@ -166,6 +183,7 @@ class Comparison {
     const [one, other, renamed] = [...texts, mapped].map(readParts);
     const shape = (parts) => JSON.stringify(parts.map(({ key, values }) => [key, values.length]));
     const keys = one.map(({ key }) => key);
+    const told = pair.what === "header" ? pair : { ...pair, keys };
     if (shape(one) !== shape(other)) {
       yield this.change(pair, keys.join("+"), null, ...texts);
       return;
@@ -176,7 +194,7 @@ class Comparison {
       for (const [at, name] of names.entries()) {
         const value = (parts, text) => text.slice(parts[number].values[at].start, parts[number].values[at].end);
         const [was, is, meant] = [value(one, texts[0]), value(other, texts[1]), value(renamed, mapped)];
-        if (!this.isEqual(meant, is, nestings[at] ?? null)) yield this.change(pair, part.key, name, was, is);
+        if (!this.isEqual(meant, is, nestings[at] ?? null)) yield this.change(told, part.key, name, was, is);
       }
     }
   }
@@ -191,13 +209,14 @@ class Comparison {
   }
 }
 
-/** What differs in instances of equal names, and those of names that one file alone has. */
-function* byNames(comparison, first, second, heard) {
+/** What differs in instances of equal names, and those of names that one file alone has. `units` hear all of them. */
+function* byNames(comparison, first, second, units, heard) {
   let count = 0;
   for (const [one, other] of pairs(instances(first), instances(second))) {
     if (++count % 10_000 === 0) heard(count);
     const names = [one?.name ?? null, other?.name ?? null];
     const texts = [one, other].map((found) => found && textOf(found.line));
+    texts.forEach((text, side) => text && units[side].hear(text));
     if (!one || !other) {
       yield comparison.either("instance", names, texts);
       continue;
@@ -337,7 +356,7 @@ class Found {
     this.most = most;
     this.counts = new Counts();
     this.count = 0;
-    this.inHeader = 0;
+    this.inHeader = this.inTimeStamp = 0;
     this.shown = [];
     this.lines = [];
   }
@@ -346,27 +365,35 @@ class Found {
     this.count++;
     this.counts.add(difference);
     this.inHeader += Number(difference.what === "header");
-    if (this.shown.length < this.most) this.shown.push({ what: whatOf(difference), texts: difference.texts });
+    this.inTimeStamp += Number(difference.what === "header" && difference.attribute === "time_stamp");
+    if (this.shown.length < this.most) this.shown.push(difference);
     this.lines.push(lineOfDifference(difference));
+  }
+
+  /** The whole of it, where the files have these units of length: those that are shown have their values as people write them. */
+  whole(units) {
+    const shown = this.shown.map(({ plain, ...rest }) => ({ what: whatOf(rest), texts: rest.texts, plain: plain?.(units) ?? null }));
+    return { ...this, shown, units };
   }
 }
 
-/** What differs between two canonical files by the names of instances. */
-export function differencesOf(attributes, first, second, most, heard = () => {}) {
-  const comparison = new Comparison(attributes);
+/** What differs between two canonical files by the names of instances, with the units of length of both. */
+export function differencesOf(attributes, lengths, first, second, most, heard = () => {}) {
+  const comparison = new Comparison(attributes, { lengths });
   const found = new Found(most);
+  const units = [new Units(), new Units()];
   for (const difference of comparison.headers(header(first), header(second))) found.add(difference);
   for (const difference of comparison.sections(first, second)) found.add(difference);
-  for (const difference of byNames(comparison, first, second, heard)) found.add(difference);
-  return found;
+  for (const difference of byNames(comparison, first, second, units, heard)) found.add(difference);
+  return found.whole(units.map((each) => each.length()));
 }
 
 /**
  * What differs between two canonical files up to the names of instances, with a last line that says what is known. `isSame` says
- * of two files whether the program says that they are the same.
+ * of two files whether the program says that they are the same, and `units` are their units of length.
  */
-export function differencesUpToNames(attributes, sets, first, second, most, isSame, heard = () => {}) {
-  const comparison = new Comparison(attributes, sets);
+export function differencesUpToNames(attributes, lengths, units, first, second, most, isSame, heard = () => {}) {
+  const comparison = new Comparison(attributes, { sets: lengths.sets, lengths });
   const upToNames = new UpToNames(comparison, first, second, heard);
   const found = new Found(most);
   for (const difference of comparison.headers(header(first), header(second))) found.add(difference);
@@ -384,7 +411,8 @@ export function differencesUpToNames(attributes, sets, first, second, most, isSa
     word = DIFFERENT;
     butFor = [...([...names].some(([one, other]) => one !== other) ? ["numbering"] : []), "the header"];
   }
-  return { ...found, word, butFor, verdict: verdictLine(word, found.counts, names.size, ambiguous, butFor) };
+  const alike = [...names].filter(([one, other]) => one === other).length;
+  return { ...found.whole(units), word, butFor, isRenamed: 2 * alike < names.size, verdict: verdictLine(word, found.counts, names.size, ambiguous, butFor) };
 }
 
 /** So many of something, in words. */

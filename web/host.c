@@ -4,23 +4,25 @@
 // Memory doubles, or where the browser doesn't give as much, grows by half of that, and so on down to what is needed.
 // Firefox moves a memory at each growth, so that steps of 1 MiB cost the square of the size.
 
+#include "../platforms/errors.h"
+
 typedef unsigned char byte;
 typedef unsigned long size;
 
 #define FROM_PAGE(NAME) __attribute__((import_module("host"), import_name(NAME)))
-
-enum { NO_SUCH_FILE = 2, INPUT_OUTPUT = 5 };
 
 static int last_error;
 
 int rattle_errno(void) { return last_error; }
 void rattle_set_errno(int error) { last_error = error; }
 
+// The answer of a call, or -1 where it failed: by the error that the host names, which is below -1, or else by this one.
 static long answer(long answered, int error)
 {
-    if (answered < 0)
-        last_error = error;
-    return answered;
+    if (answered >= 0)
+        return answered;
+    last_error = answered < -1 ? (int)-answered : error;
+    return -1;
 }
 
 // Files: descriptors 1 and 2 are the two streams of the answer.

@@ -25,9 +25,11 @@
 // of everything leads to the answer. As long as there is none, a picture shows what one gets; examples of refusals and
 // what isn't proved stand behind folds.
 //
-// Files compare by the names of instances, as in `p21-diff`, and by a choice up to names. Differences that all stand in
-// the header are said to: the data is then the same. `same` and `different` are always meant by names, as the program
-// means them; that two files are the same up to names is said beside it.
+// Files compare by the names of instances, as in `p21-diff`, and by a choice up to names, which is made at first where
+// fewer than half of the instances that belong together have one name in both. What alone differs is said first: the
+// numbering, the header, or its time stamp. Differences that all stand in the header are said to: the data is then the
+// same. `same` and `different` are always meant by names, as the program means them; that two files are the same up to
+// names is said beside it.
 //
 // Of a canonical file the page shows the first 128 KiB, and of differences the first 1,000. Both can be saved whole.
 
@@ -581,9 +583,17 @@ function summary({ schemas, files, verdict, differences }) {
   return { title: failed(refused[0]), more: files.length === 1 ? count : more, mood: "bad" };
 }
 
-/** How many differences there are, and what else is known of them. */
-function summaryOfDifferences({ count, onlyHeader, upToNames }) {
-  const said = [`${counted(count, "difference")}.`];
+/** In what alone two files differ, as a sentence; nothing where it is more than their numbering and their header. */
+function butFor({ onlyTimeStamp, upToNames }) {
+  const found = upToNames?.word === "same" ? ["numbering"] : (upToNames?.butFor ?? []);
+  const named = found.map((part) => (part === "the header" && onlyTimeStamp ? "the time stamp" : part));
+  return named.length > 0 ? [`The same but for ${named.join(" and ")}.`] : [];
+}
+
+/** What is known of the differences, and how many they are. */
+function summaryOfDifferences(found) {
+  const { count, onlyHeader, upToNames } = found;
+  const said = [...butFor(found), `${counted(count, "difference")}.`];
   if (onlyHeader) said.push("All of them stand in the header: the data is the same.");
   else if (upToNames?.word === "same") said.push("Up to the names of their instances the files are the same.");
   return said.join(" ");
@@ -860,8 +870,12 @@ function withMarks(text) {
   });
 }
 
-/** What differs between two files: by the names of instances, and up to names. */
-function differences(found, files, upToNames) {
+/**
+ * What differs between two files: by the names of instances, and up to names. Where fewer than half of the instances that belong
+ * together have one name in both, they are told by what they say at first.
+ */
+function differences(found, files, isAsked) {
+  const upToNames = isAsked || found.upToNames?.isRenamed === true;
   const list = element("div", {});
   const show = (way) => list.replaceChildren(...listOfDifferences(way === "names" ? found : found.upToNames, files));
   const ways = { names: "by their names", shapes: "by what they say, whatever their names are" };
@@ -894,12 +908,15 @@ function listOfDifferences({ count, shown, text, verdict }, files) {
   return [...made, ...search, element("ol", {}, ...rows)];
 }
 
-function ofDifference({ what, texts }, files) {
+/** A difference: what it is about, and the text of each file, below which a value stands as people write it. */
+function ofDifference({ what, texts, plain }, files) {
   const marked = texts.length === 2 ? markedPair(...texts) : [[texts[0]]];
+  const written = plain && markedPair(...plain);
   const names = texts.length === 2 ? files.map(({ name }, number) => `${"AB"[number]}, ${name}`) : [null];
   const sides = marked.map((parts, number) => {
     const side = names[number] && element("span", { class: "side" }, names[number]);
-    return element("div", {}, side, element("code", { class: "value" }, ...parts));
+    const read = written && element("span", { class: "plain" }, ...written[number]);
+    return element("div", {}, side, element("code", { class: "value" }, ...parts), read);
   });
   return element("li", {}, element("div", { class: "what" }, what), element("div", { class: "sides" }, ...sides));
 }

@@ -3,8 +3,8 @@
 /**
  * Runs a module with the words of a command line, and answers the exit status.
  *
- * `host` has the files: `open(path)` answers a descriptor or -1, `read(file, into)` and `write(file, from)` how many bytes
- * they took or -1, `isTerminal(file)` whether a person reads along.
+ * `host` has the files: `open(path)` answers a descriptor, `read(file, into)` and `write(file, from)` how many bytes they took, and
+ * each -1 or the number of an error below zero where it fails; `isTerminal(file)` says whether a person reads along.
  */
 export function start(module, words, host) {
   let memory;
@@ -105,6 +105,12 @@ export function joined(pieces) {
 /** What keeps the program from its answer where that isn't its own line. */
 export class Trouble extends Error {}
 
+/** What the program wrote to its second stream, without its notes, which name files as they are handed to it, and the last line end. */
+function withoutNotes(text) {
+  const lines = text.split("\n").filter((line) => !line.startsWith("note: "));
+  return lines.join("\n").replace(/\n$/, "");
+}
+
 /** The program, ready to be run any number of times. */
 export class Program {
   constructor(module) {
@@ -113,7 +119,7 @@ export class Program {
 
   /**
    * Runs a command over these files, which are texts by the names that the words give them. Answers what it wrote: bytes to
-   * the first stream, and to the second a line without its end. `heard` is told how far each file is read.
+   * the first stream, and to the second a line without its end and without notes. `heard` is told how far each file is read.
    */
   run(words, files = {}, heard = () => {}) {
     const streams = new Streams(files, heard);
@@ -124,7 +130,7 @@ export class Program {
     } catch (error) {
       throw new Trouble(`the browser stopped the program: ${error.message}`);
     }
-    const error = new TextDecoder().decode(joined(streams.written[2])).replace(/\n$/, "");
+    const error = withoutNotes(new TextDecoder().decode(joined(streams.written[2])));
     return { output: joined(streams.written[1]), error, status };
   }
 }

@@ -3,7 +3,7 @@
 // The program says whether a text is refused and by which number. The place is found by asking it about texts that are cut
 // or changed: cut behind a word, with some declarations replaced by empty ones of the same name, or without redeclarations.
 //
-// Where a listing is published the page says by the table of `docs/SCHEMAS.md`, which `tools/build-page` reads. The
+// Where a listing is published the page says by the table of `docs/SCHEMAS.md`, which `making/build-page` reads. The
 // link opens only when it is followed.
 
 import { Text, Trouble } from "./program.mjs";

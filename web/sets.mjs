@@ -1,7 +1,7 @@
 // Which lists of a file have no order, as its schema declares them: those of a SET or a BAG, at any depth. As in
 // tools/p21_sets.py.
 
-const AGGREGATES = ["ARRAY", "BAG", "LIST", "SET"];
+export const AGGREGATES = ["ARRAY", "BAG", "LIST", "SET"];
 
 /** A list at a place: whether it has no order, and what its elements are where they are lists too. */
 export function nestingOf(isSet, inner) {
@@ -89,13 +89,17 @@ export class Sets {
     const asked = [key, ...keys].join("+");
     if (!this.parts.has(asked)) {
       const entities = this.outline.closure(keys);
-      const order = keys.length === 1 ? this.outline.order(key) : [key];
-      const places = order.flatMap((entity) => (this.own.get(entity) ?? []).map((attribute) => [entity, attribute]));
       this.parts.set(
         asked,
-        places.map(([entity, attribute]) => this.ofPlace(entities, entity, attribute)),
+        this.placesOf(key, keys).map(([entity, attribute]) => this.ofPlace(entities, entity, attribute)),
       );
     }
     return this.parts.get(asked);
+  }
+
+  /** The attributes of the values behind a keyword, each with the entity that declares it. */
+  placesOf(key, keys) {
+    const order = keys.length === 1 ? this.outline.order(key) : [key];
+    return order.flatMap((entity) => (this.own.get(entity) ?? []).map((attribute) => [entity, attribute]));
   }
 }

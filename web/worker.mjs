@@ -13,6 +13,7 @@ import { listing, shown, textOf } from "./reading.mjs";
 import { Outline } from "./schemas.mjs";
 import { Sets } from "./sets.mjs";
 import { Shelf, nameIn } from "./shelf.mjs";
+import { Lengths } from "./units.mjs";
 import { linesOf, whereAll, whereInFile, whereInSchema } from "./where.mjs";
 
 const READ_AT_ONCE = 1 << 22;
@@ -87,9 +88,10 @@ function countInstances(bytes) {
 }
 
 /** Differences as they go to the page. */
-function sentDifferences({ count, inHeader, shown, lines, word, verdict }) {
+function sentDifferences({ count, inHeader, inTimeStamp, shown, lines, word, verdict, butFor, isRenamed }) {
   const text = new Blob([lines.map((line) => `${line}\n`).join("")], { type: "text/plain" });
-  return { count, shown, text, word, verdict, onlyHeader: count > 0 && count === inHeader };
+  const onlyHeader = count > 0 && count === inHeader;
+  return { count, shown, text, word, verdict, butFor, isRenamed, onlyHeader, onlyTimeStamp: inHeader > 0 && inHeader === inTimeStamp };
 }
 
 /** A text for people of the program's, which is in UTF-8. */
@@ -235,16 +237,18 @@ class Job {
   differences(first, second) {
     const { attributes } = listing(this.program, first.served.text);
     const canonical = [first.canonical, second.canonical];
+    const lengths = new Lengths(new Sets(new Outline(first.served.text.bytes)));
     const heard = (count) => this.say({ progress: { name: `instance ${count}`, compares: true } });
-    const found = sentDifferences(differencesOf(attributes, ...canonical, SHOWN_DIFFERENCES, heard));
+    const byNames = differencesOf(attributes, lengths, ...canonical, SHOWN_DIFFERENCES, heard);
+    const found = sentDifferences(byNames);
     const isSmall = canonical[0].length + canonical[1].length <= SMALL_ENOUGH;
     if (!isSmall && !this.upToNames) return { ...found, upToNames: null };
-    const sets = new Sets(new Outline(first.served.text.bytes));
     const isSame = (one, other) => {
       const files = { schema: first.served.text, first: new Text(one), second: new Text(other) };
       return this.program.run(["same", "--", "schema", "first", "second"], files).status === 0;
     };
-    const upToNames = differencesUpToNames(attributes, sets, ...canonical, SHOWN_DIFFERENCES, isSame, heard);
+    const { units } = byNames;
+    const upToNames = differencesUpToNames(attributes, lengths, units, ...canonical, SHOWN_DIFFERENCES, isSame, heard);
     return { ...found, upToNames: sentDifferences(upToNames) };
   }
 

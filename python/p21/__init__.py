@@ -25,7 +25,7 @@ A file is a path; or its bytes, as any object that has a buffer, which isn't cop
 Where a schema or a file is refused, the exception says why and where; where there is no memory, it is a MemoryError. Threads may
 share a schema: the interpreter's lock is let go while a call runs. A schema pickles, so that processes get it.
 
-The work is done by the shared library libp21.so, which the wheel has and tools/build-library builds. It is sought where the
+The work is done by the shared library libp21.so, which the wheel has and making/build-library builds. It is sought where the
 environment variable P21_LIBRARY says, and else beside this file. ``python3 -m p21`` runs the program.
 """
 

@@ -58,7 +58,7 @@ def _declared() -> Any:
         # The interpreter's lock is let go for the time of each call.
         library = ctypes.CDLL(path)
     except OSError as error:
-        said = f"p21: the shared library {path} can't be loaded: {error}; tools/build-library builds it, and P21_LIBRARY names another one"
+        said = f"p21: the shared library {path} can't be loaded: {error}; making/build-library builds it, and P21_LIBRARY names another one"
         if sys.argv[:1] == ["-m"]:
             # This is `python3 -m p21`, whose status of a failed import would be that of a refusal.
             print(said, file=sys.stderr)

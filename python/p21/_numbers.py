@@ -1,4 +1,4 @@
-"""The numbers of the refusals: tools/make-refusals makes this file of docs/FAULTS.md. Edit the document, and not this file."""
+"""The numbers of the refusals: making/make-refusals makes this file of docs/FAULTS.md. Edit the document, and not this file."""
 
 import enum
 

@@ -1,4 +1,4 @@
-"""What docs/FAULTS.md says of each refusal: tools/make-refusals makes this file of it. Edit the document, and not this file."""
+"""What docs/FAULTS.md says of each refusal: making/make-refusals makes this file of it. Edit the document, and not this file."""
 
 from typing import Dict, NamedTuple
 

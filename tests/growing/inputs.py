@@ -9,12 +9,15 @@ import itertools
 import pathlib
 import random
 import subprocess
+import sys
+
+sys.path.append(str(pathlib.Path(__file__).resolve().parents[1]))
+from exchange import END, header  # noqa: E402
 
 Input = collections.namedtuple("Input", "arguments pairs offered used printed", defaults=(0, 0, 0, 0))
 
 DEMO = pathlib.Path(__file__).resolve().parent.parent.parent / "examples" / "demo.exp"
-START = "ISO-10303-21;\nHEADER;\nFILE_DESCRIPTION((''),'2;1');\nFILE_NAME('','',(''),(''),'','','');\nFILE_SCHEMA(('%s'));\nENDSEC;\n"
-END = "END-ISO-10303-21;\n"
+START = header("%s")
 POINT = "#%d=POINT($,1.,1.);\n"
 
 

@@ -18,11 +18,12 @@ HERE = pathlib.Path(__file__).resolve().parent
 ROOT = HERE.parent.parent
 sys.path.insert(0, str(ROOT / "tests"))
 
+import exchange  # noqa: E402
 import fuzz  # noqa: E402
 from plain import commands  # noqa: E402
 
-HEADER = b"ISO-10303-21;\nHEADER;\nFILE_DESCRIPTION((''),'2;1');\nFILE_NAME('','',(''),(''),'','','');\nFILE_SCHEMA(('%s'));\nENDSEC;\n"
-DATA, DATA_END, END = b"DATA;\n", b"ENDSEC;\n", b"END-ISO-10303-21;\n"
+HEADER, END = exchange.header("%s").encode(), exchange.END.encode()
+DATA, DATA_END = b"DATA;\n", b"ENDSEC;\n"
 # No input of these sizes takes longer, on a machine at work too.
 MOST_SECONDS = 10
 

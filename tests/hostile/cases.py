@@ -4,25 +4,20 @@ The files are of the schema of examples/demo.exp.
 """
 
 import pathlib
+import sys
 
 ROOT = pathlib.Path(__file__).resolve().parents[2]
+sys.path.append(str(ROOT / "tests"))
+import exchange  # noqa: E402
 
 DEMO = (ROOT / "examples" / "demo.exp").read_text()
 
-HEAD = """ISO-10303-21;
-HEADER;
-FILE_DESCRIPTION((''),'2;1');
-FILE_NAME('','',(''),(''),'','','');
-FILE_SCHEMA(('DEMO'));
-ENDSEC;
-"""
-
-END = "ENDSEC;\nEND-ISO-10303-21;\n"
+HEAD = exchange.header("DEMO")
 
 
 def file_of(instances):
     """A file with these lines in one data section without a name."""
-    return f"{HEAD}DATA;\n{instances}{END}"
+    return exchange.file_of("DEMO", instances)
 
 
 def ladder():
@@ -67,7 +62,7 @@ SECTIONS = (
     HEAD
     + "DATA('b',('DEMO'));\n#1=POINT($,1.,1.);\nENDSEC;\n"
     + "DATA('a',('demo'));\n#2=POINT($,2.0,1.);\n"
-    + END
+    + exchange.BACK
 )
 
 # A file whose strings, number and binary are longer than what lies in place, and one of a longer kind of record.

@@ -11,7 +11,8 @@ import resource
 import signal
 import subprocess
 
-from cases import DEMO, HEAD, END, file_of
+from cases import DEMO, HEAD, file_of
+from exchange import BACK
 from rigged import Rigged, Tally
 
 KB = 1024
@@ -94,7 +95,7 @@ RUNS = {
     "lists of a header": (
         DEMO,
         ["canon", "S", "file"],
-        {"file": HEAD.replace("ENDSEC", f"A({nested(DEEPEST, '(', '', ')')});\nENDSEC") + f"DATA;\n{END}"},
+        {"file": HEAD.replace("ENDSEC", f"A({nested(DEEPEST, '(', '', ')')});\nENDSEC") + f"DATA;\n{BACK}"},
     ),
     "sets": (SETS, ["canon", "S", "file"], {"file": values(sets_of(62))}),
     "bags": (BAGS, ["canon", "S", "file"], {"file": values(sets_of(62))}),

@@ -201,7 +201,7 @@ EDITS = [
         "install.sh",
         [],
         "the program is copied without the right to run it",
-        "tools/install",
+        "making/install",
         'copy 755 "$program"',
         'copy 644 "$program"',
         "the program that was copied: status",
@@ -228,7 +228,7 @@ EDITS = [
         "release.py",
         [],
         "a gate that failed counts as one that passed",
-        "tools/make-release",
+        "making/make-release",
         r'r"\d+ passed, 0 failed"',
         r'r"\d+ passed, \d+ failed"',
         "no release: a gate that failed:\n",
@@ -489,7 +489,7 @@ def edited(edits, folder):
 
 def built_library(folder):
     """The library for C and Python of the sources as they are, in a folder."""
-    subprocess.run([ROOT / "tools/build-library", folder], check=True, stdout=subprocess.DEVNULL)
+    subprocess.run([ROOT / "making/build-library", folder], check=True, stdout=subprocess.DEVNULL)
     return str(folder)
 
 

@@ -5,6 +5,7 @@ from .files import read_file, survey_file
 from .limits import USUAL
 from .refusal import Refused, RefusedFile, RefusedSchema
 from .schema import read_schema
+from .syntax import read_alone
 from .tokens import canonical_param
 
 
@@ -36,6 +37,15 @@ def param(text):
         return answered(canonical_param(text))
     except Refused as refusal:
         return refused(refusal)
+
+
+def syntax(file, limits=USUAL):
+    """How many instances a file has that is well formed by itself, and which schema it names."""
+    try:
+        alone = read_alone(file, limits)
+    except RefusedFile as refusal:
+        return refused(refusal)
+    return answered(f"well formed, instances {len(alone.names)}, schema {alone.schema}")
 
 
 @of_files

@@ -1,5 +1,5 @@
 #!/usr/bin/env python3
-"""p21.py COMMAND ..: the commands param, schema, check, canon, show and same, answered by the plain reading."""
+"""p21.py COMMAND ..: the commands param, syntax, schema, check, canon, show and same, answered by the plain reading."""
 
 import argparse
 import pathlib
@@ -16,6 +16,7 @@ def arguments():
     of = parser.add_subparsers(dest="command", required=True)
     for command, names in {
         "param": ["file"],
+        "syntax": ["file"],
         "schema": ["schema"],
         "check": ["schema", "file"],
         "canon": ["schema", "file"],

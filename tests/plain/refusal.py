@@ -1,6 +1,6 @@
 """Refusals: docs/FAULTS.md has a section for each."""
 
-# Made from docs/FAULTS.md by tools/make-refusals, up to the mark of the end: edit the document.
+# Made from docs/FAULTS.md by making/make-refusals, up to the mark of the end: edit the document.
 NAMES = {
     1: "BadByte",
     2: "OpenString",
@@ -58,7 +58,7 @@ SCHEMA_NAMES = {
     8: "RedeclaredPlace",
     9: "TooLarge",
 }
-# The end of what tools/make-refusals makes.
+# The end of what making/make-refusals makes.
 
 
 class Refused(Exception):

@@ -7,6 +7,7 @@ import { Program, Text } from "../../web/program.mjs";
 import { listing } from "../../web/reading.mjs";
 import { Outline } from "../../web/schemas.mjs";
 import { Sets } from "../../web/sets.mjs";
+import { Lengths } from "../../web/units.mjs";
 
 const program = new Program(new WebAssembly.Module(fs.readFileSync(process.argv[2])));
 const bytesOf = (path) => new Uint8Array(fs.readFileSync(path));
@@ -24,8 +25,9 @@ function differences(schemaPath, ...paths) {
     const files = { schema, first: new Text(first), second: new Text(second) };
     return program.run(["same", "--", "schema", "first", "second"], files).status === 0;
   };
-  const { lines } = differencesOf(attributes, ...canonical, 0);
-  const upToNames = differencesUpToNames(attributes, new Sets(new Outline(schema.bytes)), ...canonical, 0, isSame);
+  const lengths = new Lengths(new Sets(new Outline(schema.bytes)));
+  const { lines, units } = differencesOf(attributes, lengths, ...canonical, 0);
+  const upToNames = differencesUpToNames(attributes, lengths, units, ...canonical, 0, isSame);
   return { lines, upToNames: [...upToNames.lines, upToNames.verdict] };
 }
 

@@ -14,7 +14,7 @@ MEMORY_SECTION = 5
 
 def make_page(path, module=None):
     """Makes the page, of another module where one is named, and answers what is said of it."""
-    words = [ROOT / "tools" / "build-page", *(["--module", module] if module else []), path]
+    words = [ROOT / "making" / "build-page", *(["--module", module] if module else []), path]
     return subprocess.run(words, check=True, capture_output=True, text=True).stdout
 
 

@@ -4,13 +4,13 @@ import fs from "node:fs";
 import tty from "node:tty";
 import { start } from "../../web/program.mjs";
 
-/** Answers a call of the system, or -1 where it fails. A pipe that nobody reads ends the program, as its signal does. */
+/** Answers a call of the system, or the number of its error below zero. A pipe that nobody reads ends the program, as its signal does. */
 function tried(call) {
   try {
     return call();
   } catch (error) {
     if (error.code === "EPIPE") process.exit(128 + 13);
-    return -1;
+    return error.errno ?? -1;
   }
 }
 

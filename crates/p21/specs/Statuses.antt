@@ -52,7 +52,7 @@ command_in words = option_map (λ p. p.0) (subcommand_of program_app words)
 -- a command whose words but its name are paths
 abbrev pub NamesFiles : Option Text → Type 0
 NamesFiles None = ⊥
-NamesFiles (Some name) = (name ≡ codes "param") ⊎ (name ≡ codes "schema") ⊎ (name ≡ codes "check") ⊎ (name ≡ codes "canon") ⊎ (name ≡ codes "same")
+NamesFiles (Some name) = (name ≡ codes "param") ⊎ (name ≡ codes "schema") ⊎ (name ≡ codes "syntax") ⊎ (name ≡ codes "check") ⊎ (name ≡ codes "canon") ⊎ (name ≡ codes "same")
 
 -- The status is that of the words. In words that are taken another command may find a mistake, and a failure may come of any
 -- words.

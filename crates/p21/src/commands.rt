@@ -2,23 +2,22 @@
 //!
 //! A command reads an argument that isn't there as an empty one. `clap` requires all of them, so none is missing, but
 //! none of its clauses says so about a command's own arguments; and an empty path can't be opened.
-//!
-//! A command reads an argument that isn't there as an empty one. `clap` requires all of them, so none is missing, but
-//! none of its clauses says so about a command's own arguments; and an empty path can't be opened.
 ghost use Rattle.std.specs.Prelude.{Some, IfErr, IfOk};
 ghost use Rattle.clap.specs.Words.{subcommand_name_of};
 ghost use Rattle.p21.specs.Statuses.{IsOfAnswer, IsOfCommand, IsUnopened, NamesFiles};
 
 use crate::input::{Inputs, Kept, Source};
+use crate::lines::{LineStarts, Lines};
 use crate::notes::{Given, Wanted, note_file, note_files, note_given, note_listing};
 use crate::progress::ProgressReader;
 use crate::refusals::SECTIONS;
-use crate::several::check_several;
+use crate::several::{check_several, syntax_several};
+use crate::shown::Shown;
 use clap::ArgMatches;
 use p21_command_line::LIST;
 use p21_commands::{
-    CommandFault, DONE, canon_command, check_all_command, check_command, param_command, report,
-    same_command, schema_command, show_command,
+    CommandFault, DONE, REFUSED, Told, canon_command, check_all_command, check_located,
+    param_command, report, same_command, schema_command, show_command, syntax_command,
 };
 use p21_stream_io::Watched;
 use p21_values::Name;
@@ -57,6 +56,7 @@ fn run_named<'a>(rt: &HostRuntime, name: &str, found: &ArgMatches<'a>) -> Result
     match name {
         "param" => run_param(rt, found),
         "schema" => run_schema(rt, found),
+        "syntax" => run_syntax(rt, found),
         "check" => run_check(rt, found),
         "canon" => run_canon(rt, found),
         "show" => run_show(rt, found),
@@ -116,7 +116,39 @@ fn run_schema<'a>(rt: &HostRuntime, found: &ArgMatches<'a>) -> Result<u8, Stoppe
     Ok(status)
 }
 
-/// `check S FILE.. [--all] [--most N] [--progress]`.
+/// `syntax FILE.. [--progress]`.
+fn run_syntax<'a>(rt: &HostRuntime, found: &ArgMatches<'a>) -> Result<u8, Stopped<'a>>
+    ensures ran { IfOk result IsOfCommand }
+    ensures unopened { IfErr result IsUnopened }
+{
+    match found.get_strs("FILE") {
+        Some([path]) if !path.starts_with('@') => syntax_one(rt, found, path),
+        Some(words) => Ok(syntax_several(rt, found, words)),
+        None => syntax_one(rt, found, ""),
+    }
+}
+
+/// `syntax` of one file, without its name in front of the lines.
+fn syntax_one<'a>(
+    rt: &HostRuntime,
+    found: &ArgMatches<'a>,
+    path: &'a str,
+) -> Result<u8, Stopped<'a>>
+    ensures ran { IfOk result IsOfCommand }
+    ensures unopened { IfErr result IsUnopened }
+{
+    let mut inputs = Inputs::new();
+    let mut file = Watched::new(with_progress(rt, found, path, inputs.open(rt, path)?));
+    let mut output = Watched::new(rt.stdout());
+    let mut faults = Watched::new(rt.stderr());
+    let status = syntax_command(rt.alloc(), &mut file, &mut output, &mut faults);
+    let read = file.into_inner().into_inner();
+    let file = Given::new(path, Wanted::Exchange, &read);
+    note_given(rt, status, "syntax", &[file], "");
+    Ok(status)
+}
+
+/// `check S FILE.. [--all] [--most N] [--where] [--progress]`.
 fn run_check<'a>(rt: &HostRuntime, found: &ArgMatches<'a>) -> Result<u8, Stopped<'a>>
     ensures ran { IfOk result IsOfCommand }
     ensures unopened { IfErr result IsUnopened }
@@ -136,11 +168,15 @@ fn check_one<'a>(rt: &HostRuntime, found: &ArgMatches<'a>, path: &'a str) -> Res
     let mut inputs = Inputs::new();
     let schema_path = given(found, "S");
     let mut schema = Watched::new(Kept::new(inputs.open(rt, schema_path)?));
-    let mut file = Watched::new(with_progress(rt, found, path, inputs.open(rt, path)?));
+    let source = with_progress(rt, found, path, inputs.open(rt, path)?);
+    let mut file = Watched::new(Lines::new(rt.alloc(), source, found.get_flag("where")));
     let mut faults = Watched::new(Kept::new(rt.stderr()));
-    let status = run_check_over(rt, most_given(found), &mut schema, &mut file, &mut faults);
+    let told = run_check_over(rt, most_given(found), &mut schema, &mut file, &mut faults);
+    let status = told.status;
+    let lines = file.into_inner();
+    tell_place(rt, path, told, lines.starts());
     let read_schema = schema.into_inner();
-    let read = file.into_inner().into_inner();
+    let read = lines.into_inner().into_inner();
     let schema = Given::new(schema_path, Wanted::Schema, &read_schema);
     let file = Given::new(path, Wanted::Exchange, &read);
     note_file(rt, status, "check", schema, file, "");
@@ -155,14 +191,30 @@ fn run_check_over<S: Read, R: Read, F: Write>(
     schema: &mut Watched<S>,
     file: &mut Watched<R>,
     faults: &mut Watched<F>,
-) -> u8
-    ensures { IsOfCommand result }
+) -> Told
+    ensures { IsOfCommand result.status }
 {
     let mut output = Watched::new(rt.stdout());
     match most {
-        Some(most) => check_all_command(rt.alloc(), schema, file, most, &mut output, faults),
-        None => check_command(rt.alloc(), schema, file, &mut output, faults),
+        Some(most) => Told {
+            status: check_all_command(rt.alloc(), schema, file, most, &mut output, faults),
+            place: None,
+        },
+        None => check_located(rt.alloc(), schema, file, &mut output, faults),
     }
+}
+
+/// Says behind the line of a refusal where it stands, if lines are kept. Where it can't be said, it isn't.
+fn tell_place(rt: &HostRuntime, path: &str, told: Told, lines: &LineStarts) {
+    if told.status != REFUSED {
+        return;
+    }
+    let Some(place) = told.place else { return };
+    let Some(position) = lines.position(place.byte) else {
+        return;
+    };
+    let path = Shown(path);
+    let _ = eprintln!(rt; "{path}:{}:{}", position.line, position.column);
 }
 
 /// How many refusals are listed at most, where `--all` or `--most` asks for them.

@@ -3,10 +3,6 @@
 //! An argument that isn't UTF-8 is a wrong command line, status 2.
 //!
 //! Help or usage that can't be written gives status 3.
-//!
-//! An argument that isn't UTF-8 is a wrong command line, status 2.
-//!
-//! Help or usage that can't be written gives status 3.
 #![tactic(auto)]
 
 ghost use Rattle.std.specs.Prelude.{◌≡◌, ◌≢◌, ◌⊎◌, IfErr, IfOk, OnErr, map, string_bytes};
@@ -18,6 +14,7 @@ ghost use Rattle.p21_commands.specs.Status.{done, usage, failed};
 
 mod commands;
 mod input;
+mod lines;
 mod named;
 mod notes;
 mod progress;

@@ -110,6 +110,17 @@ pub fn note_one_of_several<'a>(
     note_input(rt, status, ran, 1);
 }
 
+/// The same of a file that is one of several, and is read by itself.
+pub fn note_one_alone<'a>(rt: &HostRuntime, status: u8, command: &'a str, file: Given<'a>) {
+    let ran = Ran {
+        command,
+        inputs: &[file],
+        number: "",
+        is_named: true,
+    };
+    note_input(rt, status, ran, 0);
+}
+
 /// Says it of the input at this place.
 fn note_input(rt: &HostRuntime, status: u8, ran: Ran<'_>, at: usize) {
     let Some(given) = ran.inputs.get(at) else {

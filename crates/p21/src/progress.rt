@@ -2,9 +2,6 @@
 //!
 //! `--progress` writes to a terminal alone. For a script, standard error stays the one line of a fault. A line that
 //! can't be written is dropped, and the commands know nothing about it: they read through a reader that counts.
-//!
-//! `--progress` writes to a terminal alone. For a script, standard error stays the one line of a fault. A line that
-//! can't be written is dropped, and the commands know nothing about it: they read through a reader that counts.
 ghost use Rattle.std.specs.Prelude.{◌≡◌};
 
 use std::io::{self, Read, Write};

@@ -1,4 +1,4 @@
-//! Made from docs/FAULTS.md by tools/make-refusals: edit the document, and not this file.
+//! Made from docs/FAULTS.md by making/make-refusals: edit the document, and not this file.
 
 /// What the document says of each refusal, behind a mark.
 pub const SECTIONS: &str = r#"### 1 BadByte

@@ -1,21 +1,34 @@
-//! `check` of several files, each in its turn, under a schema that is read once.
+//! A command over several files, each in its turn: `check` under a schema that is read once, or `syntax`.
 ghost use Rattle.std.specs.Prelude.{IfErr, IfOk};
 ghost use Rattle.p21.specs.Statuses.{IsOfCommand, IsUnopened};
 
 use crate::commands::{Stopped, given, most_given, with_progress};
 use crate::input::{Inputs, Kept, Source};
 use crate::named::Named;
-use crate::notes::{Given, Wanted, note_given, note_listing, note_one_of_several, note_unopened};
+use crate::notes::{
+    Given, Wanted, note_given, note_listing, note_one_alone, note_one_of_several, note_unopened,
+};
 use crate::shown::Shown;
 use clap::ArgMatches;
-use p21_commands::{Checks, CommandFault, report};
+use p21_commands::{Checks, CommandFault, SyntaxChecks, report};
 use p21_stream_io::Watched;
 use std::alloc::AllocError;
 use std::io::{self, ErrorKind, Read};
 use std::rt::{Stderr, Stdout};
 
-/// The name of the command.
+/// The names of the commands.
 const CHECK: &str = "check";
+
+const SYNTAX: &str = "syntax";
+
+/// What is told of each file.
+#[derive(Drop)]
+enum Task<'s> {
+    /// Whether it is accepted under a schema, which was read from here.
+    Check(Checks, &'s Kept<Source>),
+    /// Whether it is well formed by itself.
+    Syntax(SyntaxChecks),
+}
 
 /// The writers of what is told of a file.
 #[derive(Drop)]
@@ -26,12 +39,11 @@ struct Lines {
 
 /// A run over several files.
 #[derive(Drop)]
-struct Run<'r, 'a> {
+struct Run<'r, 'f, 's, 'a> {
     rt: &'r HostRuntime,
-    found: &'r ArgMatches<'a>,
-    schema: &'r Kept<Source>,
+    found: &'f ArgMatches<'a>,
     inputs: Inputs,
-    checks: Checks,
+    task: Task<'s>,
 }
 
 /// `check` of these files, where a word behind `@` stands for those that a text names, a path a line.
@@ -59,12 +71,25 @@ pub fn check_several<'a>(
     let mut run = Run {
         rt,
         found,
-        schema: &schema,
         inputs,
-        checks,
+        task: Task::Check(checks, &schema),
     };
-    run.check_words(words);
-    Ok(run.checks.status())
+    run.tell_words(words);
+    Ok(run.task.status())
+}
+
+/// `syntax` of these files, in the same way.
+pub fn syntax_several(rt: &HostRuntime, found: &ArgMatches<'_>, words: &[&str]) -> u8
+    ensures { IsOfCommand result }
+{
+    let mut run = Run {
+        rt,
+        found,
+        inputs: Inputs::new(),
+        task: Task::Syntax(SyntaxChecks::new()),
+    };
+    run.tell_words(words);
+    run.task.status()
 }
 
 /// Says of a schema under which nothing can be checked what `check` of one file says.
@@ -85,13 +110,63 @@ fn note_schema(
     note_listing(rt, path, said.front());
 }
 
-impl<'r, 'a> Run<'r, 'a> {
-    /// Checks the files of some words, until a line can't be written.
-    fn check_words(&mut self, words: &[&'a str]) {
+impl Task<'_> {
+    /// Reads a file that is open, and answers its status.
+    fn tell<R: Read>(
+        &mut self,
+        rt: &HostRuntime,
+        found: &ArgMatches<'_>,
+        file: &mut Watched<R>,
+        lines: &mut Lines,
+    ) -> u8 {
+        let alloc = rt.alloc();
+        let Lines { output, faults } = lines;
+        match self {
+            Task::Check(checks, _) => match most_given(found) {
+                Some(most) => checks.check_all(alloc, file, most, output, faults),
+                None => checks.check(alloc, file, output, faults),
+            },
+            Task::Syntax(checks) => checks.check(alloc, file, output, faults),
+        }
+    }
+
+    /// Says why a file could not be read, or what it is.
+    fn note(&self, rt: &HostRuntime, found: &ArgMatches<'_>, status: u8, file: Given<'_>) {
+        match self {
+            Task::Check(_, read) => {
+                let schema = Given::new(given(found, "S"), Wanted::Schema, read);
+                note_one_of_several(rt, status, CHECK, schema, file);
+            }
+            Task::Syntax(_) => note_one_alone(rt, status, SYNTAX, file),
+        }
+    }
+
+    /// A file can't be opened.
+    fn fail(&mut self) {
+        match self {
+            Task::Check(checks, _) => checks.fail(),
+            Task::Syntax(checks) => checks.fail(),
+        }
+    }
+
+    /// The highest status.
+    fn status(&self) -> u8
+        ensures { IsOfCommand result }
+    {
+        match self {
+            Task::Check(checks, _) => checks.status(),
+            Task::Syntax(checks) => checks.status(),
+        }
+    }
+}
+
+impl Run<'_, '_, '_, '_> {
+    /// Tells of the files of some words, until a line can't be written.
+    fn tell_words(&mut self, words: &[&str]) {
         for word in words {
             let goes_on = match word.strip_prefix('@') {
-                Some(list) => self.check_list(list),
-                None => self.check_path(word),
+                Some(list) => self.tell_list(list),
+                None => self.tell_path(word),
             };
             if !goes_on {
                 return;
@@ -99,22 +174,22 @@ impl<'r, 'a> Run<'r, 'a> {
         }
     }
 
-    /// Checks the files that a text names, and answers whether each line could be written.
-    fn check_list(&mut self, list: &str) -> bool {
+    /// Tells of the files that a text names, and answers whether each line could be written.
+    fn tell_list(&mut self, list: &str) -> bool {
         let text = match self.inputs.read_text(self.rt, list) {
             Ok(text) => text,
             Err(error) => return self.tell_unopened(list, error),
         };
         for path in text.lines() {
-            if !path.is_empty() && !self.check_path(path) {
+            if !path.is_empty() && !self.tell_path(path) {
                 return false;
             }
         }
         true
     }
 
-    /// Checks a file, and answers whether what is told of it could be written.
-    fn check_path(&mut self, path: &str) -> bool {
+    /// Tells of a file, and answers whether that could be written.
+    fn tell_path(&mut self, path: &str) -> bool {
         let file = match self.inputs.open_source(self.rt, path) {
             Ok(file) => file,
             Err(error) => return self.tell_unopened(path, error),
@@ -123,22 +198,11 @@ impl<'r, 'a> Run<'r, 'a> {
             return self.tell_no_memory();
         };
         let mut file = Watched::new(with_progress(self.rt, self.found, path, file));
-        let status = self.check_file(&mut file, &mut lines);
+        let status = self.task.tell(self.rt, self.found, &mut file, &mut lines);
         let read = file.into_inner().into_inner();
-        let schema = Given::new(given(self.found, "S"), Wanted::Schema, self.schema);
         let file = Given::new(path, Wanted::Exchange, &read);
-        note_one_of_several(self.rt, status, CHECK, schema, file);
+        self.task.note(self.rt, self.found, status, file);
         lines.are_written()
-    }
-
-    /// Checks a file that is open, and answers its status.
-    fn check_file<R: Read>(&mut self, file: &mut Watched<R>, lines: &mut Lines) -> u8 {
-        let alloc = self.rt.alloc();
-        let Lines { output, faults } = lines;
-        match most_given(self.found) {
-            Some(most) => self.checks.check_all(alloc, file, most, output, faults),
-            None => self.checks.check(alloc, file, output, faults),
-        }
     }
 
     /// Says that a file can't be opened, and answers whether that could be written.
@@ -146,7 +210,7 @@ impl<'r, 'a> Run<'r, 'a> {
         if error.kind() == ErrorKind::OutOfMemory {
             return self.tell_no_memory();
         }
-        self.checks.fail();
+        self.task.fail();
         let shown = Shown(path);
         let is_said = eprintln!(self.rt; "{shown}: cannot open {shown}").is_ok();
         if is_said {
@@ -157,7 +221,7 @@ impl<'r, 'a> Run<'r, 'a> {
 
     /// Says that memory ran out for what is told of a file. The next one isn't told of.
     fn tell_no_memory(&mut self) -> bool {
-        self.checks.fail();
+        self.task.fail();
         report(&CommandFault::NoMemory, &mut Watched::new(self.rt.stderr()));
         false
     }

@@ -4,11 +4,6 @@
 //! end a line and marks of direction are written by their numbers, as the tools write them: `\n`, `\x1b`, `\u202e`. So
 //! nothing that names a file speaks to a terminal, and a script reads one line. A backslash stays one, since a path
 //! that is shown is for people; what `clap` says of other words it says itself.
-//!
-//! A path in `cannot open FILE` stays on its line. It stands as it was given, but control characters, characters that
-//! end a line and marks of direction are written by their numbers, as the tools write them: `\n`, `\x1b`, `\u202e`. So
-//! nothing that names a file speaks to a terminal, and a script reads one line. A backslash stays one, since a path
-//! that is shown is for people; what `clap` says of other words it says itself.
 use std::fmt;
 
 /// A text on one line. What would break the line, or have a terminal do something, stands as its number: `\n`, `\x1b`, `\u202e`.

@@ -42,6 +42,10 @@ most_rule = record (new_rule (codes "most")) {
   parser = Some (Unsigned 1 18446744073709551615);
 }
 
+-- `--where`
+abbrev pub where_rule : Rule
+where_rule = record (new_rule (codes "where")) { action = Some SetTrue; long = Some (codes "where") }
+
 -- `param FILE`
 abbrev pub param_app : App
 param_app = with_rule (new_app (codes "param")) (given_rule (codes "FILE"))
@@ -50,13 +54,19 @@ param_app = with_rule (new_app (codes "param")) (given_rule (codes "FILE"))
 abbrev pub schema_app : App
 schema_app = with_rule (new_app (codes "schema")) (given_rule (codes "S"))
 
+-- `syntax FILE.. [--progress]`
+abbrev pub syntax_app : App
+syntax_app = with_rule (with_rule (new_app (codes "syntax")) files_rule) progress_rule
+
 -- a command on a schema and a file
 abbrev pub file_app : Text → App
 file_app name = with_rule (with_rule (new_app name) (given_rule (codes "S"))) (given_rule (codes "FILE"))
 
--- `check S FILE.. [--all] [--most N] [--progress]`
+-- `check S FILE.. [--all] [--most N] [--where] [--progress]`
 abbrev pub check_app : App
-check_app = with_rule (with_rule (with_rule (with_rule (with_rule (new_app (codes "check")) (given_rule (codes "S"))) files_rule) all_rule) most_rule) progress_rule
+check_app =
+    with_rule (with_rule (with_rule (with_rule (with_rule (with_rule (new_app (codes "check"))
+    (given_rule (codes "S"))) files_rule) all_rule) most_rule) where_rule) progress_rule
 
 -- `canon S FILE [--progress]`
 abbrev pub canon_app : App
@@ -85,5 +95,5 @@ app_without_commands =
 abbrev pub program_app : App
 program_app =
     with_subcommand (with_subcommand (with_subcommand (with_subcommand
-    (with_subcommand (with_subcommand (with_subcommand app_without_commands
-    param_app.top) schema_app.top) check_app.top) canon_app.top) show_app.top) same_app.top) faults_app.top
+    (with_subcommand (with_subcommand (with_subcommand (with_subcommand app_without_commands
+    param_app.top) syntax_app.top) schema_app.top) check_app.top) canon_app.top) show_app.top) same_app.top) faults_app.top

@@ -2,14 +2,11 @@
 //!
 //! The number behind `--name` has digits alone. `clap` reads `+2` too; the program answers it as it answers `#2`, with
 //! the words that `clap` has for a mistake. A last line says how the number is written, since these words don't.
-//!
-//! The number behind `--name` has digits alone. `clap` reads `+2` too; the program answers it as it answers `#2`, with
-//! the words that `clap` has for a mistake. A last line says how the number is written, since these words don't.
 ghost use Rattle.std.specs.Prelude.{◌≡◌, IfOk, codes, false};
 ghost use Rattle.clap.specs.Words.{app_of, rule_of};
 ghost use Rattle.clap.specs.declared.builder.command.Command.TheViews.{out-Command as fields_of};
 ghost use Rattle.p21_command_line.specs.CommandLine.{all_rule, app_without_commands, canon_app, check_app, faults_app, files_rule, given_rule, most_rule, name_rule, optional_rule, param_app, progress_rule};
-ghost use Rattle.p21_command_line.specs.CommandLine.{program_app, same_app, schema_app, show_app};
+ghost use Rattle.p21_command_line.specs.CommandLine.{program_app, same_app, schema_app, show_app, syntax_app, where_rule};
 
 use crate::{help, refusals};
 use clap::{Arg, ArgAction, Command, value_parser};
@@ -21,6 +18,7 @@ pub fn command_line<'a>(alloc: Global) -> Result<Command<'a>, AllocError>
 {
     program(alloc)
         .subcommand(param(alloc)?)?
+        .subcommand(syntax(alloc)?)?
         .subcommand(schema(alloc)?)?
         .subcommand(check(alloc)?)?
         .subcommand(canon(alloc)?)?
@@ -68,7 +66,19 @@ fn schema<'a>(alloc: Global) -> Result<Command<'a>, AllocError>
         .arg(schema_path(alloc))
 }
 
-/// `check S FILE.. [--all] [--most N] [--progress]`.
+/// `syntax FILE.. [--progress]`.
+fn syntax<'a>(alloc: Global) -> Result<Command<'a>, AllocError>
+    ensures app { IfOk result (λ command. app_of command ≡ syntax_app) }
+    ensures local { IfOk result (λ command. (fields_of command).has_globals ≡ false) }
+{
+    Command::new(alloc, "syntax")
+        .about("Says whether files are well formed, without a schema")
+        .after_help(help::SYNTAX)
+        .arg(file_paths(alloc))?
+        .arg(progress(alloc))
+}
+
+/// `check S FILE.. [--all] [--most N] [--where] [--progress]`.
 fn check<'a>(alloc: Global) -> Result<Command<'a>, AllocError>
     ensures app { IfOk result (λ command. app_of command ≡ check_app) }
     ensures local { IfOk result (λ command. (fields_of command).has_globals ≡ false) }
@@ -80,6 +90,7 @@ fn check<'a>(alloc: Global) -> Result<Command<'a>, AllocError>
         .arg(file_paths(alloc))?
         .arg(all(alloc))?
         .arg(most(alloc))?
+        .arg(place(alloc))?
         .arg(progress(alloc))
 }
 
@@ -201,6 +212,17 @@ fn most<'a>(alloc: Global) -> Arg<'a>
         .value_name("N")
         .value_parser(value_parser!(u64).range(1..))
         .action(ArgAction::Set)
+}
+
+/// `--where`.
+fn place<'a>(alloc: Global) -> Arg<'a>
+    ensures rule { rule_of result ≡ where_rule }
+    ensures local { result.global ≡ false }
+{
+    Arg::new(alloc, "where")
+        .help("Says of one FILE, without --all and --most, the line and column of its refusal")
+        .long("where")
+        .action(ArgAction::SetTrue)
 }
 
 /// `--progress`.

@@ -54,6 +54,33 @@ SCHEMA s; ENTITY point; x : REAL; y : REAL; END_ENTITY; END_SCHEMA;
     SCHEMA S
     POINT(X,Y)";
 
+/// What stands below the help of `syntax`.
+pub const SYNTAX: &str =
+    "What the standard says of a file by itself: its bytes, tokens and grammar, its header with
+the schema that it names, names of sections and instances that are given once, and
+references with a target. What its values mean a schema says: p21 check S FILE.
+
+Answer: one line that counts the instances and names the schema; or, on standard error,
+the first refusal and where it comes, with the number that check gives:
+    refused 20 Unexpected at statement 7
+    refused 56 Dangling in #9
+With several files, or @LIST for the files that a text names, a path a line, each line has
+the name of its file in front. A file that is refused or can't be read doesn't end the
+run; the status is the highest.
+Statuses: 0 well formed; 1 refused; 2 a wrong command line; 3 out of memory, cannot open,
+read or write.
+
+Slips:
+  - refused 20 Unexpected at statement 1: FILE is a schema, say; p21 schema FILE reads it.
+  - refused 31 SchemaName: the FILE_SCHEMA begins with no name, or a section names another.
+  - From a pipe: gunzip -c part.step.gz | p21 syntax -
+  - Many files: find . -name '*.step' | p21 syntax @-
+  - A file whose name begins with @, or is -, has ./ in front.
+
+Example:
+    $ p21 syntax product.step
+    well formed, instances 128, schema PRODUCT_MODEL";
+
 /// What stands below the help of `check`.
 pub const CHECK: &str =
     "Answer: one line that counts the instances and the bytes of the canonical file; or, on
@@ -66,6 +93,9 @@ refusal ends the list, as one of bytes or of the header:
     refused 45 Count in #3
     refused 56 Dangling in #9
     refusals 2
+With --where, of one file and without --all and --most, a second line has its place, where
+it has one: file, line and column, both from 1 on, the column in bytes:
+    part.step:11:31
 With several files, or @LIST for the files that a text names, a path a line, each line has
 the name of its file in front. The schema is read once, and a file that is refused or can't
 be read doesn't end the run; the status is the highest.

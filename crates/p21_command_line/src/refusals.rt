@@ -1,4 +1,4 @@
-//! Made from docs/FAULTS.md by tools/make-refusals: edit the document, and not this file.
+//! Made from docs/FAULTS.md by making/make-refusals: edit the document, and not this file.
 
 /// Each refusal in a line.
 pub const LIST: &str = r#"Bytes and tokens:

@@ -8,5 +8,6 @@ pub mod Showing
 pub mod Writing
 pub mod Surveys
 pub mod Checking
+pub mod Syntaxes
 mod OwnWords
 mod SchemaTexts

@@ -18,4 +18,5 @@ pub mod Files
 pub mod Refusals
 pub mod Same
 pub mod Show
+pub mod Syntax
 pub mod OwnTexts

@@ -14,10 +14,19 @@ use crate::fault::{CommandFault, report};
 use crate::file_fault::fault_of;
 use crate::load::load_schema;
 use p21_express_tables::Schema;
-use p21_stream::{Watched, count};
+use p21_stream::{Place, Watched, count_located};
 use p21_values::Limits;
 use std::alloc::{AllocError, Global};
 use std::io::{Read, Write};
+
+/// How a check ends.
+#[derive(Clone, Copy, Debug)]
+pub struct Told {
+    /// The exit status.
+    pub status: u8,
+    /// Where the file is refused, if that has a place.
+    pub place: Option<Place>,
+}
 
 /// Reads a schema and a file, and writes to `output` how many instances the file has and how many bytes its canonical
 /// file; or to `faults` one line that says why it isn't accepted. Answers the exit status.
@@ -37,9 +46,32 @@ pub fn check_command<S: Read, R: Read, W: Write, F: Write>(
       faults = stream_of F.contents faults.old faults.new;
     }) result }
 {
+    check_located(alloc, schema, file, output, faults).status
+}
+
+/// As `check_command`, with where the file is refused.
+pub fn check_located<S: Read, R: Read, W: Write, F: Write>(
+    alloc: Global,
+    schema: &mut Watched<S>,
+    file: &mut Watched<R>,
+    output: &mut Watched<W>,
+    faults: &mut Watched<F>,
+) -> Told
+    ensures consumed_schema { text.ConsumesAtMost (S.remaining schema.old.inner) (S.remaining schema.new.inner) }
+    ensures consumed_file { ConsumesAtMost usual (R.remaining file.old.inner) (R.remaining file.new.inner) }
+    ensures ends { EndsUnder IsChecked IsRefusedUnder (record {
+      schema = stream_of S.remaining schema.old schema.new;
+      file = stream_of R.remaining file.old file.new;
+      output = stream_of W.contents output.old output.new;
+      faults = stream_of F.contents faults.old faults.new;
+    }) result.status }
+{
     match load_schema(alloc, schema) {
-        Ok(schema) => check_file(alloc, &schema, file, output, faults),
-        Err(fault) => report(&fault, faults),
+        Ok(schema) => check_file_located(alloc, &schema, file, output, faults),
+        Err(fault) => Told {
+            status: report(&fault, faults),
+            place: None,
+        },
     }
 }
 
@@ -56,13 +88,40 @@ pub(crate) fn check_file<R: Read, W: Write, F: Write>(
     ensures ends { EndsChecking schema.now (stream_of R.remaining file.old file.new)
         (stream_of W.contents output.old output.new) (stream_of F.contents faults.old faults.new) result }
 {
-    let counted = match count(alloc, schema, Limits::usual(), file) {
+    check_file_located(alloc, schema, file, output, faults).status
+}
+
+/// As `check_file`, with where the file is refused.
+fn check_file_located<R: Read, W: Write, F: Write>(
+    alloc: Global,
+    schema: &Schema,
+    file: &mut Watched<R>,
+    output: &mut Watched<W>,
+    faults: &mut Watched<F>,
+) -> Told
+    ensures status { IsOfCheck result.status }
+    ensures consumed { ConsumesAtMost usual (R.remaining file.old.inner) (R.remaining file.new.inner) }
+    ensures ends { EndsChecking schema.now (stream_of R.remaining file.old file.new)
+        (stream_of W.contents output.old output.new) (stream_of F.contents faults.old faults.new) result.status }
+{
+    let counted = match count_located(alloc, schema, Limits::usual(), file) {
         Ok(counted) => counted,
-        Err(refusal) => return report(&fault_of(alloc, "", refusal), faults),
+        Err(located) => {
+            return Told {
+                status: report(&fault_of(alloc, "", located.refusal), faults),
+                place: located.place,
+            };
+        }
     };
     match answer_line_of(alloc, counted.instances, counted.bytes) {
-        Ok(line) => answer(line.as_bytes(), output, faults),
-        Err(AllocError) => report(&CommandFault::NoMemory, faults),
+        Ok(line) => Told {
+            status: answer(line.as_bytes(), output, faults),
+            place: None,
+        },
+        Err(AllocError) => Told {
+            status: report(&CommandFault::NoMemory, faults),
+            place: None,
+        },
     }
 }
 

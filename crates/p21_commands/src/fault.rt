@@ -2,9 +2,6 @@
 //!
 //! A refusal's line is built in memory before any of it is written. If there is no memory for it, the line is `out of
 //! memory` and the status 3.
-//!
-//! A refusal's line is built in memory before any of it is written. If there is no memory for it, the line is `out of
-//! memory` and the status 3.
 ghost use Rattle.std.specs.Prelude.{◌≡◌};
 ghost use Rattle.p21_commands.specs.Fault.{Reports};
 ghost use Rattle.p21_commands.specs.Streams.{stream_of};

@@ -2,9 +2,6 @@
 //!
 //! `p21 param` reads one byte past the limit of a text, and no more. So a text that is too long is refused before all
 //! of it is read.
-//!
-//! `p21 param` reads one byte past the limit of a text, and no more. So a text that is too long is refused before all
-//! of it is read.
 ghost use Rattle.std.specs.Prelude.{◌≡◌, [], ◌∷◌, IfErr, IfOk, MatchResult, OnOk, string_bytes};
 ghost use Rattle.p21_commands.specs.Command.{EndsOver};
 ghost use Rattle.p21_commands.specs.Failures.{FailedBy, failures_of};

@@ -16,4 +16,5 @@ pub mod Whole
 pub mod Taking
 pub mod Here
 pub mod Refused
+pub mod OwnRecords
 pub mod Arranging

@@ -1,6 +1,7 @@
 pub mod Redeclaring
 pub mod Positions
 pub mod Shape
+pub mod Known
 pub mod Aggregate
 pub mod Outcome
 pub mod Choosing

@@ -1,6 +1,6 @@
 //! Why the set of an entity is refused is asked in the order of the refusals, and the set is walked for the last reason
 //! alone, so that a record of an abstract entity, or one of a set that clashes, costs no walk. A set whose places stay
-//! open is walked each time.
+//! open is walked each time; `KnownEntities` remembers it where that is large.
 ghost use Rattle.std.specs.Prelude.{◌≡◌, ℕ, Contains, MatchBool, MatchResult, IfOk};
 ghost use Rattle.p21_spec_exchange.specs.Record.{simple, complex};
 ghost use Rattle.p21_express_graph.specs.Lookups.{AreEntities};
@@ -104,7 +104,7 @@ fn simple_shape<'a>(schema: &'a Schema, part: &Part) -> Result<Shape<'a>, CheckF
 }
 
 /// The entity isn't abstract, no two entities of its closure are of one ONEOF list, and no place of that is open.
-fn check_own_set(schema: &Schema, entity: EntityId) -> Result<(), CheckFault>
+pub(crate) fn check_own_set(schema: &Schema, entity: EntityId) -> Result<(), CheckFault>
     requires { IsEntity schema.now entity.0 }
     ensures { MatchResult result (λ _. PassesOwnSet schema.now entity.0) (RefusesOwnSet schema.now entity.0) }
 {

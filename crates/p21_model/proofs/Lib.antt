@@ -5,3 +5,4 @@ pub mod Meanings
 pub mod Keywords
 pub mod Handing
 pub mod Finding
+pub mod EntitySets

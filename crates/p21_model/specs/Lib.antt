@@ -4,3 +4,4 @@ pub mod Line
 pub mod Found
 pub mod Told
 pub mod Kept
+pub mod EntitiesLeft

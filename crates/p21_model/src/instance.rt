@@ -3,10 +3,12 @@ ghost use Rattle.p21_express_graph.specs.Meaning.{place as place_of};
 ghost use Rattle.p21_spec_exchange.specs.Record.{Record};
 ghost use Rattle.p21_spec_file.specs.CanonicalTexts.{IsInstanceText};
 ghost use Rattle.std.specs.Prelude.{◌≡◌};
+ghost use Rattle.p21_model.specs.EntitiesLeft.{TellsSet, set_schema};
 ghost use Rattle.p21_model.specs.Left.{schema_of};
 ghost use Rattle.p21_model.specs.Told.{TellsInstance, TellsValue};
 
 use crate::attributes::Attributes;
+use crate::entities::Entities;
 use crate::record::record_of;
 use p21_express_graph::Place;
 use p21_express_tables::Schema;
@@ -28,6 +30,15 @@ impl<'a> Instance<'a> {
         ensures schema { schema_of result ≡ self.now.schema.now }
     {
         Attributes::of_record(self.schema, record_of(self.line))
+    }
+
+    /// The entities of the instance's set: the entity of each keyword, and in internal mapping all above it. It takes no memory.
+    pub fn entities(&self) -> Entities<'a>
+        ensures told { (record_ : Record) (stated : IsInstanceText self.now.schema.now self.now.name record_ self.now.line.now) → TellsSet stated result }
+        ensures schema { set_schema result ≡ self.now.schema.now }
+    {
+        self.schema.holds_together();
+        Entities::of_record(self.schema, record_of(self.line))
     }
 
     /// The value at an attribute, if the instance has it. It takes no memory.

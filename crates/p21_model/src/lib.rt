@@ -10,9 +10,11 @@
 //! for the value that the meaning has there. `Attributes` hands these rows out one by one: `TellsRows` (`specs/Left`)
 //! says which are left, `proofs/RowsLeft` cuts the first one off, and `proofs/PlacesLeft` does the same for places.
 //! `proofs/Lines` leads from a line to its record, and `proofs/Meanings` from its meaning to the rows.
+//! `Entities` hands out the entity set in the same way, keyword by keyword (`specs/EntitiesLeft`, `proofs/EntitySets`).
 #![tactic(auto)]
 
 mod attributes;
+mod entities;
 mod instance;
 mod model;
 mod part;
@@ -20,6 +22,7 @@ mod places;
 mod record;
 
 pub use attributes::{Attribute, Attributes};
+pub use entities::Entities;
 pub use instance::Instance;
 pub use model::AcceptedModel;
-pub use p21_model_values::{Elements, Kind, Value};
+pub use p21_model_values::{Characters, Digits, Elements, Kind, References, Value};

@@ -3,3 +3,6 @@ pub mod FirstBytes
 pub mod Handing
 pub mod TypedValues
 pub mod Shortening
+pub mod LedCharacters
+pub mod NumberTexts
+pub mod NamedTexts

@@ -24,9 +24,9 @@ use Rattle.p21_model_values.specs.Written.{EndsValue}
 
 -- ---- bytes that change nothing
 
--- no apostrophe, parenthesis or comma
-abbrev IsInert : ℕ → Type 0
-IsInert byte = (byte < 39) ⊎ (44 < byte)
+-- no apostrophe, `#`, parenthesis or comma
+abbrev pub IsInert : ℕ → Type 0
+IsInert byte = (byte < 35) ⊎ (44 < byte)
 
 -- outside of strings a text leaves all as it was
 abbrev Passes : List ℕ → Type 0
@@ -72,7 +72,7 @@ keyword_bytes : (bytes : List ℕ) → Each IsKeywordByte bytes → Each IsInert
 keyword_bytes [] are = tt
 keyword_bytes (byte ∷ bytes) are = (keyword_byte byte are.0, keyword_bytes bytes are.1)
 
-word-inert : (word : List ℕ) → IsKeyword word → Each IsInert word
+pub word-inert : (word : List ℕ) → IsKeyword word → Each IsInert word
 word-inert [] is = tt
 word-inert (byte ∷ bytes) is = (letter byte is.0, keyword_bytes bytes is.1)
 
@@ -80,10 +80,10 @@ digits-inert : (bytes : List ℕ) → AllDigits bytes → Each IsInert bytes
 digits-inert [] are = tt
 digits-inert (byte ∷ bytes) are = (let h = are.0 in inr (omega (arith, h)), digits-inert bytes are.1)
 
-plain-inert : (n : ℕ) → Each IsInert (plain_digits n)
+pub plain-inert : (n : ℕ) → Each IsInert (plain_digits n)
 plain-inert n = digits-inert (plain_digits n) (plain_are_digits (plain_digits n) (plain_digits_are n).0)
 
-whole-inert : (z : ℤ) → Each IsInert (whole_spelling z)
+pub whole-inert : (z : ℤ) → Each IsInert (whole_spelling z)
 whole-inert (pos n) = plain-inert n
 whole-inert (negsuc n) = (inr (lit< tt), plain-inert (suc n))
 
@@ -100,7 +100,7 @@ exponent-inert (pos zero) = tt
 exponent-inert (pos (suc n)) = (inr (lit< tt), whole-inert (pos (suc n)))
 exponent-inert (negsuc n) = (inr (lit< tt), whole-inert (negsuc n))
 
-real-inert : (d : Decimal) → Each IsInert (spelling (token.real d))
+pub real-inert : (d : Decimal) → Each IsInert (spelling (token.real d))
 real-inert d =
     Each-append IsInert (minus_bytes d.significand) _ (minus-inert d.significand)
     (Each-append IsInert (digits_with_point (plain_digits (nat_abs d.significand))) _ (pointed-inert (plain_digits (nat_abs d.significand)) (plain-inert (nat_abs d.significand))) (exponent-inert (normalised_exponent d)))
@@ -116,7 +116,7 @@ hex_values-inert : (values : List ℕ) → Each (λ n. n < 16) values → Each I
 hex_values-inert [] are = tt
 hex_values-inert (n ∷ values) are = (hex_digit-inert n are.0, hex_values-inert values are.1)
 
-bits-inert : (value : List Bool) → Each IsInert (bits_spelling value)
+pub bits-inert : (value : List Bool) → Each IsInert (bits_spelling value)
 bits-inert value =
     let s = bits_spell value in
     subst (Each IsInert) (sym s.bytes_are)
@@ -159,36 +159,47 @@ twice-each c rest depth = by_test (eqb c 39) refl
     by_test true e = rw e (omega arith)
     by_test false e = rw e (omega arith)
 
-character-passes : (c : ℕ) → PassesInside (character_spelling c)
-character-passes c = quoted (eqb c 39 || eqb c 92) refl
+-- a character is spelled twice, or without an apostrophe
+pub character-shape : (c : ℕ) → (character_spelling c ≡ c ∷ c ∷ []) ⊎ Each (λ byte. byte ≢ 39) (character_spelling c)
+character-shape c = quoted (eqb c 39 || eqb c 92) refl
   where
-    wide : (w : Bool) → nat_lt c 0x1_0000 ≡ w → (eqb c 39 || eqb c 92) ≡ false → (nat_le 32 c && nat_lt c 127) ≡ false → PassesInside (character_spelling c)
+    Unquoted : List ℕ → Type 0
+    Unquoted = Each (λ byte. byte ≢ 39)
+
+    wide : (w : Bool) → nat_lt c 0x1_0000 ≡ w → (eqb c 39 || eqb c 92) ≡ false → (nat_le 32 c && nat_lt c 127) ≡ false → Unquoted (character_spelling c)
     wide true e q p =
         let is : character_spelling c ≡ 92 ∷ 88 ∷ 50 ∷ 92 ∷ (hex_digits 4 c ++ end_extended) = rw (q, p, e) refl in
-        subst PassesInside (sym is) (inside-passes (92 ∷ 88 ∷ 50 ∷ 92 ∷ (hex_digits 4 c ++ end_extended)) (directive-unquoted 50 (hex_digits 4 c) (λ h. omega (arith, h)) (are_hex_digits 4 c)))
+        subst Unquoted (sym is) (directive-unquoted 50 (hex_digits 4 c) (λ h. omega (arith, h)) (are_hex_digits 4 c))
     wide false e q p =
         let is : character_spelling c ≡ 92 ∷ 88 ∷ 52 ∷ 92 ∷ (hex_digits 8 c ++ end_extended) = rw (q, p, e) refl in
-        subst PassesInside (sym is) (inside-passes (92 ∷ 88 ∷ 52 ∷ 92 ∷ (hex_digits 8 c ++ end_extended)) (directive-unquoted 52 (hex_digits 8 c) (λ h. omega (arith, h)) (are_hex_digits 8 c)))
+        subst Unquoted (sym is) (directive-unquoted 52 (hex_digits 8 c) (λ h. omega (arith, h)) (are_hex_digits 8 c))
 
-    graphic : (g : Bool) → (nat_le 32 c && nat_lt c 127) ≡ g → (eqb c 39 || eqb c 92) ≡ false → PassesInside (character_spelling c)
+    graphic : (g : Bool) → (nat_le 32 c && nat_lt c 127) ≡ g → (eqb c 39 || eqb c 92) ≡ false → Unquoted (character_spelling c)
     graphic true e q =
         let is : character_spelling c ≡ c ∷ [] = rw (q, e) refl in
         let other : c ≢ 39 = λ h. grind (arith, nat_tests) in
-        subst PassesInside (sym is) (inside-passes (c ∷ []) (other, tt))
+        subst Unquoted (sym is) (other, tt)
     graphic false e q = wide (nat_lt c 0x1_0000) refl q e
 
-    quoted : (q : Bool) → (eqb c 39 || eqb c 92) ≡ q → PassesInside (character_spelling c)
-    quoted true e =
-        let is : character_spelling c ≡ c ∷ c ∷ [] = rw e refl in
-        subst PassesInside (sym is) (record { passes = twice-each c })
-    quoted false e = graphic (nat_le 32 c && nat_lt c 127) refl e
+    quoted : (q : Bool) → (eqb c 39 || eqb c 92) ≡ q → (character_spelling c ≡ c ∷ c ∷ []) ⊎ Unquoted (character_spelling c)
+    quoted true e = inl (rw e refl)
+    quoted false e = inr (graphic (nat_le 32 c && nat_lt c 127) refl e)
 
-characters-pass : (cs : List ℕ) (rest : List ℕ) (depth : ℕ) → size_within (flat_map character_spelling cs ++ rest) true depth ≡ length (flat_map character_spelling cs) + size_within rest true depth
+character-passes : (c : ℕ) → PassesInside (character_spelling c)
+character-passes c = elim (character-shape c) [
+  | inl twice ↦ subst PassesInside (sym twice) (record { passes = twice-each c })
+  | inr unquoted ↦ inside-passes (character_spelling c)
+      unquoted
+]
+
+characters-pass : (cs : List ℕ) (rest : List ℕ) (depth : ℕ)
+    → size_within (flat_map character_spelling cs ++ rest) true depth ≡ length (flat_map character_spelling cs) + size_within rest true depth
 characters-pass [] rest depth = omega arith
 characters-pass (c ∷ cs) rest depth =
     joined (character_spelling c) (flat_map character_spelling cs) (character-passes c) (characters-pass cs rest depth)
   where
-    joined : (xs ys : List ℕ) → PassesInside xs → size_within (ys ++ rest) true depth ≡ length ys + size_within rest true depth → size_within ((xs ++ ys) ++ rest) true depth ≡ length (xs ++ ys) + size_within rest true depth
+    joined : (xs ys : List ℕ) → PassesInside xs → size_within (ys ++ rest) true depth ≡ length ys + size_within rest true depth
+        → size_within ((xs ++ ys) ++ rest) true depth ≡ length (xs ++ ys) + size_within rest true depth
     joined xs ys p more =
         let all : size_within ((xs ++ ys) ++ rest) true depth ≡ length xs + size_within (ys ++ rest) true depth = ap (λ (zs : List ℕ). size_within zs true depth) (append_assoc xs ys rest) ∙ p.passes (ys ++ rest) depth in
         let long = length-append xs ys in
@@ -197,7 +208,8 @@ characters-pass (c ∷ cs) rest depth =
 text-passes : (cs : List ℕ) → Passes (text_spelling cs)
 text-passes cs rest depth = closed (flat_map character_spelling cs) (characters-pass cs (39 ∷ rest) depth)
   where
-    closed : (xs : List ℕ) → size_within (xs ++ (39 ∷ rest)) true depth ≡ length xs + size_within (39 ∷ rest) true depth → size_within ((39 ∷ (xs ++ (39 ∷ []))) ++ rest) false depth ≡ length (39 ∷ (xs ++ (39 ∷ []))) + size_within rest false depth
+    closed : (xs : List ℕ) → size_within (xs ++ (39 ∷ rest)) true depth ≡ length xs + size_within (39 ∷ rest) true depth
+        → size_within ((39 ∷ (xs ++ (39 ∷ []))) ++ rest) false depth ≡ length (39 ∷ (xs ++ (39 ∷ []))) + size_within rest false depth
     closed xs p =
         let all : size_within ((xs ++ (39 ∷ [])) ++ rest) true depth ≡ length xs + size_within (39 ∷ rest) true depth = ap (λ (zs : List ℕ). size_within zs true depth) (append_assoc xs (39 ∷ []) rest) ∙ p in
         let long = length-append xs (39 ∷ []) in
@@ -249,7 +261,8 @@ mutual
   param-passes (whole z) written = scalar-passes (token.whole z) (inert-passes (whole_spelling z) (whole-inert z))
   param-passes (real d) written = scalar-passes (token.real d) (inert-passes (spelling (token.real d)) (real-inert d))
   param-passes (text chars) written = scalar-passes (token.text chars) (text-passes chars)
-  param-passes (name n) written = scalar-passes (token.name n) (inert-passes (35 ∷ plain_digits n) (inl (lit< tt), plain-inert n))
+  param-passes (name n) written = scalar-passes (token.name n)
+      (append-passes (35 ∷ []) (plain_digits n) (λ rest depth. omega arith) (inert-passes (plain_digits n) (plain-inert n)))
   param-passes (item word) written = scalar-passes (token.item word) (inert-passes (46 ∷ (word ++ (46 ∷ []))) (inr (lit< tt), Each-append IsInert word (46 ∷ []) (word-inert word written.0.1.1) (inr (lit< tt), tt)))
   param-passes (bits value) written = scalar-passes (token.bits value) (inert-passes (bits_spelling value) (bits-inert value))
   param-passes (list ps) written = subst Passes (sym (list-text ps)) (list-passes (tokens_text (params_tokens ps)) (params-pass ps (Each-front IsSpelled (params_tokens ps) (token.right ∷ []) written.1)))
@@ -274,7 +287,9 @@ mutual
 pub value_ends : (bytes : List ℕ) (p : Param) (rest : List ℕ) → IsWritten p → EndsValue rest → bytes ≡ param_text p ++ rest → size_within bytes false 0 ≡ length (param_text p)
 value_ends bytes p rest written ends e = subst (λ (xs : List ℕ). size_within xs false 0 ≡ length (param_text p)) (sym e) (at_end rest ends (param-passes p written rest 0))
   where
-    at_end : (rest : List ℕ) → EndsValue rest → size_within (param_text p ++ rest) false 0 ≡ length (param_text p) + size_within rest false 0 → size_within (param_text p ++ rest) false 0 ≡ length (param_text p)
+    at_end : (rest : List ℕ) → EndsValue rest
+        → size_within (param_text p ++ rest) false 0 ≡ length (param_text p) + size_within rest false 0
+        → size_within (param_text p ++ rest) false 0 ≡ length (param_text p)
     at_end [] ends all = absurd ends
     at_end (byte ∷ rest) (inl comma) all = let none : size_within (byte ∷ rest) false 0 ≡ 0 = rw comma refl in omega (arith, all, none)
     at_end (byte ∷ rest) (inr closing) all = let none : size_within (byte ∷ rest) false 0 ≡ 0 = rw closing refl in omega (arith, all, none)

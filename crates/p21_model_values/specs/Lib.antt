@@ -1,2 +1,4 @@
 pub mod Written
 pub mod Ends
+pub mod Spelled
+pub mod Named

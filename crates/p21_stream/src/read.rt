@@ -11,10 +11,11 @@ ghost use Rattle.p21_stream.specs.Held.{limits_of, schema_of};
 ghost use Rattle.p21_stream.specs.Histories.{FeedGives, KeepsSchema, Stands, nothing_taken};
 
 use crate::any_session::AnySession;
+use crate::located::Located;
 use p21_express_tables::Schema;
 use p21_stream_io::{Watched, read_piece};
 use p21_stream_output::Accepted;
-use p21_stream_statements::{Fault, Refusal};
+use p21_stream_statements::{Fault, Place, Refusal};
 use p21_values::Limits;
 use std::alloc::Global;
 use std::io::Read;
@@ -43,14 +44,48 @@ pub fn accept<R: Read>(
     ensures read { OnOk result (reader.new.failures ≡ reader.old.failures) }
     ensures failed { IfErr result (λ refusal. reader.new.failures ≡ read_failures reader.old.failures refusal.fault) }
 {
+    match accept_located(alloc, schema, limits, reader) {
+        Ok(accepted) => Ok(accepted),
+        Err(located) => Err(located.refusal),
+    }
+}
+
+/// As `accept`, with where a refusal stands.
+///
+/// # Errors
+///
+/// Those of `accept`.
+pub fn accept_located<R: Read>(
+    alloc: Global,
+    schema: &Schema,
+    limits: Limits,
+    reader: &mut Watched<R>,
+) -> Result<Accepted, Located>
+    ensures ok { IfOk result (λ accepted.
+        IsAcceptedInput schema.now limits (R.remaining reader.old.inner) (R.remaining reader.new.inner) accepted) }
+    ensures err { IfErr result (λ located.
+        RefusesRead schema.now limits (R.remaining reader.old.inner) (R.remaining reader.new.inner) located.refusal.fault) }
+    ensures consumed { ConsumesAtMost limits (R.remaining reader.old.inner) (R.remaining reader.new.inner) }
+
+    ensures moved { reader.new.moved ≤ reader.old.moved + (limits.file_source + 1) }
+    ensures read { OnOk result (reader.new.failures ≡ reader.old.failures) }
+    ensures failed { IfErr result (λ located. reader.new.failures ≡ read_failures reader.old.failures located.refusal.fault) }
+{
     let mut session = AnySession::keeping(alloc, schema, limits);
     match feed_all(&mut session, reader, limits.file_source()) {
         Ok(()) => {}
-        Err(refusal) => return Err(refusal),
+        Err(refusal) => {
+            let place = session.place();
+            return Err(Located { refusal, place });
+        }
     }
+    let places = session.places();
     match session.finish() {
         Ok(accepted) => Ok(accepted),
-        Err(refusal) => Err(refusal),
+        Err(refusal) => {
+            let place = Place::of(refusal.fault, places);
+            Err(Located { refusal, place })
+        }
     }
 }
 

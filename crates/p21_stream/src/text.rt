@@ -9,11 +9,12 @@ ghost use Rattle.p21_stream.specs.ReaderInput.{IsOfBytes};
 ghost use Rattle.p21_stream_output.specs.Output.{output_text};
 
 use crate::claim::headline;
+use crate::located::Located;
 use crate::session::Session;
 use p21_express_tables::Schema;
 use p21_stream_io::Watched;
 use p21_stream_output::Accepted;
-use p21_stream_statements::{Fault, Refusal};
+use p21_stream_statements::{Fault, Place, Refusal};
 use p21_values::Limits;
 use std::alloc::Global;
 
@@ -34,6 +35,29 @@ pub fn canonical(
     ensures in_one_way { AreReadInOneWay schema.now text.now }
     ensures claim { Claim schema.now limits }
 {
+    match canonical_located(alloc, schema, limits, text) {
+        Ok(canonical) => Ok(canonical),
+        Err(located) => Err(located.refusal),
+    }
+}
+
+/// As `canonical`, with where a refusal stands.
+///
+/// # Errors
+///
+/// Those of a session.
+pub fn canonical_located(
+    alloc: Global,
+    schema: &Schema,
+    limits: Limits,
+    text: &[u8],
+) -> Result<Vec<u8>, Located>
+    ensures ok { IfOk result (λ canonical. IsOnlyCanonicalFile schema.now limits text.now canonical.items) }
+    ensures err { IfErr result (λ located. located.refusal.fault ≢ Fault.NoMemory → ¬ IsAccepted schema.now limits text.now) }
+    ensures kind { IfErr result (λ located. IsOfBytes located.refusal.fault) }
+    ensures in_one_way { AreReadInOneWay schema.now text.now }
+    ensures claim { Claim schema.now limits }
+{
     headline(schema, limits);
     canonical_of(alloc, schema, limits, text)
 }
@@ -44,25 +68,35 @@ fn canonical_of(
     schema: &Schema,
     limits: Limits,
     text: &[u8],
-) -> Result<Vec<u8>, Refusal>
+) -> Result<Vec<u8>, Located>
     requires formed { IsWellFormed schema.now }
     requires limits { AreLimits limits }
     ensures ok { IfOk result (λ canonical. IsOnlyCanonicalFile schema.now limits text.now canonical.items) }
-    ensures err { IfErr result (λ refusal. refusal.fault ≢ Fault.NoMemory → ¬ IsAccepted schema.now limits text.now) }
-    ensures kind { IfErr result (λ refusal. IsOfBytes refusal.fault) }
+    ensures err { IfErr result (λ located. located.refusal.fault ≢ Fault.NoMemory → ¬ IsAccepted schema.now limits text.now) }
+    ensures kind { IfErr result (λ located. IsOfBytes located.refusal.fault) }
 {
     let mut session = Session::new(alloc, schema, limits);
     match session.feed(text) {
         Ok(()) => {}
-        Err(refusal) => return Err(refusal),
+        Err(refusal) => {
+            let place = session.place();
+            return Err(Located { refusal, place });
+        }
     }
+    let places = session.places();
     let accepted = match session.finish() {
         Ok(accepted) => accepted,
-        Err(refusal) => return Err(refusal),
+        Err(refusal) => {
+            let place = Place::of(refusal.fault, places);
+            return Err(Located { refusal, place });
+        }
     };
     match text_of(alloc, &accepted) {
         Ok(text) => Ok(text),
-        Err(refusal) => Err(refusal),
+        Err(refusal) => Err(Located {
+            refusal,
+            place: None,
+        }),
     }
 }
 

@@ -327,8 +327,8 @@ impl Kept {
         self.keep_found(schema, limits, found)
     }
 
-    /// Whether a stored instance has this name.
-    fn has_name(&self, name: Name) -> bool
+    /// Whether a stored instance has this name. It takes no memory.
+    pub fn has_name(&self, name: Name) -> bool
         ensures { IsTrue result ↔ Contains (map (λ (x : StoredEntry). x.name) self.now.stored) name }
     {
         self.stored.has_name(name)

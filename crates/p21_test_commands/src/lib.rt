@@ -5,6 +5,8 @@
 #[cfg(test)]
 mod accepted;
 #[cfg(test)]
+mod alone;
+#[cfg(test)]
 mod compared;
 #[cfg(test)]
 mod cut;

@@ -3,7 +3,7 @@ use crate::devices::{Behind, Full, SmallReader, SmallWriter};
 use crate::schemas::File;
 use p21_commands::{
     canon_command, check_all_command, check_command, param_command, same_command, schema_command,
-    show_command,
+    show_command, syntax_command,
 };
 use p21_stream::Watched;
 use p21_values::Name;
@@ -116,6 +116,14 @@ pub(crate) fn schema<R: Read>(alloc: Global, text: &mut R, rooms: Rooms) -> Run 
     Run::new(status, output.into_inner(), faults.into_inner())
 }
 
+pub(crate) fn syntax<R: Read>(alloc: Global, file: &mut R, rooms: Rooms) -> Run {
+    let mut file = Watched::new(file);
+    let mut output = Watched::new(rooms.output(alloc));
+    let mut faults = Watched::new(rooms.faults(alloc));
+    let status = syntax_command(alloc, &mut file, &mut output, &mut faults);
+    Run::new(status, output.into_inner(), faults.into_inner())
+}
+
 pub(crate) fn check<S: Read, R: Read + Drop>(
     alloc: Global,
     schema: &mut S,
@@ -222,6 +230,7 @@ pub(crate) fn same<S: Read, A: Read + Drop, B: Read + Drop>(
 #[derive(Clone, Copy)]
 pub(crate) enum Command {
     Param,
+    Syntax,
     Schema,
     Check,
     /// With the most refusals that are listed.
@@ -268,6 +277,7 @@ pub(crate) fn leaves_of(
     let mut bytes = text.as_bytes();
     match command {
         Command::Param => param(alloc, &mut bytes, rooms).is(left),
+        Command::Syntax => syntax(alloc, &mut bytes, rooms).is(left),
         Command::Schema => schema(alloc, &mut bytes, rooms).is(left),
         Command::Check => check(alloc, &mut reader, bytes, rooms).is(left),
         Command::CheckAll(most) => { check_all(alloc, &mut reader, bytes, most, rooms).is(left) }
@@ -362,6 +372,8 @@ pub(crate) enum Row {
     Compared(File, File, Left<'static>),
     /// By its name: `param` over this text fails where the reader fails behind it.
     ParamFails(&'static str, &'static str),
+    /// By its name: so does `syntax`.
+    SyntaxFails(&'static str, &'static str),
     /// By its name: so does `schema`.
     SchemaFails(&'static str, &'static str),
 }
@@ -384,6 +396,9 @@ impl Row {
             Row::ParamFails(_, text) => {
                 param(alloc, &mut failing(text), AMPLE_ROOMS).is(READ_FAULT)
             }
+            Row::SyntaxFails(_, text) => {
+                syntax(alloc, &mut failing(text), AMPLE_ROOMS).is(READ_FAULT)
+            }
             Row::SchemaFails(_, text) => {
                 schema(alloc, &mut failing(text), AMPLE_ROOMS).is(READ_FAULT)
             }
@@ -401,6 +416,7 @@ impl Row {
             | Row::Compared(_, file, _) => file.name(),
             Row::LeavesIn(name, _, _, _, _)
             | Row::ParamFails(name, _)
+            | Row::SyntaxFails(name, _)
             | Row::SchemaFails(name, _) => name,
         }
     }

@@ -22,6 +22,7 @@ const PATHS: Taken = &[
 
 const COMMANDS: Taken = &[
     (&["p21", "param", "f"], "param", "FILE", "f"),
+    (&["p21", "syntax", "f"], "syntax", "FILE", "f"),
     (&["p21", "schema", "s"], "schema", "S", "s"),
     (&["p21", "check", "s", "f"], "check", "S", "s"),
     (&["p21", "check", "s", "f"], "check", "FILE", "f"),
@@ -54,6 +55,13 @@ const COMMANDS: Taken = &[
     (&["p21", "check", "s", "f"], "check", "progress", "false"),
     (&["p21", "check", "--all", "s", "f"], "check", "all", "true"),
     (&["p21", "check", "s", "f"], "check", "all", "false"),
+    (
+        &["p21", "check", "s", "--where", "f"],
+        "check",
+        "where",
+        "true",
+    ),
+    (&["p21", "check", "s", "f"], "check", "where", "false"),
     (
         &["p21", "check", "s", "f", "--most", "3"],
         "check",

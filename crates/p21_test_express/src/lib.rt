@@ -6,4 +6,6 @@ mod lookups;
 #[cfg(test)]
 mod meeting;
 #[cfg(test)]
+mod places;
+#[cfg(test)]
 mod refusals;

@@ -1,5 +1,5 @@
 use p21_express_graph::Place;
-use p21_model::{AcceptedModel, Instance, Kind, Value};
+use p21_model::{AcceptedModel, Characters, Entities, Instance, Kind, References, Value};
 use p21_stream::{Accepted, Limits, Name, Schema, Session, read_schema};
 use std::alloc::Global;
 use std::process::Abort;
@@ -40,6 +40,55 @@ const INSTANCES: &[(u64, &str)] = &[
         "MARKED.MARK Item .RED.;MARKED.CODE Bits \"23\";POINT.X Real 0.;POINT.Y Real 1.;POINT.COUNT Whole 3;THING.NAME Text '';",
     ),
     (2, "no instance"),
+];
+
+/// The name of an instance, and the entities of its set.
+const SETS: &[(u64, &[&str])] = &[
+    (1, &["THING", "POINT"]),
+    (3, &["GROUP"]),
+    (20, &["MARKED", "POINT", "THING"]),
+];
+
+/// A number, whether it is negative, its digits before and behind the point, and its exponent.
+const DIGITS: &[(&str, bool, &str, &str, i32)] = &[
+    ("7", false, "7", "", 0),
+    ("-12", true, "12", "", 0),
+    ("0.1", false, "0", "1", 0),
+    ("-2.5E-3", true, "2", "5", -3),
+    ("1.E10", false, "1", "", 10),
+];
+
+/// A number, and the bits of the nearest double (IEEE 754, binary64).
+const DOUBLES: &[(&str, u64)] = &[
+    ("7", 0x401C000000000000),
+    ("0.", 0),
+    ("-12", 0xC028000000000000),
+    ("0.1", 0x3FB999999999999A),
+    ("1.E-7", 0x3E7AD7F29ABCAF48),
+    ("2.5E-3", 0x3F647AE147AE147B),
+    // Halfway between two doubles, of which the even one is the lesser, and the greater.
+    ("9007199254740993", 0x4340000000000000),
+    ("9.007199254740995E15", 0x4340000000000002),
+    // The largest, and one past it.
+    ("1.7976931348623157E308", 0x7FEFFFFFFFFFFFFF),
+    ("1.E309", 0x7FF0000000000000),
+];
+
+/// A text, and its characters.
+const TEXTS: &[(&str, &[char])] = &[
+    ("''", &[]),
+    ("'it''s'", &['i', 't', '\'', 's']),
+    (
+        r"'\\\X2\00E9\X0\\X4\0001F600\X0\/'",
+        &['\\', '\u{E9}', '\u{1F600}', '/'],
+    ),
+];
+
+/// A value, and the names in it.
+const NAMED: &[(&str, &[u64])] = &[
+    ("#12", &[12]),
+    ("((#20,#1),LABEL('#5,(#6'),NODE(#7),$)", &[20, 1, 7]),
+    ("'#1'", &[]),
 ];
 
 fn kind_name(kind: Kind) -> &'static str {
@@ -160,7 +209,11 @@ fn first_otherwise(alloc: Global, schema: &Schema, accepted: &Accepted) -> &'sta
             return wanted;
         }
     }
-    "none"
+    if sets_are_right(schema, accepted) {
+        "none"
+    } else {
+        "the sets"
+    }
 }
 
 /// The names of the instances, as they are walked.
@@ -176,6 +229,150 @@ fn walked(alloc: Global, schema: &Schema, accepted: &Accepted) -> Vec<u8> {
         }
     }
     names
+}
+
+fn is_entity(schema: &Schema, entities: &mut Entities<'_>, wanted: &str) -> bool {
+    match entities.next() {
+        Some(entity) => (entity.0 as usize) < schema.entities()
+            && schema.entity_name(entity) == wanted.as_bytes(),
+        None => false,
+    }
+}
+
+fn has_entities(schema: &Schema, instance: &Instance<'_>, wanted: &[&str]) -> bool {
+    let mut entities = instance.entities();
+    for entity in wanted {
+        if !is_entity(schema, &mut entities, entity) {
+            return false;
+        }
+    }
+    entities.next().is_none()
+}
+
+fn has_set(model: &AcceptedModel<'_>, name: u64, wanted: &[&str]) -> bool {
+    match model.instance(Name(name)) {
+        Some(instance) => has_entities(model.schema, &instance, wanted),
+        None => false,
+    }
+}
+
+fn sets_are_right(schema: &Schema, accepted: &Accepted) -> bool {
+    let model = AcceptedModel { schema, accepted };
+    for (name, wanted) in SETS {
+        if !has_set(&model, *name, wanted) {
+            return false;
+        }
+    }
+    true
+}
+
+fn value_of(text: &str) -> Value<'_> {
+    Value {
+        text: text.as_bytes(),
+    }
+}
+
+fn has_digits(text: &str, negative: bool, whole: &str, fraction: &str, exponent: i32) -> bool {
+    match value_of(text).digits() {
+        Some(digits) => {
+            digits.negative == negative
+                && digits.whole == whole.as_bytes()
+                && digits.fraction == fraction.as_bytes()
+                && digits.exponent == exponent
+        }
+        None => false,
+    }
+}
+
+fn first_other_digits() -> &'static str {
+    for (text, negative, whole, fraction, exponent) in DIGITS {
+        if !has_digits(text, *negative, whole, fraction, *exponent) {
+            return text;
+        }
+    }
+    "none"
+}
+
+fn has_nearest(text: &str, bits: u64) -> bool {
+    match value_of(text).nearest() {
+        Some(double) => !double.is_nan() && double.to_bits() == bits,
+        None => false,
+    }
+}
+
+fn first_other_double() -> &'static str {
+    for (text, bits) in DOUBLES {
+        if !has_nearest(text, *bits) {
+            return text;
+        }
+    }
+    "none"
+}
+
+fn is_character(characters: &mut Characters<'_>, wanted: char) -> bool {
+    match characters.next() {
+        Some(character) => character == wanted,
+        None => false,
+    }
+}
+
+fn has_characters(text: &str, wanted: &[char]) -> bool {
+    let mut characters = value_of(text).characters();
+    for character in wanted {
+        if !is_character(&mut characters, *character) {
+            return false;
+        }
+    }
+    characters.next().is_none()
+}
+
+fn first_other_text() -> &'static str {
+    for (text, wanted) in TEXTS {
+        if !has_characters(text, wanted) {
+            return text;
+        }
+    }
+    "none"
+}
+
+fn is_reference(references: &mut References<'_>, wanted: u64) -> bool {
+    match references.next() {
+        Some(name) => name.0 == wanted,
+        None => false,
+    }
+}
+
+fn has_names(text: &str, wanted: &[u64]) -> bool {
+    let mut references = value_of(text).references();
+    for name in wanted {
+        if !is_reference(&mut references, *name) {
+            return false;
+        }
+    }
+    references.next().is_none()
+}
+
+fn first_other_names() -> &'static str {
+    for (text, wanted) in NAMED {
+        if !has_names(text, wanted) {
+            return text;
+        }
+    }
+    "none"
+}
+
+fn first_wrong_value() -> &'static str {
+    let outcomes = [
+        first_other_digits(),
+        first_other_double(),
+        first_other_text(),
+    ];
+    for outcome in outcomes {
+        if outcome != "none" {
+            return outcome;
+        }
+    }
+    first_other_names()
 }
 
 fn first_wrong(alloc: Global) -> &'static str {
@@ -198,4 +395,9 @@ fn first_wrong(alloc: Global) -> &'static str {
 #[test]
 fn hands_out_attributes_and_values(rt: HostRuntime) {
     assert_eq!(rt; first_wrong(rt.alloc()), "none");
+}
+
+#[test]
+fn hands_out_digits_characters_and_names(rt: HostRuntime) {
+    assert_eq!(rt; first_wrong_value(), "none");
 }

@@ -194,5 +194,8 @@ fn is_prepared(plan: &mut Plan, schema: &Schema, entity: EntityId) -> Result<boo
     if plan.row(entity).is_some() {
         return Ok(true);
     }
+    if plan.is_without(entity) {
+        return Ok(false);
+    }
     plan.prepare(schema, entity)
 }

@@ -6,6 +6,9 @@
 //! row has the type of an attribute where that holds no other type, or is a list or set of such types, and names every
 //! other aggregate type by the entity and the place, so that the schema is asked for it at each value. So a plan has a
 //! few words for each attribute of the entities that a file uses, however deep its lists are.
+//!
+//! An entity that no instance may have with its supertypes as its set is noted, so that they are walked once for all
+//! records of it. Such a note owes nothing: an instance that isn't taken goes the general way.
 ghost use Rattle.std.specs.Prelude.{◌↔◌, IfOk, IfSome, IsTrue};
 ghost use Rattle.p21_express_graph.specs.Resolved.{IsEntity};
 ghost use Rattle.p21_spec_schema.specs.Schema.{EntityNamed, Schema as Meant};
@@ -17,6 +20,7 @@ use p21_express_graph::EntityId;
 use p21_express_tables::Schema;
 use p21_values::NoMemory;
 use std::alloc::Global;
+use std::collections::BTreeSet;
 use std::marker::Model;
 
 /// What is known of the instances of a schema, for the entities that were prepared, and guesses of the entities that keywords
@@ -25,6 +29,8 @@ pub struct Plan {
     alloc: Global,
     // By the number of the entity; those from the last row on aren't prepared.
     rows: Vec<Option<Row>>,
+    // The entities that were found to have no instances of internal form. Nothing is claimed of them.
+    without: BTreeSet<u32>,
     guesses: Guesses,
 }
 
@@ -34,6 +40,7 @@ impl Drop for Plan {
         let Plan {
             alloc: _,
             rows: _,
+            without: _,
             guesses: _,
         } = self;
     }
@@ -60,6 +67,7 @@ impl Plan {
         Plan {
             alloc,
             rows: Vec::new(alloc),
+            without: BTreeSet::new(alloc),
             guesses: Guesses::new(alloc),
         }
     }
@@ -91,6 +99,11 @@ impl Plan {
         }
     }
 
+    /// Whether it is noted that no instance has this entity and its supertypes as its set. It takes no memory.
+    pub(crate) fn is_without(&self, entity: EntityId) -> bool {
+        self.without.contains(&entity.0)
+    }
+
     /// Prepares an entity, and says whether an instance may have it and its supertypes as its set.
     ///
     /// # Errors
@@ -103,6 +116,7 @@ impl Plan {
         ensures may { IfOk result (λ may. IsTrue may ↔ MayStandAlone schema.now entity.0) }
     {
         if !may_stand_alone(schema, entity) {
+            note_entity(&mut self.without, entity)?;
             return Ok(false);
         }
         let row = find_row(self.alloc, schema, entity)?;
@@ -121,6 +135,14 @@ fn may_stand_alone(schema: &Schema, entity: EntityId) -> bool
         return false;
     }
     !schema.leaves_open(entity)
+}
+
+/// Notes an entity.
+fn note_entity(entities: &mut BTreeSet<u32>, entity: EntityId) -> Result<(), NoMemory> {
+    match entities.insert(entity.0) {
+        Ok(_) => Ok(()),
+        Err(_) => Err(NoMemory),
+    }
 }
 
 /// Puts the row of an entity in its place.

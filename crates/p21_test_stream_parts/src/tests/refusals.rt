@@ -1,4 +1,4 @@
-//! Made from docs/FAULTS.md by tools/make-refusals: edit the document, and not this file.
+//! Made from docs/FAULTS.md by making/make-refusals: edit the document, and not this file.
 use super::faults::Any;
 use p21_express_lexemes::SyntaxFault;
 use p21_express_outline::SchemaFault;

@@ -12,7 +12,8 @@ returns-clause-app c =
     let file = adds_argument c.in_ok-arg.field-0 c.in_ok-arg-2.field-0 c.file_paths.result schema c.file_paths.ensures.rule c.file_paths.ensures.local c.in_ok-arg-2.ensures in
     let every = adds_argument c.in_ok-arg-2.field-0 c.in_ok-arg-3.field-0 c.all.result file c.all.ensures.rule c.all.ensures.local c.in_ok-arg-3.ensures in
     let some = adds_argument c.in_ok-arg-3.field-0 c.in_ok-arg-4.field-0 c.most.result every c.most.ensures.rule c.most.ensures.local c.in_ok-arg-4.ensures in
-    IfOk-weaker _ _ _ (λ new. adds_argument c.in_ok-arg-4.field-0 new c.progress.result some c.progress.ensures.rule c.progress.ensures.local) c.arg-5.ensures
+    let place = adds_argument c.in_ok-arg-4.field-0 c.in_ok-arg-5.field-0 c.place.result some c.place.ensures.rule c.place.ensures.local c.in_ok-arg-5.ensures in
+    IfOk-weaker _ _ _ (λ new. adds_argument c.in_ok-arg-5.field-0 new c.progress.result place c.progress.ensures.rule c.progress.ensures.local) c.arg-6.ensures
 
 pub returns-clause-local : goal.returns-clause-local
 returns-clause-local c =
@@ -21,4 +22,5 @@ returns-clause-local c =
     let file = stays_local c.in_ok-arg.field-0 c.in_ok-arg-2.field-0 c.file_paths.result schema c.file_paths.ensures.local c.in_ok-arg-2.ensures in
     let every = stays_local c.in_ok-arg-2.field-0 c.in_ok-arg-3.field-0 c.all.result file c.all.ensures.local c.in_ok-arg-3.ensures in
     let some = stays_local c.in_ok-arg-3.field-0 c.in_ok-arg-4.field-0 c.most.result every c.most.ensures.local c.in_ok-arg-4.ensures in
-    IfOk-weaker _ _ _ (λ new. stays_local c.in_ok-arg-4.field-0 new c.progress.result some c.progress.ensures.local) c.arg-5.ensures
+    let place = stays_local c.in_ok-arg-4.field-0 c.in_ok-arg-5.field-0 c.place.result some c.place.ensures.local c.in_ok-arg-5.ensures in
+    IfOk-weaker _ _ _ (λ new. stays_local c.in_ok-arg-5.field-0 new c.progress.result place c.progress.ensures.local) c.arg-6.ensures

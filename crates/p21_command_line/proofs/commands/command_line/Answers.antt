@@ -5,9 +5,10 @@ use Rattle.p21_command_line.proofs.commands.command_line.Goals as goal
 pub returns : goal.returns
 returns c =
     let param = adds c.program.ensures c.in_ok-param.ensures.app c.in_ok-param.ensures.local c.in_ok-subcommand.ensures in
-    let schema = adds param c.in_ok-schema.ensures.app c.in_ok-schema.ensures.local c.in_ok-subcommand-2.ensures in
-    let check = adds schema c.in_ok-check.ensures.app c.in_ok-check.ensures.local c.in_ok-subcommand-3.ensures in
-    let canon = adds check c.in_ok-canon.ensures.app c.in_ok-canon.ensures.local c.in_ok-subcommand-4.ensures in
-    let show = adds canon c.in_ok-show.ensures.app c.in_ok-show.ensures.local c.in_ok-subcommand-5.ensures in
-    let same = adds show c.in_ok-same.ensures.app c.in_ok-same.ensures.local c.in_ok-subcommand-6.ensures in
-    IfOk-weaker _ _ _ (λ _. adds same c.in_ok-faults.ensures.app c.in_ok-faults.ensures.local) c.subcommand-7.ensures
+    let syntax = adds param c.in_ok-syntax.ensures.app c.in_ok-syntax.ensures.local c.in_ok-subcommand-2.ensures in
+    let schema = adds syntax c.in_ok-schema.ensures.app c.in_ok-schema.ensures.local c.in_ok-subcommand-3.ensures in
+    let check = adds schema c.in_ok-check.ensures.app c.in_ok-check.ensures.local c.in_ok-subcommand-4.ensures in
+    let canon = adds check c.in_ok-canon.ensures.app c.in_ok-canon.ensures.local c.in_ok-subcommand-5.ensures in
+    let show = adds canon c.in_ok-show.ensures.app c.in_ok-show.ensures.local c.in_ok-subcommand-6.ensures in
+    let same = adds show c.in_ok-same.ensures.app c.in_ok-same.ensures.local c.in_ok-subcommand-7.ensures in
+    IfOk-weaker _ _ _ (λ _. adds same c.in_ok-faults.ensures.app c.in_ok-faults.ensures.local) c.subcommand-8.ensures

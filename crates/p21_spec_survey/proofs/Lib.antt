@@ -1,0 +1,2 @@
+mod Signposts
+mod Readings

@@ -1,0 +1,4 @@
+pub mod Landmark
+pub mod Resuming
+pub mod Survey
+pub mod Laws

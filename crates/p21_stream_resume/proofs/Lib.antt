@@ -1,0 +1,9 @@
+pub mod Classes
+pub mod Opened
+pub mod Opening
+pub mod Shapes
+pub mod Runs
+pub mod Finding
+pub mod Along
+pub mod LastBytes
+pub mod Digits

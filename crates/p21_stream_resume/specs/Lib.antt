@@ -1,0 +1,4 @@
+pub mod Step
+pub mod Reading
+pub mod Shape
+pub mod Seeking

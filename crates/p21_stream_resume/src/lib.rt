@@ -1,0 +1,25 @@
+//! Where the reading of a file goes on behind a statement that is refused: the first signpost in bytes that come in pieces (`Landmark` of
+//! `p21_spec_survey`).
+//!
+//! No byte is kept, and none is read twice. A signpost that pieces cut is no text to put together: a name may have digits by the
+//! gigabyte. So a `Seeker` hands on what a reader of statements has to know of a landmark: how many digits and blanks it has, and the
+//! number that the digits stand for, as far as it is below 2^64. These two tell the digits (`Numeral::digit`), zeros in front among
+//! them, and one blank is to a reader as any other. So a reader that is set anew takes the landmark from bytes that are made again, counts
+//! and refuses as it would have, and goes on behind it with the piece. A reader that ran along from each `#` would do the same work at
+//! every `#` of the bytes that are passed over, and would have to be set anew there.
+//!
+//! `specs/Reading` says what a whole byte list is read as, by `step` alone; `proofs/Finding` joins that to the definitions: behind bytes
+//! in which no signpost is whole the state says whether one may begin (`Runs`), there each one is read to its end (`signpost-run`), and
+//! what is read to its end is one (`Shapes`).
+#![tactic(auto)]
+
+mod behind;
+mod class;
+mod mode;
+mod seeker;
+mod signpost;
+mod step;
+
+pub use behind::is_opened_behind;
+pub use seeker::Seeker;
+pub use signpost::{Numeral, Signpost};

@@ -1,0 +1,97 @@
+// Which values of a file are lengths, by its schema, and in which unit the file has them. As in tools/p21_units.py.
+
+import { unescaped } from "./plainly.mjs";
+import { AGGREGATES } from "./sets.mjs";
+
+const MEASURES = ["LENGTH_MEASURE", "IFCLENGTHMEASURE"];
+const STRING = /'[^']*'/g;
+const ASSIGNED = /\b(?:GLOBAL_UNIT_ASSIGNED_CONTEXT|IFCUNITASSIGNMENT)\(\(([#\d,]*)\)\)/g;
+const OF_LENGTH = /\bLENGTH_UNIT\(|,\.LENGTHUNIT\.,/;
+const METRE = /\b(?:SI_UNIT\(|IFCSIUNIT\(\*,\.LENGTHUNIT\.,)(?:\$|\.(\w+)\.),\.METRE\.\)/;
+const CONVERTED = /\b(?:CONVERSION_BASED_UNIT\(|IFCCONVERSIONBASEDUNIT\(#\d+,\.LENGTHUNIT\.,)'((?:[^']|'')*)'/;
+const PREFIXES = new Map([
+  ["EXA", "E"],
+  ["PETA", "P"],
+  ["TERA", "T"],
+  ["GIGA", "G"],
+  ["MEGA", "M"],
+  ["KILO", "k"],
+  ["HECTO", "h"],
+  ["DECA", "da"],
+  ["DECI", "d"],
+  ["CENTI", "c"],
+  ["MILLI", "m"],
+  ["MICRO", "µ"],
+  ["NANO", "n"],
+  ["PICO", "p"],
+  ["FEMTO", "f"],
+  ["ATTO", "a"],
+]);
+const THREE = /^\([^(),]+,[^(),]+,[^(),]+\)$/;
+
+/** Answers for the places of a schema. */
+export class Lengths {
+  constructor(sets) {
+    this.sets = sets;
+    this.types = new Map();
+  }
+
+  /** Are the values of an attribute lengths, in an instance of these keywords? */
+  at(keys, key, attribute) {
+    const places = this.sets.placesOf(key, keys).filter(([, name]) => name === attribute);
+    return places.some(([entity, name]) => this.leadsToLength(this.sets.declared.get(`${entity}.${name}`)));
+  }
+
+  /** Does a type lead to a length whose words these are? */
+  leadsToLength(words) {
+    let at = 0;
+    while ([...AGGREGATES, "OPTIONAL", "UNIQUE"].includes(words[at])) {
+      at = AGGREGATES.includes(words[at]) ? words.indexOf("OF", at) + 1 : at + 1;
+    }
+    return at < words.length && this.isLength(words[at]);
+  }
+
+  /** Is a named type one of lengths? */
+  isLength(name) {
+    if (!this.types.has(name)) {
+      this.types.set(name, MEASURES.includes(name));
+      const declaration = this.sets.outline.types.get(name);
+      if (declaration && !this.types.get(name)) {
+        this.types.set(name, this.leadsToLength(declaration.words.slice(3).map(({ text }) => text)));
+      }
+    }
+    return this.types.get(name);
+  }
+}
+
+/** The units of length of a file, by the lines of its instances. */
+export class Units {
+  constructor() {
+    this.lengths = new Map();
+    this.assigned = [];
+  }
+
+  /** The line of an instance. Of those in which the word UNIT doesn't stand there is nothing to hear. */
+  hear(line) {
+    if (!line.includes("UNIT")) return;
+    const bare = line.replace(STRING, "''");
+    for (const [, names] of bare.matchAll(ASSIGNED)) this.assigned.push(...names.split(","));
+    if (!OF_LENGTH.test(bare)) return;
+    const name = line.slice(0, line.indexOf("="));
+    const metre = METRE.exec(bare);
+    const converted = CONVERTED.exec(line);
+    if (metre) this.lengths.set(name, `${PREFIXES.get(metre[1]) ?? ""}m`);
+    else if (converted) this.lengths.set(name, unescaped(converted[1]).toLowerCase());
+  }
+
+  /** The unit of lengths, where there is one alone; else null. */
+  length() {
+    const found = new Set(this.assigned.filter((name) => this.lengths.has(name)).map((name) => this.lengths.get(name)));
+    return found.size === 1 ? [...found][0] : null;
+  }
+}
+
+/** A length as people write it, with its unit where it has one: a number, or three of them. */
+export function withUnit(value, plain, unit) {
+  return unit && (value.startsWith("(") ? THREE.test(value) : /^[-\d]/.test(value)) ? `${plain} ${unit}` : plain;
+}
