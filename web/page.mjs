@@ -65,6 +65,10 @@ const WORDS = {
 };
 const NOT_CHECKED =
   "Not checked: the rules of the schema (WHERE, UNIQUE and RULE, INVERSE, what DERIVE computes), and whether the geometry is sound.";
+const WITH_A_SCHEMA =
+  "What a schema adds: it says which entities there are, how many values each has and of which kind, and what references lead to. By it each instance is checked, two files are compared by what they mean, and a canonical file with its hash is made. Drop it on the page with the file or by itself.";
+// Of the keywords of a file so many are shown.
+const MOST_KEYWORDS = 300;
 const examples = __EXAMPLES__;
 // Where listings are published: of each the schema, what FILE_SCHEMA begins with, by whom, and the address.
 const PUBLISHED = __PUBLISHED__;
@@ -421,8 +425,7 @@ async function begin(said = "", upToNames = false) {
   if (!module || !(await renewAll()) || current !== begun) return;
   const files = [chosen.first, chosen.second].filter((file) => file !== null);
   if (chosen.schemas.length === 0) {
-    if (files.length > 0) sayWanted(files, said, begun);
-    return;
+    if (files.length === 0 || !(await sayWanted(files, said, begun)) || current !== begun) return;
   }
   progress({ name: nameOf(files[0] ?? chosen.schemas[0]) });
   for (const file of [...chosen.schemas, chosen.aliases, ...files]) if (file) readBefore.add(file);
@@ -432,17 +435,18 @@ async function begin(said = "", upToNames = false) {
     if (message.trouble || message.isWhole) stop();
     if (message.progress) progress(message.progress);
     if (message.trouble) say(`There is no answer: ${shown(message.trouble)}.`);
-    if (message.answer) {
+    if (message.answer?.isAlone) showAlone(message.answer);
+    else if (message.answer) {
       show(message.answer, said, upToNames);
       const read = message.answer.read.map((number) => job.schemas[number]);
       inTurn(() => rememberAll(read));
     }
     if (message.places) shownPlaces(message.places);
-    at("answer").toggleAttribute("data-whole", message.isWhole === true);
+    if (chosen.schemas.length > 0) at("answer").toggleAttribute("data-whole", message.isWhole === true);
     if (message.isWhole) shownLines();
   });
   worker = mine;
-  setTimeout(() => worker === mine && showWork(said), 150);
+  setTimeout(() => worker === mine && showWork(said || chosen.schemas.length === 0), 150);
 }
 
 /** Shows that a job is under way. */
@@ -466,19 +470,20 @@ async function saidOfBytes(first, second) {
   }
 }
 
-/** Says of files without a schema what can be said, and which one is wanted. */
+/** Says of files without a schema what can be said, and which one is wanted. Answers whether there is more to say of them. */
 async function sayWanted([file, second], given, begun) {
   const { front, kind } = await beginning(file);
   const said = given + (second ? await saidOfBytes(file, second) : "");
   const name = namedSchema(front);
   const other = kind ? null : otherKindOf(front);
-  if (current !== begun) return;
+  if (current !== begun) return false;
   if (other) {
     say(said, `${nameOf(file)} is ${other}, and no STEP file in clear text.`);
-    return;
+    return false;
   }
   if (name) say(said, `Now the schema is wanted: ${nameOf(file)} names ${shown(name)}.`, publishedAt(name) ?? "");
   else say(said, "Now the schema is wanted, an EXPRESS text.");
+  return true;
 }
 
 /** Shows how far the job is. */
@@ -502,6 +507,21 @@ function progress({ name, done, size, placed, of, compares }) {
 // What is shown: of each file what the worker said of it, and what shows a refusal of it and its text.
 let files = [];
 
+/** Shows what files say by themselves, below the sentence on the schema that is wanted. */
+function showAlone(answer) {
+  const refused = answer.files.filter(({ accepted }) => !accepted);
+  const [title, mood] = refused.length > 0 ? [failed(refused[0]), "bad"] : ["Well formed", "other"];
+  const bothOf = refused.length === 2 ? "Neither file is well formed." : refused.length === 1 ? "One of the files is well formed, and one isn’t." : "Both files are.";
+  const more = answer.files.length === 2 ? bothOf : refused.length > 0 ? answer.files[0].name : "Not checked by a schema yet.";
+  files = answer.files;
+  at("answer").replaceChildren(
+    ofVerdict(title, more, mood, () => answerAsText(title, more, files, null)),
+    ...files.map((file) => ofFile(file, answer.explained)),
+    element("p", { class: "hint wanting" }, WITH_A_SCHEMA),
+  );
+  appear(false);
+}
+
 /** Shows an answer, and says it in a sentence. */
 function show(answer, said, upToNames) {
   const { title, more, mood } = summary(answer);
@@ -511,14 +531,19 @@ function show(answer, said, upToNames) {
     ...(answer.differences ? [differences(answer.differences, answer.files, upToNames)] : []),
     ...files.map((file) => ofFile(file, answer.explained)),
   );
-  at("answer").hidden = false;
-  at("skip").hidden = false;
-  at("picture").hidden = true;
-  bringIntoSight(upToNames);
+  appear(upToNames);
   const refused = files.filter(({ accepted }) => !accepted).map(heardOf);
   const sentence = said + [`${title}.`, more, ...refused].filter(Boolean).join(" ");
   if (said) say(sentence);
   else hear(sentence);
+}
+
+/** Brings the answer to the page, and in front of it a link that leads there. */
+function appear(upToNames) {
+  at("answer").hidden = false;
+  at("skip").hidden = false;
+  at("picture").hidden = true;
+  bringIntoSight(upToNames);
 }
 
 /** Brings an answer into sight and the focus to it; to the choice where one led to it. */
@@ -554,7 +579,9 @@ function fileAsText(file) {
   const by = file.schema ? ` by ${file.schema}` : "";
   const change = file.change ? [shown(file.change)] : [];
   const hash = file.hash ? [`SHA-256 of the canonical file: ${file.hash}`] : [];
-  const said = file.accepted ? [file.line, ...hash] : linesOf(file, file.refusals.length);
+  const header = (file.header ?? []).map(([name, texts]) => `${name}: ${texts.join(", ")}`);
+  const holds = (file.keywords ?? []).map(([key, count]) => `${count} ${key}`);
+  const said = file.accepted ? [file.line, ...hash, ...header, ...holds] : linesOf(file, file.refusals.length);
   return [`${file.name}${by}:`, ...change, ...said].join("\n");
 }
 
@@ -619,9 +646,37 @@ function ofFile(answer, explained) {
     return made;
   }
   made.append(element("code", { class: "line" }, answer.line));
-  if (answer.canonical) made.append(element("p", { class: "hint not-checked" }, NOT_CHECKED), ...hashed(answer), canonical(answer));
+  if (answer.isAlone) made.append(...ofHeader(answer), ...ofKeywords(answer));
+  else if (answer.canonical) made.append(element("p", { class: "hint not-checked" }, NOT_CHECKED), ...hashed(answer), canonical(answer));
   else made.append(element("p", {}, `${counted(answer.entities, "entity").replace("entitys", "entities")}.`));
   return made;
+}
+
+/** The header of a file, in words. */
+function ofHeader({ header }) {
+  const rows = header.flatMap(([name, texts]) => [element("dt", {}, name), element("dd", {}, texts.join(", "))]);
+  return rows.length > 0 ? [element("dl", { class: "header" }, ...rows)] : [];
+}
+
+/** What a file holds: how many instances of which keyword. */
+function ofKeywords({ keywords }) {
+  if (!keywords || keywords.length === 0) return [];
+  const rows = keywords.slice(0, MOST_KEYWORDS).map(([key, count]) => {
+    const name = element("th", { scope: "row" }, element("code", {}, key.replaceAll("+", " + ")));
+    return element("tr", {}, name, element("td", {}, count.toLocaleString("en")));
+  });
+  const table = element("table", {}, element("tbody", {}, ...rows));
+  const find = (words) => {
+    rows.forEach((row, at) => (row.hidden = !hasWords(keywords[at][0], words)));
+    return rows.filter((row) => !row.hidden).length;
+  };
+  const search = rows.length > FEW_DIFFERENCES ? searching("Look for", rows.length, find) : null;
+  const left = keywords.length - rows.length;
+  const rest = left > 0 ? hint(`and ${counted(left, "further keyword")}`) : null;
+  const made = fold(`What it holds: instances of ${counted(keywords.length, "keyword")}`, ...[search, table, rest].filter(Boolean));
+  made.classList.add("holds");
+  made.open = rows.length <= FIRST_ROWS;
+  return [made];
 }
 
 /** A part that opens and closes. */

@@ -10,7 +10,7 @@
 // question until the others have theirs, and one run of the program answers all. What is found in 0.3 seconds comes
 // with the answer, and the rest while it is read.
 
-import { GivenFile, LONGEST_PLACED, MOST_PLACED, RefusedFile, refusalsOf } from "./files.mjs";
+import { GivenAlone, GivenFile, LONGEST_PLACED, MOST_PLACED, RefusedFile, refusalsOf } from "./files.mjs";
 import { SCHEMA_TEXT, STEP_FILE } from "./kinds.mjs";
 import { Lines, clean, readParts, shortened, shown, textOf } from "./reading.mjs";
 import { RefusedSchema, numberOf } from "./schemas.mjs";
@@ -123,6 +123,13 @@ export function whereInSchema(program, schema, line) {
 /** What there is to say of a file that is refused by this line, under a schema that is called `named`. */
 export function whereInFile(program, schema, named, bytes, line) {
   const given = new GivenFile(program, schema, named, bytes);
+  const refused = new RefusedFile(given, line);
+  return whereRefused(line, refused, given.placeOf(refused));
+}
+
+/** What there is to say of a file that is refused by this line where it is read by itself. */
+export function whereAlone(program, bytes, line) {
+  const given = new GivenAlone(program, bytes);
   const refused = new RefusedFile(given, line);
   return whereRefused(line, refused, given.placeOf(refused));
 }

@@ -5,6 +5,7 @@
 // Each run has an instance, a memory and streams of its own, and each job a worker of its own. So nothing stays from
 // one run to the next, and a job is stopped by ending its worker.
 
+import { headerOf, keywordsOf, syntaxOf } from "./alone.mjs";
 import { differencesOf, differencesUpToNames, equalBytes } from "./differences.mjs";
 import { GivenFile } from "./files.mjs";
 import { LOOKED_AT, otherKindOf, unpacked } from "./packed.mjs";
@@ -14,7 +15,7 @@ import { Outline } from "./schemas.mjs";
 import { Sets } from "./sets.mjs";
 import { Shelf, nameIn } from "./shelf.mjs";
 import { Lengths } from "./units.mjs";
-import { linesOf, whereAll, whereInFile, whereInSchema } from "./where.mjs";
+import { linesOf, whereAll, whereAlone, whereInFile, whereInSchema } from "./where.mjs";
 
 const READ_AT_ONCE = 1 << 22;
 const SHOWN_CANONICAL = 1 << 17;
@@ -121,6 +122,7 @@ class Job {
     this.files = files.map(given);
     this.upToNames = upToNames;
     this.say = say;
+    // Without a schema the files are read by themselves.
     const listings = schemas.map(given).map((each) => ({ ...each, text: new Text(each.text.bytes) }));
     this.served = { ...listings[0], change: null };
     this.listings = listings;
@@ -190,6 +192,20 @@ class Job {
     return { ...this.refused(name, files, error, heard), ...said, file, otherKind };
   }
 
+  /** What the program says of a file by itself, without a schema, its header and what it holds, or where it is refused. */
+  ofFileAlone({ name, unpackedBy, text: file }) {
+    const heard = (_, done) => this.heard(name, done, file.size);
+    const { line, status, instances, schema } = syntaxOf(this.program, file, heard);
+    const from = { unpackedBy, listing: {} };
+    if (status === 0) {
+      const keywords = placed(() => keywordsOf(file, instances, (done) => this.heard(name, done, file.size)));
+      return { isAlone: true, accepted: true, name, line, from, names: schema, header: placed(() => headerOf(this.program, file)) ?? [], keywords };
+    }
+    const report = (status === 1 && placed(() => whereAlone(this.program, file.bytes, line))) || withoutPlace(line);
+    const otherKind = otherKindOf(textOf(file.piece(0, LOOKED_AT)));
+    return { ...notAccepted(name, status, [withLines(report, name)]), isAlone: true, from, otherKind };
+  }
+
   accepted(name, canonical) {
     const line = `accepted, instances ${countInstances(canonical)}, canonical bytes ${canonical.length}`;
     return { accepted: true, name, line, canonical };
@@ -256,6 +272,7 @@ class Job {
 
   /** The answer to the whole job, in which refusals have no places yet. */
   answer() {
+    if (this.listings.length === 0) return this.answerAlone();
     const schemas = this.shelf && this.files.length > 0 ? [] : this.listings.map((each) => this.ofSchema(each));
     const isRead = schemas.every(({ accepted }) => accepted);
     const files = isRead ? this.files.map((file) => this.ofFile(file)) : [];
@@ -269,10 +286,16 @@ class Job {
     return { schemas, files, verdict, differences, read };
   }
 
+  /** The answer to a job without a schema. */
+  answerAlone() {
+    const files = this.files.map((file) => this.ofFileAlone(file));
+    return { isAlone: true, schemas: [], files, verdict: null, differences: null, read: [] };
+  }
+
   /** Does the job: says the answer, and behind it the places that aren't found yet. */
   async run() {
     const answer = this.answer();
-    for (const file of answer.files) if (file.accepted) file.hash = await hashOf(file.canonical);
+    for (const file of answer.files) if (file.canonical) file.hash = await hashOf(file.canonical);
     const refused = [...answer.schemas, ...answer.files].flatMap(({ refusals }) => refusals ?? []);
     const numbers = refused.map(({ line }) => /refused (S?\d+) /.exec(line)?.[1]).filter(Boolean);
     const explained = this.explained(new Set(numbers));
@@ -307,7 +330,7 @@ function sendable(answer, explained) {
 /** What is said of a file: of a canonical file the beginning, and the whole to be saved. */
 function sendableFile({ canonical, served, file, from, ...all }) {
   const rest = { ...all, from: from && { ...from, listing: from.listing.path, listingUnpackedBy: from.listing.unpackedBy } };
-  if (!rest.accepted) return rest;
+  if (!canonical) return rest;
   const shown = canonical.subarray(0, SHOWN_CANONICAL);
   const end = shown.length < canonical.length ? shown.lastIndexOf(10) + 1 : shown.length;
   const whole = new Blob([canonical], { type: "text/plain" });
