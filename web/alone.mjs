@@ -13,11 +13,11 @@ import { bytesOf, readParts, shown, textOf } from "./reading.mjs";
 const BYTES = { quote: 0x27, slash: 0x2f, star: 0x2a, semicolon: 0x3b, backslash: 0x5c, open: 0x28, equals: 0x3d, hash: 0x23, letterS: 0x53 };
 const WELL_FORMED = /^well formed, instances (\d+), schema (\S+)$/;
 // The header is looked for in so many bytes, the file is read by so many, and a statement of more isn't counted.
-const MOST_HEADER = 1 << 20;
-const READ_AT_ONCE = 1 << 22;
+const MOST_OF_HEADER = 1 << 20;
+const COUNTED_AT_ONCE = 1 << 22;
 const LONGEST_STATEMENT = 1 << 26;
 // Of a list of texts so many are shown.
-const MOST_TEXTS = 20;
+const MOST_STRINGS = 20;
 // What a header says, in words, by its records and their parameters.
 const IN_WORDS = {
   FILE_NAME: ["Name", "Time stamp", "Author", "Organization", "Written with", "Written by", "Authorization"],
@@ -35,7 +35,7 @@ export function syntaxOf(program, file, heard) {
 
 /** The header of a file that is well formed, in words: what each parameter is, and the texts of it that aren't empty. */
 export function headerOf(program, file) {
-  const bytes = file.piece(0, MOST_HEADER);
+  const bytes = file.piece(0, MOST_OF_HEADER);
   const rows = [];
   for (const { start, end } of statements(bytes)) {
     const text = textOf(bytes.subarray(start, end));
@@ -49,7 +49,7 @@ export function headerOf(program, file) {
 
 /** The strings of a parameter that aren't empty, as people read them. */
 function stringsIn(program, text, value) {
-  const scalars = value.inner.length > 0 ? value.inner.slice(0, MOST_TEXTS) : [value];
+  const scalars = value.inner.length > 0 ? value.inner.slice(0, MOST_STRINGS) : [value];
   return scalars.map(({ start, end }) => stringOf(program, text.slice(start, end))).filter((found) => found.trim() !== "");
 }
 
@@ -68,8 +68,8 @@ export function keywordsOf(file, instances, heard) {
   const counts = new Map();
   let rest = new Uint8Array(0);
   let count = 0;
-  for (let at = 0; at < file.size; at += READ_AT_ONCE) {
-    const piece = file.piece(at, READ_AT_ONCE);
+  for (let at = 0; at < file.size; at += COUNTED_AT_ONCE) {
+    const piece = file.piece(at, COUNTED_AT_ONCE);
     const whole = new Uint8Array(rest.length + piece.length);
     whole.set(rest);
     whole.set(piece, rest.length);

@@ -33,11 +33,13 @@
 //
 // Of a canonical file the page shows the first 128 KiB, and of differences the first 1,000. Both can be saved whole.
 
+import { isTolerance } from "./decimals.mjs";
 import { SCHEMA_TEXT, hasWideMemory, namedSchema } from "./kinds.mjs";
 import { beginningOf, otherKindOf } from "./packed.mjs";
 import { shown } from "./reading.mjs";
 import { forgetAll, remember, remembered } from "./remembered.mjs";
 
+const KINDS = ["changed", "came", "went"];
 // So many schemas have a row each; of more there is one list that opens.
 const FEW_SCHEMAS = 3;
 // So many refusals are shown open, so many have all of their kinds open, and of so many kinds the first refusal is; of a kind so
@@ -51,6 +53,8 @@ const FEW_DIFFERENCES = 5;
 const SEARCH_WAITS = 100;
 const COMPARED_AT_ONCE = 1 << 22;
 const MORE_ROWS = 200;
+// A job of so many milliseconds isn't shown to be under way.
+const SOON = 150;
 // So many refusals are shown as text; all can be saved.
 const MOST_TEXTS = 1000;
 const COMPARISONS = {
@@ -80,8 +84,13 @@ const ofExamples = new WeakSet();
 const readBefore = new WeakSet();
 const at = (id) => document.getElementById(id);
 let worker = null;
+// A worker whose job is done, and of which other lists of what differs can be asked.
+let resting = null;
 // What begin() was called for last.
 let current = null;
+// How differences are listed where nothing is asked: those by names, with the header, and without a tolerance. `way` is which of the
+// lists is shown, and `focus` what had the focus when it was asked.
+const USUALLY_ASKED = { upToNames: false, data: false, tolerance: "", way: null, focus: null, report: null };
 
 // --- Parts of the page ---
 
@@ -119,11 +128,14 @@ function sized(bytes) {
 
 /** A button that saves what a function gives as a file of this name. */
 function saving(text, bytesOf, name) {
-  return button(text, async () => {
-    const link = element("a", { href: URL.createObjectURL(await bytesOf()), download: name });
-    link.click();
-    setTimeout(() => URL.revokeObjectURL(link.href), 60_000);
-  });
+  return button(text, async () => save(await bytesOf(), name));
+}
+
+/** Saves bytes as a file of this name. */
+function save(bytes, name) {
+  const link = element("a", { href: URL.createObjectURL(bytes), download: name });
+  link.click();
+  setTimeout(() => URL.revokeObjectURL(link.href), 60_000);
 }
 
 /** A button that copies the text that a function gives, and says so. */
@@ -140,8 +152,9 @@ function copying(title, textOf, what) {
   return made;
 }
 
-/** A field that looks for words in a list. `find` shows what has all of them, and answers how many that are. */
-function searching(label, count, find) {
+/** A field that looks for words in a list. `find` shows what has all of them, and answers how many that are; nothing is said of the
+ *  whole, which is shown without words mostly. */
+function searching(label, count, find, isWhole = () => true) {
   const found = element("span", { class: "hint", role: "status" });
   const field = element("input", { type: "search", autocomplete: "off", spellcheck: "false" });
   let waiting = null;
@@ -150,7 +163,7 @@ function searching(label, count, find) {
     waiting = setTimeout(() => {
       const words = field.value.toLowerCase().split(/\s+/).filter(Boolean);
       const many = find(words);
-      found.textContent = words.length > 0 ? `${many.toLocaleString("en")} of ${count.toLocaleString("en")}` : "";
+      found.textContent = words.length > 0 || !isWhole() ? `${many.toLocaleString("en")} of ${count.toLocaleString("en")}` : "";
     }, SEARCH_WAITS);
   });
   return element("p", { class: "search" }, element("label", {}, element("span", {}, label), " ", field), " ", found);
@@ -360,9 +373,18 @@ async function compiled() {
 const module = hasWideMemory() ? compiled() : null;
 const script = URL.createObjectURL(new Blob([__WORKER__], { type: "text/javascript" }));
 
-/** Ends the job that is under way. */
+/** Ends the job that is under way, or done. */
 function stop() {
   worker?.terminate();
+  resting?.terminate();
+  worker = resting = null;
+  at("work").hidden = true;
+}
+
+/** Behind a job: its worker rests where more can be asked of it. */
+function rest(isKept) {
+  if (isKept) resting = worker;
+  else worker.terminate();
   worker = null;
   at("work").hidden = true;
 }
@@ -413,8 +435,8 @@ async function renewAll() {
   return true;
 }
 
-/** Starts over with what is chosen. */
-async function begin(said = "", upToNames = false) {
+/** Starts over with what is chosen, and lists differences as it is asked. */
+async function begin(said = "", asked = USUALLY_ASKED) {
   stop();
   at("answer").hidden = true;
   at("answer").removeAttribute("data-whole");
@@ -429,24 +451,45 @@ async function begin(said = "", upToNames = false) {
   }
   progress({ name: nameOf(files[0] ?? chosen.schemas[0]) });
   for (const file of [...chosen.schemas, chosen.aliases, ...files]) if (file) readBefore.add(file);
-  const job = { schemas: chosen.schemas, aliases: chosen.aliases, files, upToNames };
-  const mine = started(job, (message) => {
-    if (worker !== mine) return;
-    if (message.trouble || message.isWhole) stop();
-    if (message.progress) progress(message.progress);
-    if (message.trouble) say(`There is no answer: ${shown(message.trouble)}.`);
-    if (message.answer?.isAlone) showAlone(message.answer);
-    else if (message.answer) {
-      show(message.answer, said, upToNames);
-      const read = message.answer.read.map((number) => job.schemas[number]);
-      inTurn(() => rememberAll(read));
-    }
-    if (message.places) shownPlaces(message.places);
-    if (chosen.schemas.length > 0) at("answer").toggleAttribute("data-whole", message.isWhole === true);
-    if (message.isWhole) shownLines();
-  });
+  const job = { schemas: chosen.schemas, aliases: chosen.aliases, files, asked };
+  const mine = started(job, (message) => worker === mine && heard(message, job, said));
   worker = mine;
-  setTimeout(() => worker === mine && showWork(said || chosen.schemas.length === 0), 150);
+  setTimeout(() => worker === mine && showWork(said || chosen.schemas.length === 0), SOON);
+}
+
+/** What a worker says of a job. */
+function heard(message, job, said) {
+  const { answer, lists, places, report, trouble, isWhole } = message;
+  if (trouble) stop();
+  else if (report || (isWhole && !(answer && job.asked.report))) rest((answer?.differences ?? lists ?? shownLists)?.isKept);
+  if (message.progress) progress(message.progress);
+  if (trouble) say(`There is no answer: ${shown(trouble)}.`);
+  if (answer?.isAlone) showAlone(answer);
+  else if (answer) {
+    show(answer, said, job.asked);
+    const read = answer.read.map((number) => job.schemas[number]);
+    inTurn(() => rememberAll(read));
+  }
+  if (lists) showLists(lists);
+  if (places) shownPlaces(places);
+  if (report) save(report, "differences.html");
+  if (job.schemas.length > 0 && !report) at("answer").toggleAttribute("data-whole", isWhole === true);
+  if (isWhole) shownLines();
+}
+
+/** Asks for other lists of what differs, or for a report: the job that is done, or where it isn't kept another one. */
+function askFor(change) {
+  const asked = { ...shownLists.asked, report: null, ...change };
+  if (!resting) {
+    begin("", asked);
+    return;
+  }
+  const mine = resting;
+  [worker, resting] = [mine, null];
+  progress({ name: "", compares: true });
+  if (!asked.report) at("answer").removeAttribute("data-whole");
+  mine.postMessage(asked.report ? { report: asked.report } : { asked });
+  setTimeout(() => worker === mine && showWork(""), SOON);
 }
 
 /** Shows that a job is under way. */
@@ -497,7 +540,7 @@ function progress({ name, done, size, placed, of, compares }) {
   const found = () => `${counted(of, "refusal")}, ${placed.toLocaleString("en")} found`;
   if (of > 1) at("doing").textContent = `${name}: looking for the places of ${found()}`;
   else if (of) at("doing").textContent = `${name}: looking for the place`;
-  else if (compares) at("doing").textContent = `Comparing, ${name}`;
+  else if (compares) at("doing").textContent = ["Comparing", name].filter(Boolean).join(", ");
   else if (size && done < size) at("doing").textContent = `${name}: ${sized(done)} of ${sized(size)}`;
   else at("doing").textContent = name;
 }
@@ -506,6 +549,8 @@ function progress({ name, done, size, placed, of, compares }) {
 
 // What is shown: of each file what the worker said of it, and what shows a refusal of it and its text.
 let files = [];
+// The lists of what differs, as they were asked for.
+let shownLists = null;
 
 /** Shows what files say by themselves, below the sentence on the schema that is wanted. */
 function showAlone(answer) {
@@ -519,19 +564,20 @@ function showAlone(answer) {
     ...files.map((file) => ofFile(file, answer.explained)),
     element("p", { class: "hint wanting" }, WITH_A_SCHEMA),
   );
-  appear(false);
+  appear();
 }
 
 /** Shows an answer, and says it in a sentence. */
-function show(answer, said, upToNames) {
+function show(answer, said, asked) {
   const { title, more, mood } = summary(answer);
   files = answer.files.length > 0 ? answer.files : answer.schemas;
+  shownLists = answer.differences && { ...answer.differences, asked };
   at("answer").replaceChildren(
-    ofVerdict(title, more, mood, () => answerAsText(title, more, files, answer.differences)),
-    ...(answer.differences ? [differences(answer.differences, answer.files, upToNames)] : []),
+    ofVerdict(title, more, mood, () => answerAsText(title, at("summary").textContent, files, shownLists)),
+    ...(shownLists ? [differences(shownLists, files)] : []),
     ...files.map((file) => ofFile(file, answer.explained)),
   );
-  appear(upToNames);
+  appear(asked.focus);
   const refused = files.filter(({ accepted }) => !accepted).map(heardOf);
   const sentence = said + [`${title}.`, more, ...refused].filter(Boolean).join(" ");
   if (said) say(sentence);
@@ -539,24 +585,24 @@ function show(answer, said, upToNames) {
 }
 
 /** Brings the answer to the page, and in front of it a link that leads there. */
-function appear(upToNames) {
+function appear(focus = null) {
   at("answer").hidden = false;
   at("skip").hidden = false;
   at("picture").hidden = true;
-  bringIntoSight(upToNames);
+  bringIntoSight(focus);
 }
 
-/** Brings an answer into sight and the focus to it; to the choice where one led to it. */
-function bringIntoSight(upToNames) {
+/** Brings an answer into sight and the focus to it; to the choice that led to it where there is one. */
+function bringIntoSight(focus) {
   const { top } = at("answer").getBoundingClientRect();
   if (top < 0 || top > innerHeight / 2) at("answer").scrollIntoView({ block: "start" });
-  const choice = upToNames ? document.querySelector("[name=way]:checked") : null;
+  const choice = focus && document.querySelector(focus);
   (choice ?? at("verdict")).focus({ preventScroll: !choice });
 }
 
 /** How an answer ends, with what there is to do with it. `textOf` gives its text. */
 function ofVerdict(title, more, mood, textOf) {
-  const said = element("div", {}, element("h2", { id: "verdict", tabindex: "-1" }, title), more && element("p", {}, more));
+  const said = element("div", {}, element("h2", { id: "verdict", tabindex: "-1" }, title), element("p", { id: "summary" }, more ?? ""));
   const actions = [
     button("Check again", () => begin(), { id: "again" }),
     copying("Copy", textOf, "the answer"),
@@ -569,7 +615,7 @@ function ofVerdict(title, more, mood, textOf) {
 /** An answer as a text: how it ends, and what there is to say of each file and of what differs. */
 async function answerAsText(title, more, shownFiles, found) {
   const parts = [[`${title}.`, more].filter(Boolean).join(" "), ...shownFiles.map(fileAsText)];
-  if (found) parts.push(`What differs, by the names of instances:\n${await found.text.text()}`);
+  if (found) parts.push(`What differs, by the names of instances:\n${await found.names.text.text()}`);
   if (found?.upToNames) parts.push(`What differs, whatever the names of instances are:\n${await found.upToNames.text.text()}`);
   return parts.map((part) => `${part.trimEnd()}\n`).join("\n");
 }
@@ -611,19 +657,26 @@ function summary({ schemas, files, verdict, differences }) {
 }
 
 /** In what alone two files differ, as a sentence; nothing where it is more than their numbering and their header. */
-function butFor({ onlyTimeStamp, upToNames }) {
-  const found = upToNames?.word === "same" ? ["numbering"] : (upToNames?.butFor ?? []);
-  const named = found.map((part) => (part === "the header" && onlyTimeStamp ? "the time stamp" : part));
-  return named.length > 0 ? [`The same but for ${named.join(" and ")}.`] : [];
+function butFor({ names, upToNames }) {
+  const ofShapes = upToNames?.word === "same" ? ["numbering"] : (upToNames?.butFor ?? []);
+  const found = names.butFor.length > 0 ? names.butFor : ofShapes;
+  const parts = found.map((part) => (part === "the header" && names.onlyTimeStamp ? "the time stamp" : part));
+  return parts.length > 0 ? [`The same but for ${parts.join(" and ")}.`] : [];
 }
 
 /** What is known of the differences, and how many they are. */
-function summaryOfDifferences(found) {
-  const { count, onlyHeader, upToNames } = found;
-  const said = [...butFor(found), `${counted(count, "difference")}.`];
-  if (onlyHeader) said.push("All of them stand in the header: the data is the same.");
+function summaryOfDifferences({ names, upToNames, asked }) {
+  if (names.count === 0) return nothingLeft(asked, names);
+  const said = [...butFor({ names, upToNames }), `${counted(names.count, "difference")}.`];
+  if (names.onlyHeader) said.push("All of them stand in the header: the data is the same.");
   else if (upToNames?.word === "same") said.push("Up to the names of their instances the files are the same.");
   return said.join(" ");
+}
+
+/** What is known where nothing is listed, since the header or small distances don't count. */
+function nothingLeft({ data }, { near, tolerance }) {
+  const without = [data && "without the header", near > 0 && `within the tolerance ${tolerance.text}`].filter(Boolean).join(" and ");
+  return `Nothing differs ${without}.`;
 }
 
 /** How an answer is called that isn't one of acceptance. */
@@ -925,46 +978,172 @@ function withMarks(text) {
   });
 }
 
+// What differs
+
+/** Shows other lists of what differs. */
+function showLists(lists) {
+  shownLists = lists;
+  document.querySelector(".differences").replaceWith(differences(lists, files));
+  at("summary").textContent = summaryOfDifferences(lists);
+  hear(at("summary").textContent);
+  document.querySelector(lists.asked.focus ?? "#verdict")?.focus();
+}
+
 /**
  * What differs between two files: by the names of instances, and up to names. Where fewer than half of the instances that belong
  * together have one name in both, they are told by what they say at first.
  */
-function differences(found, files, isAsked) {
-  const upToNames = isAsked || found.upToNames?.isRenamed === true;
+function differences(lists, files) {
+  const { names, upToNames, asked } = lists;
+  const way = asked.way ?? (upToNames?.isRenamed ? "shapes" : "names");
   const list = element("div", {});
-  const show = (way) => list.replaceChildren(...listOfDifferences(way === "names" ? found : found.upToNames, files));
+  const showWay = (chosenWay) => {
+    shownLists = { ...lists, asked: { ...asked, way: chosenWay, upToNames: asked.upToNames || chosenWay === "shapes" } };
+    list.replaceChildren(...listOfDifferences(chosenWay === "names" ? names : upToNames, files, chosenWay));
+  };
   const ways = { names: "by their names", shapes: "by what they say, whatever their names are" };
-  const choices = Object.entries(ways).map(([way, text]) => {
-    const input = element("input", { type: "radio", name: "way", value: way });
-    input.checked = (way === "shapes") === upToNames;
+  const choices = Object.entries(ways).map(([value, text]) => {
+    const input = element("input", { type: "radio", name: "way", value });
+    input.checked = value === way;
     input.addEventListener("change", () => {
-      if (way === "names" || found.upToNames) show(way);
-      else begin("", true);
+      if (value === "names" || upToNames) showWay(value);
+      else askFor({ upToNames: true, way: value, focus: `[name=way][value=${value}]` });
     });
     return element("label", {}, input, ` ${text}`);
   });
-  const asked = element("fieldset", { class: "ways" }, element("legend", {}, "Instances are told"), ...choices);
-  show(upToNames ? "shapes" : "names");
-  return element("div", { class: "differences" }, element("h3", {}, "What differs"), asked, list);
+  const told = element("fieldset", { class: "ways" }, element("legend", {}, "Instances are told"), ...choices);
+  showWay(way);
+  return element("div", { class: "differences" }, element("h3", {}, "What differs"), told, ofCounting(asked), list);
 }
 
-/** A list of differences. */
-function listOfDifferences({ count, shown, text, verdict }, files) {
-  const actions = [saving("Save as text", () => text, "differences.txt"), copying("Copy as text", () => text.text(), "the differences")];
+/** What counts as a difference: the header or the data alone, and from which distance on reals do. */
+function ofCounting({ data, tolerance }) {
+  const header = element("input", { type: "checkbox", id: "with-header" });
+  header.checked = !data;
+  header.addEventListener("change", () => askFor({ data: !header.checked, focus: "#with-header" }));
+  const field = element("input", { type: "text", id: "tolerance", inputmode: "decimal", size: "8", autocomplete: "off", spellcheck: "false", value: tolerance });
+  const wrong = element("span", { class: "wrong", id: "no-tolerance", role: "status" });
+  field.addEventListener("change", () => {
+    const isWrong = field.value.trim() !== "" && !isTolerance(field.value);
+    wrong.textContent = isWrong ? "A tolerance is a number of 0 or more, as 0.001 or 1E-6." : "";
+    field.setAttribute("aria-invalid", String(isWrong));
+    if (!isWrong) askFor({ tolerance: field.value.trim(), focus: "#tolerance" });
+  });
+  field.setAttribute("aria-describedby", "no-tolerance");
+  return element(
+    "div",
+    { class: "counting" },
+    element("label", {}, header, " with the header"),
+    element("label", {}, "Reals may differ by ", field),
+    wrong,
+  );
+}
+
+/** A list of differences: what is known, how to take it along, a table by entity, what sifts it, and the differences by what owns them. */
+function listOfDifferences({ count, shown, text, verdict, table, tolerance }, files, way) {
+  const report = { names: way === "shapes", data: shownLists.asked.data, tolerance: shownLists.asked.tolerance };
+  const actions = [
+    saving("Save as text", () => text, "differences.txt"),
+    copying("Copy as text", () => text.text(), "the differences"),
+    button("Save as report", () => askFor({ report })),
+  ];
   const made = [element("div", { class: "buttons" }, ...actions)];
-  if (verdict) made.unshift(element("p", { class: "known" }, verdict));
+  if (way === "shapes" || tolerance) made.unshift(element("p", { class: "known" }, verdict));
+  if (count === 0) return made;
+  const rows = shown.map((difference, number) => ofDifference(difference, files, number));
+  const list = element("div", { class: "list" }, ...byOwners(shown, rows));
+  const sifting = new Sifting(shown, rows, list);
+  made.push(byEntity(table, sifting));
   if (shown.length < count) made.push(hint(`The first ${shown.length} of ${counted(count, "difference")}.`));
-  const rows = shown.map((difference) => ofDifference(difference, files));
-  const find = (words) => {
-    for (const row of rows) row.hidden = !hasWords(row.textContent, words);
-    return rows.filter((row) => !row.hidden).length;
-  };
-  const search = rows.length > FEW_DIFFERENCES ? [searching("Look for", rows.length, find)] : [];
-  return [...made, ...search, element("ol", {}, ...rows)];
+  if (rows.length > FEW_DIFFERENCES) made.push(sifting.form);
+  return [...made, list];
+}
+
+/** Sifts the differences that are shown, by words and by what happened. */
+class Sifting {
+  constructor(shown, rows, list) {
+    Object.assign(this, { shown, rows, list, words: [], entity: null });
+    this.kinds = new Set(KINDS);
+    this.search = searching("Look for", rows.length, (words) => this.sift({ words, entity: null }), () => this.isWhole);
+    const boxes = KINDS.map((kind) => {
+      const box = element("input", { type: "checkbox", value: kind });
+      box.checked = true;
+      box.addEventListener("change", () => {
+        this.kinds[box.checked ? "add" : "delete"](kind);
+        this.again();
+      });
+      return element("label", {}, box, ` ${kind}`);
+    });
+    this.form = element("div", { class: "sifting" }, element("fieldset", { class: "ways" }, element("legend", {}, "What"), ...boxes), this.search);
+  }
+
+  /** Is nothing sifted? */
+  get isWhole() {
+    return this.words.length === 0 && this.entity === null && this.kinds.size === KINDS.length;
+  }
+
+  /** Sifts by what is typed, and says how much is shown. */
+  again() {
+    this.search.querySelector("input").dispatchEvent(new Event("input"));
+  }
+
+  /** Shows what an entity has alone. */
+  only(entity) {
+    this.search.querySelector("input").value = "";
+    this.search.querySelector("[role=status]").textContent = `${this.sift({ words: [], entity }).toLocaleString("en")} of ${this.rows.length.toLocaleString("en")}: ${entity}`;
+    this.list.scrollIntoView({ block: "nearest" });
+  }
+
+  /** Shows the differences that have all of some words, and answers how many these are. */
+  sift(by) {
+    Object.assign(this, by);
+    this.rows.forEach((row, at) => {
+      const { kind, inTable } = this.shown[at];
+      const isOf = this.kinds.has(kind) && (this.entity === null || this.entity === inTable);
+      row.hidden = !isOf || !hasWords(`${inTable} ${row.textContent}`, this.words);
+    });
+    for (const group of [...this.list.querySelectorAll("section")]) group.hidden = !group.querySelector("li:not([hidden])");
+    return this.rows.filter((row) => !row.hidden).length;
+  }
+}
+
+/** How many instances of which entity changed, came and went. */
+function byEntity(table, sifting) {
+  const heads = ["Entity", ...KINDS].map((text) => element("th", { scope: "col" }, text));
+  const rows = table.slice(0, MOST_KEYWORDS).map(([name, ...numbers]) => {
+    const only = button(name, () => sifting.only(name), { class: "entity" });
+    const cells = numbers.map((number) => element("td", {}, number > 0 ? number.toLocaleString("en") : ""));
+    return element("tr", {}, element("th", { scope: "row" }, only), ...cells);
+  });
+  const sums = KINDS.map((_, at) => table.reduce((sum, row) => sum + row[at + 1], 0));
+  const title = `By entity: ${KINDS.map((kind, at) => `${sums[at].toLocaleString("en")} ${kind}`).join(", ")}`;
+  const left = table.length - rows.length;
+  const rest = left > 0 ? hint(`and ${left.toLocaleString("en")} more`) : null;
+  const made = element("table", {}, element("thead", {}, element("tr", {}, ...heads)), element("tbody", {}, ...rows));
+  const folded = fold(title, ...[made, rest].filter(Boolean));
+  folded.classList.add("by-entity");
+  return folded;
+}
+
+/** Differences by what owns them: the products, and within them faces or sets of properties. One list where no product is known. */
+function byOwners(shown, rows) {
+  if (!shown.some(({ owner }) => owner)) return [element("ol", {}, ...rows)];
+  return grouped(shown.keys(), (at) => shown[at].owner.products).map(([products, ofProducts]) => {
+    const parts = grouped(ofProducts, (at) => shown[at].owner.parts).map(([part, places]) => {
+      const list = element("ol", {}, ...places.map((at) => rows[at]));
+      return part ? element("section", { class: "of-part" }, element("h5", {}, part), list) : list;
+    });
+    return element("section", { class: "owner" }, element("h4", {}, products), ...parts);
+  });
+}
+
+/** Places by what a function says of them, in the order of the first of each. */
+function grouped(places, saidOf) {
+  return [...Map.groupBy(places, saidOf)];
 }
 
 /** A difference: what it is about, and the text of each file, below which a value stands as people write it. */
-function ofDifference({ what, texts, plain }, files) {
+function ofDifference({ what, texts, plain }, files, number) {
   const marked = texts.length === 2 ? markedPair(...texts) : [[texts[0]]];
   const written = plain && markedPair(...plain);
   const names = texts.length === 2 ? files.map(({ name }, number) => `${"AB"[number]}, ${name}`) : [null];
@@ -973,7 +1152,7 @@ function ofDifference({ what, texts, plain }, files) {
     const read = written && element("span", { class: "plain" }, ...written[number]);
     return element("div", {}, side, element("code", { class: "value" }, ...parts), read);
   });
-  return element("li", {}, element("div", { class: "what" }, what), element("div", { class: "sides" }, ...sides));
+  return element("li", { "data-at": String(number) }, element("div", { class: "what" }, what), element("div", { class: "sides" }, ...sides));
 }
 
 /** Two texts with what stands between their common front and their common end marked. */

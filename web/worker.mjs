@@ -6,9 +6,12 @@
 // one run to the next, and a job is stopped by ending its worker.
 
 import { headerOf, keywordsOf, syntaxOf } from "./alone.mjs";
-import { differencesOf, differencesUpToNames, equalBytes } from "./differences.mjs";
+import { toleranceOf } from "./decimals.mjs";
+import { Files, SMALL_ENOUGH, equalBytes, tableName, whatOf } from "./differences.mjs";
 import { GivenFile } from "./files.mjs";
+import { Owners } from "./owners.mjs";
 import { LOOKED_AT, otherKindOf, unpacked } from "./packed.mjs";
+import { Report, findOwned, ownerOf } from "./pages.mjs";
 import { Program, Text, Trouble } from "./program.mjs";
 import { listing, shown, textOf } from "./reading.mjs";
 import { Outline } from "./schemas.mjs";
@@ -20,12 +23,14 @@ import { linesOf, whereAll, whereAlone, whereInFile, whereInSchema } from "./whe
 const READ_AT_ONCE = 1 << 22;
 const SHOWN_CANONICAL = 1 << 17;
 const SHOWN_DIFFERENCES = 1000;
-// Two canonical files of so many bytes together are compared up to names without being asked.
-const SMALL_ENOUGH = 1 << 21;
 // Of so many refusals of a file the places are looked for. Those that are found in so many milliseconds come with the answer.
 const MOST_PLACES = 5000;
 const FIRST_PLACES = 300;
 const BETWEEN_MESSAGES = 100;
+// Two canonical files of so many bytes together are kept for what else is asked of them.
+const MOST_KEPT = 1 << 27;
+// The style and the script of a report.
+const REPORT = __REPORT__;
 const COUNT_LINE = /^refusals \d+(?:, (.*))?$/;
 
 /** A file of the person at the page, of which a piece is kept at a time. */
@@ -88,11 +93,28 @@ function countInstances(bytes) {
   return count;
 }
 
-/** Differences as they go to the page. */
-function sentDifferences({ count, inHeader, inTimeStamp, shown, lines, word, verdict, butFor, isRenamed }) {
+/** A list of differences as it goes to the page, with what owns each that is shown where `owners` says that. */
+function sentList({ counts, shown, lines, ...known }, { units }, owners) {
   const text = new Blob([lines.map((line) => `${line}\n`).join("")], { type: "text/plain" });
-  const onlyHeader = count > 0 && count === inHeader;
-  return { count, shown, text, word, verdict, butFor, isRenamed, onlyHeader, onlyTimeStamp: inHeader > 0 && inHeader === inTimeStamp };
+  if (owners) findOwned(shown, owners);
+  const sent = shown.map((difference) => ({
+    kind: difference.kind,
+    what: whatOf(difference),
+    inTable: tableName(difference.what, difference.entity),
+    texts: difference.texts,
+    plain: difference.plain?.(units) ?? null,
+    owner: owners ? ownerOf(difference, owners) : null,
+  }));
+  const { listed, inHeader, inTimeStamp } = counts;
+  return {
+    ...known,
+    count: listed,
+    onlyHeader: listed > 0 && listed === inHeader,
+    onlyTimeStamp: inHeader > 0 && inHeader === inTimeStamp,
+    table: counts.table(),
+    shown: sent,
+    text,
+  };
 }
 
 /** A text for people of the program's, which is in UTF-8. */
@@ -117,10 +139,11 @@ function given({ file, unpackedBy }) {
 
 /** The job: schemas, maybe with aliases, and none, one or two files, each with its name and unpacked. */
 class Job {
-  constructor(program, { schemas, aliases, files, upToNames }, say) {
+  constructor(program, { schemas, aliases, files, asked }, say) {
     this.program = program;
     this.files = files.map(given);
-    this.upToNames = upToNames;
+    this.asked = asked;
+    this.compared = null;
     this.say = say;
     // Without a schema the files are read by themselves.
     const listings = schemas.map(given).map((each) => ({ ...each, text: new Text(each.text.bytes) }));
@@ -249,23 +272,56 @@ class Job {
 
   // Differences
 
-  /** What differs between two files that are accepted. */
+  /** What differs between two files that are accepted, as it is asked at first. */
   differences(first, second) {
     const { attributes } = listing(this.program, first.served.text);
-    const canonical = [first.canonical, second.canonical];
-    const lengths = new Lengths(new Sets(new Outline(first.served.text.bytes)));
+    this.outline = new Outline(first.served.text.bytes);
+    const lengths = new Lengths(new Sets(this.outline));
     const heard = (count) => this.say({ progress: { name: `instance ${count}`, compares: true } });
-    const byNames = differencesOf(attributes, lengths, ...canonical, SHOWN_DIFFERENCES, heard);
-    const found = sentDifferences(byNames);
-    const isSmall = canonical[0].length + canonical[1].length <= SMALL_ENOUGH;
-    if (!isSmall && !this.upToNames) return { ...found, upToNames: null };
     const isSame = (one, other) => {
       const files = { schema: first.served.text, first: new Text(one), second: new Text(other) };
       return this.program.run(["same", "--", "schema", "first", "second"], files).status === 0;
     };
-    const { units } = byNames;
-    const upToNames = differencesUpToNames(attributes, lengths, units, ...canonical, SHOWN_DIFFERENCES, isSame, heard);
-    return { ...found, upToNames: sentDifferences(upToNames) };
+    this.compared = new Files({ attributes, lengths, isSame, heard }, first.canonical, second.canonical);
+    this.owners = new Map();
+    return this.lists(this.asked);
+  }
+
+  /** The lists of what differs: by names, and up to names where that is asked for or both files are small. */
+  lists(asked) {
+    const names = this.list(false, asked);
+    const isSmall = this.compared.size <= SMALL_ENOUGH;
+    const upToNames = isSmall || asked.upToNames ? this.list(true, asked) : null;
+    return { asked, names, upToNames, isKept: this.compared.size <= MOST_KEPT };
+  }
+
+  /** The list of what differs by names, or up to names. */
+  list(names, { data, tolerance }) {
+    const found = this.compared.list({ names, data, tolerance: tolerance ? toleranceOf(tolerance) : null }, SHOWN_DIFFERENCES);
+    return sentList(found, this.compared, this.ownersOf(names));
+  }
+
+  /** What tells the owner of an instance; null where there is no product in the files, or these are large. */
+  ownersOf(names) {
+    if (!this.owners.has(names)) {
+      const graph = this.compared.graph(names);
+      const owners = graph && new Owners(graph, this.outline, this.compared.attributes);
+      this.owners.set(names, owners?.hasProducts ? owners : null);
+    }
+    return this.owners.get(names);
+  }
+
+  /** The report of what differs, as p21-diff --format html writes it. */
+  report({ names, data, tolerance }) {
+    const how = { names, data, tolerance: tolerance ? toleranceOf(tolerance) : null, isFull: true };
+    const report = new Report(
+      this.compared,
+      this.files.map(({ path }) => path),
+      REPORT,
+    );
+    const { known, counts } = this.compared.each(how, (difference) => report.add(difference));
+    const lines = [...report.page(known, counts, this.ownersOf(names))];
+    return new Blob([lines.map((line) => `${line}\n`).join("")], { type: "text/html" });
   }
 
   // The answer
@@ -350,13 +406,28 @@ async function unpackedJob({ schemas, files, ...rest }, say) {
   };
 }
 
+// The job that is done, of which more can be asked: other lists of what differs, or a report.
+let job = null;
+
+/** Starts a job, or does what is asked of the one that is done. */
+async function done({ module, report, asked, ...given }, say) {
+  if (report) {
+    say({ report: job.report(report) });
+  } else if (module && !given.schemas) {
+    say({ version: textOf(new Program(module).run(["--version"]).output).trim() });
+  } else if (module) {
+    job = new Job(new Program(module), await unpackedJob({ ...given, asked }, say), say);
+    await job.run();
+  } else {
+    say({ lists: job.lists(asked), isWhole: true });
+  }
+}
+
 if (typeof WorkerGlobalScope !== "undefined") {
   self.onmessage = async ({ data }) => {
     const say = (message) => self.postMessage(message);
     try {
-      const program = new Program(data.module);
-      if (data.schemas) await new Job(program, await unpackedJob(data, say), say).run();
-      else say({ version: textOf(program.run(["--version"]).output).trim() });
+      await done(data, say);
     } catch (error) {
       say({ trouble: error instanceof Trouble ? error.message : `${error.name}: ${error.message}` });
     }
