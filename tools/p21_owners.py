@@ -15,7 +15,7 @@ from p21_models import Graph, key_of, parts_of, record_of, stretch_of, values_of
 from p21_plainly import plainly
 
 PRODUCTS = {"PRODUCT", "IFCOBJECTDEFINITION"}
-PARTS = {"FACE", "IFCFACE", "IFCPROPERTYSETDEFINITION"}
+PARTS = {"FACE", "ADVANCED_FACE", "IFCFACE", "IFCPROPERTYSETDEFINITION"}
 # This one alone: its subtypes are the shapes of products.
 PROPERTY = "PROPERTY_DEFINITION"
 # The attributes by which people know an instance.
@@ -25,8 +25,8 @@ MOST_STEPS = 7
 MOST_SEEN = 5_000
 FAR = MOST_STEPS + 1
 MOST_TOLD = 3
-MANY = "in many places"
-NOWHERE = "in no product"
+MANY = "In many places"
+NOWHERE = "In no product"
 
 
 class Owner(NamedTuple):

@@ -139,7 +139,7 @@ def place_of(coordinates: bytes) -> Optional[Tuple[float, ...]]:
 def owner_of(found: Difference, owners: Owners) -> Owner:
     """What owns what differs: of an instance that went by the first file, of another one by the second."""
     if found.what not in ("instance", "section of"):
-        return Owner(f"in the {'header' if found.what == 'header' else 'list of sections'}", "")
+        return Owner(f"In the {'header' if found.what == 'header' else 'list of sections'}", "")
     if found.second is not None:
         return owners.of(1, found.second)
     return owners.of(0, found.first or 0)

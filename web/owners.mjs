@@ -5,7 +5,7 @@ import { plainly } from "./plainly.mjs";
 import { namesOfValues, readParts } from "./reading.mjs";
 
 const PRODUCTS = ["PRODUCT", "IFCOBJECTDEFINITION"];
-const PARTS = ["FACE", "IFCFACE", "IFCPROPERTYSETDEFINITION"];
+const PARTS = ["FACE", "ADVANCED_FACE", "IFCFACE", "IFCPROPERTYSETDEFINITION"];
 // This one alone: its subtypes are the shapes of products.
 const PROPERTY = "PROPERTY_DEFINITION";
 // The attributes by which people know an instance.
@@ -15,8 +15,8 @@ const MOST_STEPS = 7;
 const MOST_SEEN = 5000;
 const FAR = MOST_STEPS + 1;
 const MOST_TOLD = 3;
-const MANY = "in many places";
-const NOWHERE = "in no product";
+const MANY = "In many places";
+const NOWHERE = "In no product";
 
 /**
  * Answers for two files of one graph. `outline` is that of their schema, `attributes` are the names of attributes by entity, and

@@ -82,6 +82,8 @@ const chosen = { schemas: [], aliases: null, first: null, second: null };
 const handles = new WeakMap();
 const ofExamples = new WeakSet();
 const readBefore = new WeakSet();
+// Copies of listings that were made fit, with what was changed in each.
+const copies = new WeakMap();
 const at = (id) => document.getElementById(id);
 let worker = null;
 // A worker whose job is done, and of which other lists of what differs can be asked.
@@ -694,8 +696,10 @@ function ofFile(answer, explained) {
   }
   if (answer.isByShelf) made.append(element("p", { class: "by" }, "by ", element("strong", {}, answer.schema)));
   if (answer.change) made.append(element("p", { class: "change" }, element("code", {}, shown(answer.change))));
+  const copy = copies.get(chosen.schemas.find((file) => nameOf(file) === answer.schema));
+  if (copy) made.append(element("p", { class: "change" }, `By ${answer.schema}, a copy of the listing: ${effectOf(copy)}`), changesOf(copy));
   if (!answer.accepted) {
-    made.append(...ofRefusals(answer, explained));
+    made.append(...ofAdapted(answer), ...ofRefusals(answer, explained));
     return made;
   }
   made.append(element("code", { class: "line" }, answer.line));
@@ -730,6 +734,36 @@ function ofKeywords({ keywords }) {
   made.classList.add("holds");
   made.open = rows.length <= FIRST_ROWS;
   return [made];
+}
+
+/** What a copy of a listing has in place of it, in a few words. */
+function effectOf({ count, isWider }) {
+  return `${counted(count, "edit")}, and it accepts ${isWider ? "more files than the listing does" : "the same files"}.`;
+}
+
+/** The edits of a copy, line by line. */
+function changesOf({ lines }) {
+  const text = lines.join("\n");
+  return fold("What was changed", copying("Copy", () => text, "what was changed"), element("pre", {}, text));
+}
+
+/** What is offered in place of a listing that is refused: a copy that is made fit. */
+function ofAdapted({ adapted }) {
+  if (!adapted) return [];
+  const { copy, isRead, number } = adapted;
+  const name = chosen.schemas[number].name.replace(/(\.\w+)?$/, ".adapted.exp");
+  const use = () => {
+    const file = new File([copy], name);
+    copies.set(file, adapted);
+    putSchemas(
+      chosen.schemas.map((each, at) => (at === number ? file : each)),
+      chosen.aliases,
+    );
+    begin(`By a copy of the listing, with ${counted(adapted.count, "edit")}. `);
+  };
+  const said = isRead ? `A copy of this listing is read, in which p21-adapt writes another way what is left out: ${effectOf(adapted)}` : `With ${counted(adapted.count, "edit")} of p21-adapt it is refused still; the last lines say what is left to do.`;
+  const actions = [isRead ? button("Check by the copy", use, { id: "use-copy" }) : null, saving("Save the copy", () => new Blob([copy]), name)];
+  return [element("div", { class: "adapted" }, element("p", {}, said), element("div", { class: "buttons" }, ...actions.filter(Boolean)), changesOf(adapted))];
 }
 
 /** A part that opens and closes. */

@@ -71,7 +71,7 @@ function placeInSpace(coordinates) {
 
 /** What owns what differs: of an instance that went by the first file, of another one by the second. */
 export function ownerOf({ what, names: [first, second] }, owners) {
-  if (!isOfInstance(what)) return { products: `in the ${what === "header" ? "header" : "list of sections"}`, parts: "" };
+  if (!isOfInstance(what)) return { products: `In the ${what === "header" ? "header" : "list of sections"}`, parts: "" };
   return second === null ? owners.of(0, String(first)) : owners.of(1, String(second));
 }
 

@@ -5,6 +5,7 @@
 // Each run has an instance, a memory and streams of its own, and each job a worker of its own. So nothing stays from
 // one run to the next, and a job is stopped by ending its worker.
 
+import { adapted } from "./adapting.mjs";
 import { headerOf, keywordsOf, syntaxOf } from "./alone.mjs";
 import { toleranceOf } from "./decimals.mjs";
 import { Files, SMALL_ENOUGH, equalBytes, tableName, whatOf } from "./differences.mjs";
@@ -192,7 +193,20 @@ class Job {
       return { accepted: true, name, entities: entities.length, line };
     }
     const report = (status === 1 && placed(() => whereInSchema(this.program, schema, error))) || withoutPlace(error);
-    return notAccepted(name, status, [withLines(report, name)]);
+    return { ...notAccepted(name, status, [withLines(report, name)]), adapted: status === 1 ? placed(() => this.adaptedCopy(schema)) : null };
+  }
+
+  /** A copy of a listing that is refused, made fit as p21-adapt does by the other listings; null where there is nothing to do. */
+  adaptedCopy(schema) {
+    const number = this.listings.findIndex(({ text }) => text === schema);
+    if (number < 0) return null;
+    const others = this.listings.filter((_, at) => at !== number);
+    const found = adapted(
+      this.program,
+      schema.bytes,
+      others.map(({ text }) => text.bytes),
+    );
+    return found.count > 0 ? { ...found, number } : null;
   }
 
   // Files
