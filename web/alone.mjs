@@ -20,8 +20,8 @@ const LONGEST_STATEMENT = 1 << 26;
 const MOST_STRINGS = 20;
 // What a header says, in words, by its records and their parameters.
 const IN_WORDS = {
-  FILE_NAME: ["Name", "Time stamp", "Author", "Organization", "Written with", "Written by", "Authorization"],
-  FILE_DESCRIPTION: ["Description", "Level"],
+  FILE_NAME: ["Name", "Time stamp", "Author", "Organization", "Preprocessor", "System", "Authorization"],
+  FILE_DESCRIPTION: ["Description", "Implementation level"],
   FILE_SCHEMA: ["Schema"],
 };
 
