@@ -102,7 +102,7 @@ class Owners:
                 return Owner(MANY, "")
             if not parts:
                 parts = [each for each in level if self.is_part(each)]
-                level = parts or level
+                level, seen = (parts, set(parts)) if parts else (level, seen)
             nearest = min(self.steps[each] for each in level)
             if nearest < FAR:
                 products, below = self.down([each for each in level if self.steps[each] == nearest], nearest)

@@ -80,13 +80,13 @@ export class Owners {
   /** What owns an instance, as it is told: the products, and within them the faces or sets of properties. */
   owner(node) {
     let level = [node];
-    const seen = new Set(level);
+    let seen = new Set(level);
     let parts = [];
     while (level.length > 0) {
       if (seen.size > MOST_SEEN) return { products: MANY, parts: "" };
       if (parts.length === 0) {
         parts = level.filter((each) => this.isPart(each));
-        if (parts.length > 0) level = parts;
+        if (parts.length > 0) [level, seen] = [parts, new Set(parts)];
       }
       const nearest = level.reduce((least, each) => Math.min(least, this.steps[each]), FAR);
       if (nearest < FAR) {

@@ -474,7 +474,10 @@ function heard(message, job, said) {
   }
   if (lists) showLists(lists);
   if (places) shownPlaces(places);
-  if (report) save(report, "differences.html");
+  if (report) {
+    save(report, "differences.html");
+    hear("The report is saved.");
+  }
   if (job.schemas.length > 0 && !report) at("answer").toggleAttribute("data-whole", isWhole === true);
   if (isWhole) shownLines();
 }
@@ -649,7 +652,7 @@ function summary({ schemas, files, verdict, differences }) {
   if (verdict === "same") return { title: "Same", more: "Both files hold the same model.", mood: "good" };
   const apart = "The files are of two schemas, so they aren’t compared.";
   if (verdict === "apart") return { title: "Accepted", more: apart, mood: "other" };
-  if (verdict === "different") return { title: "Different", more: summaryOfDifferences(differences), mood: "other" };
+  if (verdict === "different") return { title: "Different", more: summaryOfDifferences(differences, wayOf(differences)), mood: "other" };
   const refused = files.filter(({ accepted }) => !accepted);
   if (refused.length === 0) return { title: "Accepted", more: files[0].name, mood: "good" };
   const more = refused.length === 2 ? "Neither file is accepted." : "One of the files is accepted, and one isn’t.";
@@ -666,13 +669,20 @@ function butFor({ names, upToNames }) {
   return parts.length > 0 ? [`The same but for ${parts.join(" and ")}.`] : [];
 }
 
-/** What is known of the differences, and how many they are. */
-function summaryOfDifferences({ names, upToNames, asked }) {
+/** What is known of the differences, and how many they are in the list that is shown. */
+function summaryOfDifferences({ names, upToNames, asked }, way) {
   if (names.count === 0) return nothingLeft(asked, names);
-  const said = [...butFor({ names, upToNames }), `${counted(names.count, "difference")}.`];
+  const ofShapes = way === "shapes" && upToNames.count > 0;
+  const count = ofShapes ? `${counted(upToNames.count, "difference")} but for the names of instances` : counted(names.count, "difference");
+  const said = [...butFor({ names, upToNames }), `${count}${way === "shapes" && !ofShapes ? " by the names of instances" : ""}.`];
   if (names.onlyHeader) said.push("All of them stand in the header: the data is the same.");
   else if (upToNames?.word === "same") said.push("Up to the names of their instances the files are the same.");
   return said.join(" ");
+}
+
+/** How instances are told at first: by what they say where that was asked, or where most names are other. */
+function wayOf({ asked, upToNames }) {
+  return asked.way ?? (upToNames?.isRenamed ? "shapes" : "names");
 }
 
 /** What is known where nothing is listed, since the header or small distances don't count. */
@@ -1018,7 +1028,7 @@ function withMarks(text) {
 function showLists(lists) {
   shownLists = lists;
   document.querySelector(".differences").replaceWith(differences(lists, files));
-  at("summary").textContent = summaryOfDifferences(lists);
+  at("summary").textContent = summaryOfDifferences(lists, wayOf(lists));
   hear(at("summary").textContent);
   document.querySelector(lists.asked.focus ?? "#verdict")?.focus();
 }
@@ -1029,7 +1039,7 @@ function showLists(lists) {
  */
 function differences(lists, files) {
   const { names, upToNames, asked } = lists;
-  const way = asked.way ?? (upToNames?.isRenamed ? "shapes" : "names");
+  const way = wayOf(lists);
   const list = element("div", {});
   const showWay = (chosenWay) => {
     shownLists = { ...lists, asked: { ...asked, way: chosenWay, upToNames: asked.upToNames || chosenWay === "shapes" } };
@@ -1040,8 +1050,10 @@ function differences(lists, files) {
     const input = element("input", { type: "radio", name: "way", value });
     input.checked = value === way;
     input.addEventListener("change", () => {
-      if (value === "names" || upToNames) showWay(value);
-      else askFor({ upToNames: true, way: value, focus: `[name=way][value=${value}]` });
+      if (value === "names" || upToNames) {
+        showWay(value);
+        at("summary").textContent = summaryOfDifferences(lists, value);
+      } else askFor({ upToNames: true, way: value, focus: `[name=way][value=${value}]` });
     });
     return element("label", {}, input, ` ${text}`);
   });
