@@ -673,7 +673,7 @@ function butFor({ names, upToNames }) {
 function summaryOfDifferences({ names, upToNames, asked }, way) {
   if (names.count === 0) return nothingLeft(asked, names);
   const ofShapes = way === "shapes" && upToNames.count > 0;
-  const count = ofShapes ? `${counted(upToNames.count, "difference")} but for the names of instances` : counted(names.count, "difference");
+  const count = ofShapes ? `${counted(upToNames.count, "difference")}, whatever the names of instances are` : counted(names.count, "difference");
   const said = [...butFor({ names, upToNames }), `${count}${way === "shapes" && !ofShapes ? " by the names of instances" : ""}.`];
   if (names.onlyHeader) said.push("All of them stand in the header: the data is the same.");
   else if (upToNames?.word === "same") said.push("Up to the names of their instances the files are the same.");
