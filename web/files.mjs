@@ -265,6 +265,12 @@ export class GivenFile {
     );
   }
 
+  /** Forgets what was looked for. */
+  forget() {
+    this.known.clear();
+    this.numbered.clear();
+  }
+
   /** How many refused references of an instance are placed. */
   mostPlaced(instance) {
     const statement = this.statementsOf([instance])[0]?.statement;

@@ -34,7 +34,7 @@
 // Of a canonical file the page shows the first 128 KiB, and of differences the first 1,000. Both can be saved whole.
 
 import { isTolerance } from "./decimals.mjs";
-import { SCHEMA_TEXT, hasWideMemory, namedSchema } from "./kinds.mjs";
+import { SCHEMA_TEXT, hasWideMemory, kindOfLine, namedSchema } from "./kinds.mjs";
 import { beginningOf, otherKindOf } from "./packed.mjs";
 import { shown } from "./reading.mjs";
 import { forgetAll, remember, remembered } from "./remembered.mjs";
@@ -53,6 +53,8 @@ const FEW_DIFFERENCES = 5;
 const SEARCH_WAITS = 100;
 const COMPARED_AT_ONCE = 1 << 22;
 const MORE_ROWS = 200;
+// So many refusals are looked through before the page does something else.
+const SOUGHT_AT_ONCE = 4000;
 // A job of so many milliseconds isn't shown to be under way.
 const SOON = 150;
 // So many refusals are shown as text; all can be saved.
@@ -162,9 +164,10 @@ function searching(label, count, find, isWhole = () => true) {
   let waiting = null;
   field.addEventListener("input", () => {
     clearTimeout(waiting);
-    waiting = setTimeout(() => {
+    waiting = setTimeout(async () => {
       const words = field.value.toLowerCase().split(/\s+/).filter(Boolean);
-      const many = find(words);
+      const many = await find(words);
+      if (many === null) return;
       found.textContent = words.length > 0 || !isWhole() ? `${many.toLocaleString("en")} of ${count.toLocaleString("en")}` : "";
     }, SEARCH_WAITS);
   });
@@ -461,7 +464,7 @@ async function begin(said = "", asked = USUALLY_ASKED) {
 
 /** What a worker says of a job. */
 function heard(message, job, said) {
-  const { answer, lists, places, report, trouble, isWhole } = message;
+  const { answer, lists, places, further, report, trouble, isWhole } = message;
   if (trouble) stop();
   else if (report || (isWhole && !(answer && job.asked.report))) rest((answer?.differences ?? lists ?? shownLists)?.isKept);
   if (message.progress) progress(message.progress);
@@ -474,6 +477,7 @@ function heard(message, job, said) {
   }
   if (lists) showLists(lists);
   if (places) shownPlaces(places);
+  if (further?.length > 0) furtherRefusals(further);
   if (report) {
     save(report, "differences.html");
     hear("The report is saved.");
@@ -637,8 +641,8 @@ function fileAsText(file) {
 }
 
 /** What is said to a screen reader of a file that isn't accepted. */
-function heardOf({ name, line, refusals }) {
-  return `${name}: ${refusals.length > 1 ? `${counted(refusals.length, "refusal")}, first ${line}` : line}.`;
+function heardOf({ name, line, refusals, total = refusals.length }) {
+  return `${name}: ${total > 1 ? `${counted(total, "refusal")}, first ${line}` : line}.`;
 }
 
 /** An answer in a few words: how it ends, what else there is to say, and whether that is good. */
@@ -657,7 +661,8 @@ function summary({ schemas, files, verdict, differences }) {
   if (refused.length === 0) return { title: "Accepted", more: files[0].name, mood: "good" };
   const more = refused.length === 2 ? "Neither file is accepted." : "One of the files is accepted, and one isn’t.";
   const { refusals } = refused[0];
-  const count = refusals.length > 1 ? `${counted(refusals.length, "refusal")}.` : null;
+  const { total = refusals.length } = refused[0];
+  const count = total > 1 ? `${counted(total, "refusal")}.` : null;
   return { title: failed(refused[0]), more: files.length === 1 ? count : more, mood: "bad" };
 }
 
@@ -830,9 +835,9 @@ function ofRefusals(answer, explained) {
   answer.rows = new Map();
   answer.text = element("pre", { class: "lines", tabindex: "0", role: "region", "aria-label": `${answer.name}, as text` });
   const whole = () => new Blob([`${linesOf(answer, refusals.length).join("\n")}\n`], { type: "text/plain" });
-  const isLong = refusals.length > MOST_TEXTS;
+  const isLong = answer.total > MOST_TEXTS;
   const saved = refusals.length > 1 ? saving("Save as text", whole, `${answer.name}.txt`) : null;
-  const note = isLong ? hint(`The first ${MOST_TEXTS} of ${counted(refusals.length, "refusal")}.`) : null;
+  const note = isLong ? hint(`The first ${MOST_TEXTS} of ${counted(answer.total, "refusal")}.`) : null;
   const copied = copying("Copy as text", () => linesOf(answer, refusals.length).join("\n"), `what is said of ${answer.name}`);
   const actions = element("div", { class: "buttons" }, saved, copied);
   const text = fold("As text", ...[actions, note, answer.text].filter(Boolean));
@@ -844,39 +849,71 @@ function ofRefusals(answer, explained) {
     answer.rows.set(0, { show });
     return [row, rest, ...meaning(explained[numberOf(refusals[0])], true), text].filter(Boolean);
   }
-  const kinds = Map.groupBy(refusals.keys(), (at) => kindOfRefusal(refusals[at]));
-  const count = `${counted(refusals.length, "refusal")}${kinds.size > 1 ? ` of ${kinds.size} kinds` : ""}`;
-  const last = answer.unplaced?.toLocaleString("en");
-  const unplaced = answer.unplaced > 0 ? hint(`The places of the last ${last} aren’t looked for.`) : null;
+  const kinds = new Map(answer.kinds);
+  const count = `${counted(answer.total, "refusal")}${kinds.size > 1 ? ` of ${kinds.size} kinds` : ""}`;
   const list = element("div", {});
-  const find = (words) => {
-    const found = refusals.keys().filter((at) => hasWords(refusals[at].lines.join(" "), words));
-    return showKinds(answer, list, [...found], explained);
+  const sofar = hint("");
+  const find = (words) => (words.length > 0 ? sought(answer, words, list, explained) : all());
+  const all = () => {
+    answer.groups = showKinds(answer, list, kinds, explained);
+    answer.grow(0);
+    return answer.total;
   };
-  find([]);
-  const search = refusals.length > FEW_REFUSALS ? searching("Look for", refusals.length, find) : null;
-  return [element("p", { class: "count" }, count), rest, unplaced, search, list, text].filter(Boolean);
+  // Takes in what came, from a place on, where the list isn't searched.
+  answer.grow = (from) => {
+    const came = refusals.length;
+    for (let at = from; at < came && answer.groups; at++) answer.groups.get(kindOfLine(refusals[at].line))?.places.push(at);
+    for (const group of answer.groups?.values() ?? []) group.grow();
+    sofar.textContent = came < answer.total ? `${came.toLocaleString("en")} of them are listed so far.` : "";
+  };
+  all();
+  const search = answer.total > FEW_REFUSALS ? searching("Look for", answer.total, find) : null;
+  return [element("p", { class: "count" }, count), sofar, rest, search, list, text].filter(Boolean);
 }
 
-/** Shows the refusals at these places by their kinds, and answers how many they are. */
-function showKinds(answer, list, places, explained) {
-  const kinds = Map.groupBy(places, (at) => kindOfRefusal(answer.refusals[at]));
-  const isFew = places.length <= FEW_REFUSALS;
-  answer.rows.clear();
-  list.replaceChildren(
-    ...[...kinds].map(([kind, each]) => ofKind(answer, kind, each, explained[kind.split(" ")[0]], isFew, kinds.size)),
-  );
+/** Looks for the refusals that have all of some words, shows them by their kinds, and answers how many they are. */
+async function sought(answer, words, list, explained) {
+  answer.groups = null;
+  const mine = (answer.seeking = Symbol("words"));
+  const { refusals } = answer;
+  const places = [];
+  for (let at = 0; at < refusals.length; at++) {
+    if (hasWords(refusals[at].lines.join(" "), words)) places.push(at);
+    if (at % SOUGHT_AT_ONCE === SOUGHT_AT_ONCE - 1) await new Promise((done) => setTimeout(done));
+    if (answer.seeking !== mine) return null;
+  }
+  const kinds = Map.groupBy(places, (at) => kindOfLine(refusals[at].line));
+  const groups = showKinds(answer, list, new Map([...kinds].map(([kind, each]) => [kind, each.length])), explained);
+  for (const [kind, group] of groups) {
+    group.places = kinds.get(kind);
+    group.grow();
+  }
   return places.length;
+}
+
+/** Shows kinds of refusals by how many there are of each. Answers what each has, to which the places of refusals come. */
+function showKinds(answer, list, kinds, explained) {
+  answer.seeking = null;
+  const total = [...kinds.values()].reduce((sum, count) => sum + count, 0);
+  const about = { isFew: total <= FEW_REFUSALS, isSome: answer.total <= SOME_REFUSALS, countOfKinds: kinds.size };
+  answer.rows.clear();
+  const groups = new Map([...kinds].map(([kind, count]) => [kind, ofKind(answer, kind, count, explained[kind.split(" ")[0]], about)]));
+  list.replaceChildren(...[...groups.values()].map(({ made }) => made));
+  return groups;
+}
+
+/** Takes in further refusals, of which there are the lines alone. */
+function furtherRefusals(further) {
+  const from = files.map(({ refusals }) => refusals?.length);
+  for (const { file, lines } of further) {
+    files[file].refusals.push({ line: lines[0], lines, place: null, attributes: [], looks: null, isText: true });
+  }
+  files.forEach((answer, number) => answer.refusals?.length > from[number] && answer.grow(from[number]));
 }
 
 /** The number of a refusal, as a word; nothing of another line. */
 function numberOf({ line }) {
   return /refused (S?\d+) /.exec(line)?.[1] ?? null;
-}
-
-/** The number and the name of a refusal; the whole of another line. */
-function kindOfRefusal({ line }) {
-  return /refused (S?\d+ .*?)(?: in #\d+| at statement \d+)?$/.exec(line)?.[1] ?? line;
 }
 
 /** What a refusal means, and what to do. */
@@ -888,31 +925,35 @@ function meaning(explained, isOpen) {
   return [means];
 }
 
-/** The refusals of one kind, each of which opens and closes. Rows that aren't shown yet come by a button. */
-function ofKind(answer, kind, places, explained, isFew, countOfKinds) {
-  const times = places.length === 1 ? "once" : `${places.length.toLocaleString("en")} times`;
+/**
+ * The refusals of one kind, each of which opens and closes, of which there are so many. Their places come one after the other; rows
+ * that aren't shown yet come by a button.
+ */
+function ofKind(answer, kind, total, explained, { isFew, isSome, countOfKinds }) {
+  const times = total === 1 ? "once" : `${total.toLocaleString("en")} times`;
   const about = explained?.about ? element("span", { class: "about" }, explained.about) : null;
   const name = element("h4", {}, element("code", {}, kind));
   const title = element("summary", {}, name, " ", element("span", { class: "times" }, times), " ", about);
   const list = element("ol", { class: "refusals" });
   const made = element("details", { class: "kind" }, title, ...meaning(explained, false), list);
-  made.open = answer.refusals.length <= SOME_REFUSALS || countOfKinds <= FEW_KINDS;
+  made.open = isSome || countOfKinds <= FEW_KINDS;
   const isFirstOpen = countOfKinds <= FEW_KINDS;
+  const group = { made, places: [], grow: null };
   let shownRows = 0;
-  const more = button("", () => add(MORE_ROWS), { class: "more" });
   const add = (count) => {
-    const isOpen = (at) => isFew || (isFirstOpen && at === places[0]);
-    const rows = places.slice(shownRows, shownRows + count).map((at) => ofRow(answer, at, isOpen(at)));
+    const isOpen = (at) => isFew || (isFirstOpen && at === group.places[0]);
+    const rows = group.places.slice(shownRows, shownRows + count).map((at) => ofRow(answer, at, isOpen(at)));
     list.append(...rows);
-    if (shownRows > 0) rows[0].querySelector("summary").focus();
     shownRows += rows.length;
-    const left = places.length - shownRows;
+    const left = total - shownRows;
     more.hidden = left === 0;
-    more.textContent = `Show ${Math.min(left, MORE_ROWS).toLocaleString("en")} more of ${places.length.toLocaleString("en")}`;
+    more.textContent = `Show ${Math.min(left, MORE_ROWS).toLocaleString("en")} more of ${total.toLocaleString("en")}`;
+    return rows;
   };
-  add(FIRST_ROWS);
+  const more = button("", () => add(MORE_ROWS)[0]?.querySelector("summary").focus(), { class: "more" });
+  group.grow = () => shownRows < FIRST_ROWS && add(FIRST_ROWS - shownRows);
   made.append(more);
-  return made;
+  return group;
 }
 
 /** A refusal of several: a row that says where it is, which opens to the whole. */
@@ -934,8 +975,13 @@ function ofRow(answer, at, isOpen) {
 
 /** What the row of a refusal says: the instance or statement, where it is, and what is wrong in a few words. */
 function titleOf(refusal) {
-  const { line, place } = refusal;
+  const { line, lines, place, isText } = refusal;
   const name = / (?:in )?(#\d+|at statement \d+)$/.exec(line)?.[1] ?? line;
+  const found = isText && /:(\d+):(\d+)$/.exec(lines[1] ?? "");
+  if (found) {
+    const where = element("span", { class: "where" }, `line ${found[1]}, column ${found[2]}`);
+    return [element("code", {}, name), " ", where, " ", element("span", { class: "first-note" }, lines[4]?.trim() ?? "")];
+  }
   if (!place) return [element("code", {}, name)];
   const where = element("span", { class: "where" }, `line ${place.line}, column ${place.column}`);
   const note = element("span", { class: "first-note" }, place.notes[0] ?? markedText(refusal));
@@ -952,7 +998,8 @@ function markedText({ place, attributes }) {
 }
 
 /** A refusal: the program's line, the place, and what there is to say of it. Of several the row has the line. */
-function ofRefusal({ line, place, attributes, looks }, heading) {
+function ofRefusal({ line, lines, place, attributes, looks, isText }, heading) {
+  if (isText) return [element("pre", {}, lines.join("\n"))];
   const made = [element(heading ?? "p", { class: "said" }, element("code", { class: "line" }, line))];
   if (WORDS[line]) made.push(element("p", {}, WORDS[line]));
   if (place) made.push(...(heading ? [hint(`line ${place.line}, column ${place.column}`)] : []), ...ofPlace(place));

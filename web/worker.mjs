@@ -11,6 +11,7 @@ import { toleranceOf } from "./decimals.mjs";
 import { Files, SMALL_ENOUGH, equalBytes, tableName, whatOf } from "./differences.mjs";
 import { GivenFile } from "./files.mjs";
 import { Owners } from "./owners.mjs";
+import { kindOfLine } from "./kinds.mjs";
 import { LOOKED_AT, otherKindOf, unpacked } from "./packed.mjs";
 import { Report, findOwned, ownerOf } from "./pages.mjs";
 import { Program, Text, Trouble } from "./program.mjs";
@@ -24,8 +25,9 @@ import { linesOf, whereAll, whereAlone, whereInFile, whereInSchema } from "./whe
 const READ_AT_ONCE = 1 << 22;
 const SHOWN_CANONICAL = 1 << 17;
 const SHOWN_DIFFERENCES = 1000;
-// Of so many refusals of a file the places are looked for. Those that are found in so many milliseconds come with the answer.
-const MOST_PLACES = 5000;
+// Of a file so many refusals are kept with all that is said of them, and of further ones the lines alone. The places that are found in so
+// many milliseconds come with the answer.
+const MOST_WHOLE = 2000;
 const FIRST_PLACES = 300;
 const BETWEEN_MESSAGES = 100;
 // Two canonical files of so many bytes together are kept for what else is asked of them.
@@ -253,16 +255,17 @@ class Job {
     const lines = this.program.run(["check", "--all", "--", "schema", "file"], files, heard).error.split("\n");
     const count = lines.pop();
     const isAll = COUNT_LINE.test(count);
-    const reports = (isAll ? lines : [error]).map((line) => ({ ...withoutPlace(line), lines: [line] }));
-    const unplaced = Math.max(0, reports.length - MOST_PLACES);
-    return { ...notAccepted(name, 1, reports, isAll ? count : null), isAll, unplaced };
+    const all = isAll ? lines : [error];
+    const reports = all.slice(0, MOST_WHOLE).map((line) => ({ ...withoutPlace(line), lines: [line] }));
+    const kinds = [...Map.groupBy(all, kindOfLine)].map(([kind, each]) => [kind, each.length]);
+    return { ...notAccepted(name, 1, reports, isAll ? count : null), isAll, all, total: all.length, kinds };
   }
 
   /** The places of all refusals, one after the other, each with the number of its file and its own. */
   *places(answers) {
     for (const [file, answer] of answers.entries()) {
       if (!answer.file) continue;
-      this.say({ progress: { name: answer.name, placed: 0, of: answer.refusals.length } });
+      this.say({ progress: { name: answer.name, placed: 0, of: answer.total } });
       const { name } = answer;
       const reports = placed(() => this.reports(answer)) ?? [].values();
       for (let at = 0; ; at++) {
@@ -274,13 +277,12 @@ class Job {
   }
 
   /** The reports of a file's refusals, one after the other. */
-  reports({ served, refusals, file, isAll, line }) {
+  reports({ served, all, file, isAll, line }) {
     if (!isAll) return [whereInFile(this.program, served.text, served.name, file.bytes, line)].values();
-    const lines = refusals.slice(0, MOST_PLACES).map((refusal) => refusal.line);
     const given = new GivenFile(this.program, served.text, served.name, file.bytes, true);
     return whereAll(
       given,
-      lines.filter((each) => each.startsWith("refused")),
+      all.filter((each) => each.startsWith("refused")),
     );
   }
 
@@ -366,29 +368,30 @@ class Job {
   async run() {
     const answer = this.answer();
     for (const file of answer.files) if (file.canonical) file.hash = await hashOf(file.canonical);
-    const refused = [...answer.schemas, ...answer.files].flatMap(({ refusals }) => refusals ?? []);
-    const numbers = refused.map(({ line }) => /refused (S?\d+) /.exec(line)?.[1]).filter(Boolean);
+    const refused = [...answer.schemas, ...answer.files].flatMap(({ refusals, kinds }) => kinds?.map(([kind]) => `refused ${kind}`) ?? refusals?.map(({ line }) => line) ?? []);
+    const numbers = refused.map((line) => /refused (S?\d+) /.exec(line)?.[1]).filter(Boolean);
     const explained = this.explained(new Set(numbers));
     const begun = performance.now();
     let saidAt = null;
-    let waiting = [];
+    let waiting = { places: [], further: [] };
     for (const found of this.places(answer.files)) {
-      const { name, refusals } = answer.files[found.file];
+      const { name, refusals, total } = answer.files[found.file];
       const now = performance.now();
+      if (found.at >= MOST_WHOLE) waiting.further.push({ file: found.file, lines: found.report.lines });
+      else if (saidAt === null) refusals[found.at] = found.report;
+      else waiting.places.push(found);
       if (saidAt === null) {
-        refusals[found.at] = found.report;
         if (now - begun <= FIRST_PLACES) continue;
         this.say({ answer: sendable(answer, explained), isWhole: false });
       } else {
-        waiting.push(found);
         if (now - saidAt <= BETWEEN_MESSAGES) continue;
-        this.say({ places: waiting, progress: { name, placed: found.at + 1, of: refusals.length } });
-        waiting = [];
+        this.say({ ...waiting, progress: { name, placed: found.at + 1, of: total } });
+        waiting = { places: [], further: [] };
       }
       saidAt = now;
     }
-    if (saidAt === null) this.say({ answer: sendable(answer, explained), isWhole: true });
-    else this.say({ places: waiting, isWhole: true });
+    if (saidAt === null) this.say({ answer: sendable(answer, explained), ...waiting, isWhole: true });
+    else this.say({ ...waiting, isWhole: true });
   }
 }
 
@@ -398,8 +401,8 @@ function sendable(answer, explained) {
 }
 
 /** What is said of a file: of a canonical file the beginning, and the whole to be saved. */
-function sendableFile({ canonical, served, file, from, ...all }) {
-  const rest = { ...all, from: from && { ...from, listing: from.listing.path, listingUnpackedBy: from.listing.unpackedBy } };
+function sendableFile({ canonical, served, file, all, from, ...others }) {
+  const rest = { ...others, from: from && { ...from, listing: from.listing.path, listingUnpackedBy: from.listing.unpackedBy } };
   if (!canonical) return rest;
   const shown = canonical.subarray(0, SHOWN_CANONICAL);
   const end = shown.length < canonical.length ? shown.lastIndexOf(10) + 1 : shown.length;
