@@ -711,8 +711,9 @@ function ofFile(answer, explained) {
   }
   if (answer.isByShelf) made.append(element("p", { class: "by" }, "by ", element("strong", {}, answer.schema)));
   if (answer.change) made.append(element("p", { class: "change" }, element("code", {}, shown(answer.change))));
-  const copy = copies.get(chosen.schemas.find((file) => nameOf(file) === answer.schema));
-  if (copy) made.append(element("p", { class: "change" }, `By ${answer.schema}, a copy of the listing: ${effectOf(copy)}`), changesOf(copy));
+  const bySchema = answer.schema ?? answer.name;
+  const copy = copies.get(chosen.schemas.find((file) => nameOf(file) === bySchema));
+  if (copy) made.append(element("p", { class: "change" }, `By ${bySchema}, a copy of the listing: ${effectOf(copy)}`), changesOf(copy));
   if (!answer.accepted) {
     made.append(...ofAdapted(answer), ...ofRefusals(answer, explained));
     return made;
@@ -776,7 +777,7 @@ function ofAdapted({ adapted }) {
     );
     begin(`By a copy of the listing, with ${counted(adapted.count, "edit")}. `);
   };
-  const said = isRead ? `A copy of this listing is read, in which p21-adapt writes another way what is left out: ${effectOf(adapted)}` : `With ${counted(adapted.count, "edit")} of p21-adapt it is refused still; the last lines say what is left to do.`;
+  const said = isRead ? `A copy of this listing is read, in which what p21 leaves out is written in another way, as by p21-adapt: ${effectOf(adapted)}` : `With ${counted(adapted.count, "edit")} of p21-adapt it is refused still; the last lines say what is left to do.`;
   const actions = [isRead ? button("Check by the copy", use, { id: "use-copy" }) : null, saving("Save the copy", () => new Blob([copy]), name)];
   return [element("div", { class: "adapted" }, element("p", {}, said), element("div", { class: "buttons" }, ...actions.filter(Boolean)), changesOf(adapted))];
 }
