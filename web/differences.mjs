@@ -12,6 +12,7 @@ import { unitOf, withUnit } from "./units.mjs";
 
 const LINE_END = 10;
 const EQUALS = 0x3d;
+const HASH_SIGN = 0x23;
 const ENDSEC = [..."ENDSEC;"].map((sign) => sign.charCodeAt(0));
 const FRONT = "ISO-10303-21;\nHEADER;\n";
 const HEADER_NAMES = new Map([
@@ -228,9 +229,52 @@ class Comparison {
 
 /** What differs in instances of equal names, and those of names that one file alone has. */
 function* byNames(comparison, first, second, heard) {
+  const [one, other] = [first, second].map(sectionsOf);
+  const haveOne = one.length === 1 && other.length === 1 && one[0].heading === other[0].heading;
+  const found = haveOne ? otherPairs(first, second, one[0], other[0].start) : pairs(instances(first), instances(second));
+  yield* inPairs(comparison, heardOfEach(found, heard));
+}
+
+/** Pairs as they come, of which each ten-thousandth is heard. */
+function* heardOfEach(pairs, heard) {
   let count = 0;
-  for (const [one, other] of pairs(instances(first), instances(second))) {
+  for (const pair of pairs) {
     if (++count % 10_000 === 0) heard(count);
+    yield pair;
+  }
+}
+
+/**
+ * Each name with its instance in the one file and in the other, null where it isn't there, but for those whose lines are the same. Both
+ * files have one section with this heading, which begins at a place of its own in the second one.
+ */
+function* otherPairs(first, second, { heading, start }, otherStart) {
+  let [one, other] = [start, otherStart];
+  const instanceAt = (bytes, at) => {
+    if (bytes[at] !== HASH_SIGN) return null;
+    const line = bytes.subarray(at, bytes.indexOf(LINE_END, at));
+    return { name: BigInt(textOf(line.subarray(1, line.indexOf(EQUALS)))), section: heading, line };
+  };
+  while (first[one] === HASH_SIGN || second[other] === HASH_SIGN) {
+    let size = 0;
+    while (first[one + size] === second[other + size] && first[one + size] !== LINE_END) size++;
+    if (first[one + size] === second[other + size]) {
+      one += size + 1;
+      other += size + 1;
+      continue;
+    }
+    let [left, right] = [instanceAt(first, one), instanceAt(second, other)];
+    if (left && right && left.name < right.name) right = null;
+    else if (left && right && right.name < left.name) left = null;
+    yield [left, right];
+    one += left ? left.line.length + 1 : 0;
+    other += right ? right.line.length + 1 : 0;
+  }
+}
+
+/** What differs in pairs of instances. */
+function* inPairs(comparison, found) {
+  for (const [one, other] of found) {
     const names = [one?.name ?? null, other?.name ?? null];
     const texts = [one, other].map((found) => found && textOf(found.line));
     if (!one || !other) {
