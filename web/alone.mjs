@@ -106,7 +106,8 @@ function endOfText(bytes, start) {
   for (let at = start + 1; at < bytes.length; at++) {
     if (bytes[at] === BYTES.quote) return at;
     // Behind `\S\` an apostrophe is a sign like others.
-    if (bytes[at] === BYTES.backslash) at += bytes[at + 1] === BYTES.backslash ? 1 : bytes[at + 1] === BYTES.letterS && bytes[at + 2] === BYTES.backslash ? 3 : 0;
+    const isShift = bytes[at + 1] === BYTES.letterS && bytes[at + 2] === BYTES.backslash;
+    if (bytes[at] === BYTES.backslash) at += bytes[at + 1] === BYTES.backslash ? 1 : isShift ? 3 : 0;
   }
   return bytes.length;
 }

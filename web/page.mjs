@@ -72,7 +72,9 @@ const WORDS = {
 const NOT_CHECKED =
   "Not checked: the rules of the schema (WHERE, UNIQUE and RULE, INVERSE, what DERIVE computes), and whether the geometry is sound.";
 const WITH_A_SCHEMA =
-  "What a schema adds: it says which entities there are, how many values each has and of which kind, and what references lead to. By it each instance is checked, two files are compared by what they mean, and a canonical file with its hash is made. Drop it on the page with the file or by itself.";
+  "What a schema adds: it says which entities there are, how many values each has and of which kind, and what references lead to. " +
+  "By it each instance is checked, two files are compared by what they mean, and a canonical file with its hash is made. " +
+  "Drop it on the page with the file or by itself.";
 // Of the keywords of a file so many are shown.
 const MOST_KEYWORDS = 300;
 const examples = __EXAMPLES__;
@@ -565,8 +567,8 @@ let shownLists = null;
 function showAlone(answer) {
   const refused = answer.files.filter(({ accepted }) => !accepted);
   const [title, mood] = refused.length > 0 ? [failed(refused[0]), "bad"] : ["Well formed", "other"];
-  const bothOf = refused.length === 2 ? "Neither file is well formed." : refused.length === 1 ? "One of the files is well formed, and one isn’t." : "Both files are.";
-  const more = answer.files.length === 2 ? bothOf : refused.length > 0 ? answer.files[0].name : "Not checked by a schema yet.";
+  const ofBoth = ["Both files are.", "One of the files is well formed, and one isn’t.", "Neither file is well formed."][refused.length];
+  const more = answer.files.length === 2 ? ofBoth : refused.length > 0 ? answer.files[0].name : "Not checked by a schema yet.";
   files = answer.files;
   at("answer").replaceChildren(
     ofVerdict(title, more, mood, () => answerAsText(title, more, files, null)),
@@ -777,9 +779,11 @@ function ofAdapted({ adapted }) {
     );
     begin(`By a copy of the listing, with ${counted(adapted.count, "edit")}. `);
   };
-  const said = isRead ? `A copy of this listing is read, in which what p21 leaves out is written in another way, as by p21-adapt: ${effectOf(adapted)}` : `With ${counted(adapted.count, "edit")} of p21-adapt it is refused still; the last lines say what is left to do.`;
+  const read = `A copy of this listing is read, in which what p21 leaves out is written in another way, as by p21-adapt: ${effectOf(adapted)}`;
+  const refused = `With ${counted(adapted.count, "edit")} of p21-adapt it is refused still; the last lines say what is left to do.`;
   const actions = [isRead ? button("Check by the copy", use, { id: "use-copy" }) : null, saving("Save the copy", () => new Blob([copy]), name)];
-  return [element("div", { class: "adapted" }, element("p", {}, said), element("div", { class: "buttons" }, ...actions.filter(Boolean)), changesOf(adapted))];
+  const buttons = element("div", { class: "buttons" }, ...actions.filter(Boolean));
+  return [element("div", { class: "adapted" }, element("p", {}, isRead ? read : refused), buttons, changesOf(adapted))];
 }
 
 /** A part that opens and closes. */
@@ -1115,7 +1119,8 @@ function ofCounting({ data, tolerance }) {
   const header = element("input", { type: "checkbox", id: "with-header" });
   header.checked = !data;
   header.addEventListener("change", () => askFor({ data: !header.checked, focus: "#with-header" }));
-  const field = element("input", { type: "text", id: "tolerance", inputmode: "decimal", size: "8", autocomplete: "off", spellcheck: "false", value: tolerance });
+  const plain = { autocomplete: "off", spellcheck: "false", "aria-describedby": "no-tolerance" };
+  const field = element("input", { type: "text", id: "tolerance", inputmode: "decimal", size: "8", value: tolerance, ...plain });
   const wrong = element("span", { class: "wrong", id: "no-tolerance", role: "status" });
   field.addEventListener("change", () => {
     const isWrong = field.value.trim() !== "" && !isTolerance(field.value);
@@ -1123,7 +1128,6 @@ function ofCounting({ data, tolerance }) {
     field.setAttribute("aria-invalid", String(isWrong));
     if (!isWrong) askFor({ tolerance: field.value.trim(), focus: "#tolerance" });
   });
-  field.setAttribute("aria-describedby", "no-tolerance");
   return element(
     "div",
     { class: "counting" },
@@ -1168,7 +1172,8 @@ class Sifting {
       });
       return element("label", {}, box, ` ${kind}`);
     });
-    this.form = element("div", { class: "sifting" }, element("fieldset", { class: "ways" }, element("legend", {}, "What"), ...boxes), this.search);
+    const kinds = element("fieldset", { class: "ways" }, element("legend", {}, "What"), ...boxes);
+    this.form = element("div", { class: "sifting" }, kinds, this.search);
   }
 
   /** Is nothing sifted? */
@@ -1184,7 +1189,8 @@ class Sifting {
   /** Shows what an entity has alone. */
   only(entity) {
     this.search.querySelector("input").value = "";
-    this.search.querySelector("[role=status]").textContent = `${this.sift({ words: [], entity }).toLocaleString("en")} of ${this.rows.length.toLocaleString("en")}: ${entity}`;
+    const [found, all] = [this.sift({ words: [], entity }), this.rows.length].map((count) => count.toLocaleString("en"));
+    this.search.querySelector("[role=status]").textContent = `${found} of ${all}: ${entity}`;
     this.list.scrollIntoView({ block: "nearest" });
   }
 

@@ -326,10 +326,11 @@ export class Report {
     const identity = anchors.length > 0 ? ` id="${anchors[0]}"` : "";
     const kind = found.what === "instance" ? "" : `(${quotedInPage(found.what.split(" ")[0])}) `;
     yield `<div class="item"${identity} data-kind="${found.kind}" data-entity="${kind}${entity}">${other}`;
-    const attributes = [...new Set(all.filter(({ attribute }) => attribute).map(({ attribute }) => quotedInPage(attribute)))].join(", ");
+    const named = all.filter(({ attribute }) => attribute);
+    const attributes = [...new Set(named.map(({ attribute }) => quotedInPage(attribute)))].join(", ");
     const kindOf = `<span class="${found.kind}">${found.kind}</span>`;
     yield `<h${level}>${kindOf} ${names.join(", ")} ${entity} <span class="soft">${attributes}</span></h${level}>`;
-    const changed = new Set(all.filter(({ attribute }) => attribute).map((each) => `${each.entity ?? ""}.${each.attribute}`));
+    const changed = new Set(named.map((each) => `${each.entity ?? ""}.${each.attribute}`));
     for (const side of sides) {
       const line = this.linesByName[side].get(String(found.names[side]));
       if (line !== undefined && found.what !== "header") yield ofLine("AB"[side], this.marked(line, side, changed));

@@ -238,7 +238,8 @@ class Job {
     const from = { unpackedBy, listing: {} };
     if (status === 0) {
       const keywords = placed(() => keywordsOf(file, instances, (done) => this.heard(name, done, file.size)));
-      return { isAlone: true, accepted: true, name, line, from, names: schema, header: placed(() => headerOf(this.program, file)) ?? [], keywords };
+      const header = placed(() => headerOf(this.program, file)) ?? [];
+      return { isAlone: true, accepted: true, name, line, from, names: schema, header, keywords };
     }
     const report = (status === 1 && placed(() => whereAlone(this.program, file.bytes, line))) || withoutPlace(line);
     const otherKind = otherKindOf(textOf(file.piece(0, LOOKED_AT)));
@@ -368,8 +369,9 @@ class Job {
   async run() {
     const answer = this.answer();
     for (const file of answer.files) if (file.canonical) file.hash = await hashOf(file.canonical);
-    const refused = [...answer.schemas, ...answer.files].flatMap(({ refusals, kinds }) => kinds?.map(([kind]) => `refused ${kind}`) ?? refusals?.map(({ line }) => line) ?? []);
-    const numbers = refused.map((line) => /refused (S?\d+) /.exec(line)?.[1]).filter(Boolean);
+    const kindsOf = ({ refusals = [], kinds = null }) => kinds?.map(([kind]) => kind) ?? refusals.map(({ line }) => kindOfLine(line));
+    const kinds = [...answer.schemas, ...answer.files].flatMap(kindsOf);
+    const numbers = kinds.map((kind) => /^(S?\d+) /.exec(kind)?.[1]).filter(Boolean);
     const explained = this.explained(new Set(numbers));
     const begun = performance.now();
     let saidAt = null;
