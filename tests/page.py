@@ -45,6 +45,7 @@ CASES = 300
 ANSWER = """(() => {
     const answer = document.getElementById("answer");
     const texts = (within, selector) => [...within.querySelectorAll(selector)].map((found) => found.textContent);
+    const differences = [...answer.querySelectorAll(".differences li")].sort((one, other) => one.dataset.at - other.dataset.at);
     if (answer.hidden || answer.children.length === 0 || !answer.hasAttribute("data-whole")) return null;
     return {
         verdict: texts(answer, ".verdict > div")[0],
@@ -56,9 +57,9 @@ ANSWER = """(() => {
             canonical: texts(file, ".canonical")[0] ?? null,
             lines: texts(file, ".lines")[0]?.split("\\n") ?? null,
         })),
-        differences: [...answer.querySelectorAll(".differences li")].map(
+        differences: differences.map(
             (found) => `${texts(found, ".what")[0]}: ${texts(found, ".value").join(" -> ")}`),
-        plain: [...answer.querySelectorAll(".differences li")].map((found) => texts(found, ".plain")),
+        plain: differences.map((found) => texts(found, ".plain")),
     };
 })()"""
 SAID = "document.getElementById('said').textContent"
@@ -291,6 +292,153 @@ def large_up_to_names(page):
     shown = page.browser.wait(f"document.querySelector('.known') !== null && {ANSWER}", 120)
     known = page.browser.ask("document.querySelector('.known').textContent")
     page.tests.judge("it is said where it is asked for", "same up to names: 40000 pairs, checked one by one", known)
+
+
+def asked_otherwise(page):
+    """Lists of what differs without the header, and without reals that are near; what is sifted; and reports, which are those of p21-diff."""
+    for name in ("product.exp", "product.step"):
+        shutil.copy(ROOT / "examples" / name, page.folder)
+    text = (ROOT / "examples" / "product-changed.step").read_text().replace("2024-", "2025-")
+    text = text.replace("#9=PERSON('jo','O''Neill',$,$);", "#9=PERSON('jo','O''Neill','<b>Pat</b>',$);\n#500=CARTESIAN_POINT('<i>',(40.,25.,30.));\n#501=VERTEX_POINT('new',#500);\n#502=VERTEX_POINT('old',#17);")
+    page.tests.make("other.step", shuffled(text.encode(), 7)[0])
+    page.tests.make("named.step", text)
+    in_both(page, asked_otherwise_in)
+
+
+# By which way of telling instances p21-diff lists, the file that is compared, and what more is asked.
+ASKED = (
+    ("names", "named.step", []),
+    ("shapes", "other.step", ["--names"]),
+)
+
+
+def asked_otherwise_in(page, name):
+    judge, ask, wait = page.tests.judge, page.browser.ask, page.browser.wait
+    for way, file, words in ASKED:
+        page.open(page.path)
+        chosen(page, "product.exp", "product.step", file)
+        paths = ["product.exp", "product.step", file]
+        judge(f"told by {way} at first in {name}", way, ask("document.querySelector('[name=way]:checked').value"))
+        for field, given, more in (
+            (None, None, []),
+            ("with-header", None, ["--data"]),
+            ("tolerance", "0.5", ["--data", "--tolerance", "0.5"]),
+            ("tolerance", "1E-7", ["--data", "--tolerance", "1E-7"]),
+            ("with-header", None, ["--tolerance", "1E-7"]),
+        ):
+            if field == "tolerance":
+                ask(f"((field) => {{ field.value = '{given}'; field.dispatchEvent(new Event('change')); }})(document.getElementById('tolerance'))")
+            elif field:
+                ask("document.getElementById('with-header').click()")
+            shown = wait(ANSWER)
+            known = ask("document.querySelector('.known')?.textContent ?? null")
+            lines = page.tool("p21-diff", *words, *more, *paths)
+            judge(f"{file}, {words + more} in {name}", lines, [*shown["differences"], *([known] if known else [])])
+            if field:
+                judge(f"the focus stays on {field} in {name}", field, ask("document.activeElement.id"))
+            table = page.tool("p21-diff", "--stat", *words, *more, *paths)
+            rows = "[...document.querySelectorAll('.by-entity tbody tr')].map((row) => [...row.children].map((cell) => cell.textContent || '0').join(' '))"
+            judge(f"by entity, {words + more} in {name}", [" ".join(line.split()) for line in table[1 : table.index("") - 1]], ask(rows))
+            ask("[...document.querySelectorAll('.differences button')].find((found) => found.textContent === 'Save as report').click()")
+            report = subprocess.run(
+                [ROOT / "tools" / "p21-diff", *words, *more, "--format", "html", *paths], cwd=page.folder, capture_output=True, text=True, check=False
+            ).stdout
+            judge(f"the report, {words + more} in {name}", report, saved(page, "differences.html"))
+        ask("((field) => { field.value = 'much'; field.dispatchEvent(new Event('change')); })(document.getElementById('tolerance'))")
+        judge(f"no tolerance in {name}", "A tolerance is a number of 0 or more, as 0.001 or 1E-6.", ask("document.getElementById('no-tolerance').textContent"))
+        judge(f"markup isn't run in {name}", 0, ask("document.querySelectorAll('.differences b, .differences i').length"))
+    heads = "[...document.querySelectorAll('.differences h4, .differences h5')].filter((found) => found.checkVisibility()).map((found) => found.textContent.replace(/#\\d+/g, '#'))"
+    found = ask(heads)
+    judge(f"what owns what differs in {name}", ["In the header", "PRODUCT # “B-100”, “Block”", "In no product"], [head for head in found if not head.startswith("ADVANCED")])
+    judge(f"the faces of a corner in {name}", True, any(sorted(re.findall("“(.*?)”", head)) == ["back", "right", "top"] and head.count("ADVANCED_FACE #") == 3 for head in found))
+    count = "[...document.querySelectorAll('.differences li')].filter((found) => found.checkVisibility()).length"
+    status = "document.querySelector('.sifting [role=status]').textContent"
+    every = ask(count)
+    typed(page, "vertex_point", f"2 of {every}")
+    judge(f"what is found in {name}", 2, ask(count))
+    judge(f"headings of what is found in {name}", True, "In the header" not in ask(heads))
+    typed(page, "", "")
+    ask("[...document.querySelectorAll('.by-entity')].forEach((found) => { found.open = true; })")
+    ask("[...document.querySelectorAll('button.entity')].find((found) => found.textContent === 'PERSON').click()")
+    judge(f"one entity in {name}", [1, f"1 of {every}: PERSON"], [ask(count), ask(status)])
+    ask("document.querySelector('.sifting [value=changed]').click()")
+    wait(f"{status}.startsWith('3 of')")
+    judge(f"what came in {name}", 3, ask(count))
+
+
+def fitted(page):
+    """A listing that is refused is offered as a copy that is read, and files are checked by it; another one is told what is left to do."""
+    demo = (ROOT / "examples" / "demo.exp").read_text()
+    page.tests.make("bounds.exp", demo.replace("END_SCHEMA;", "ENTITY more; x : LIST [1:many] OF REAL; END_ENTITY;\nEND_SCHEMA;"))
+    page.tests.make("taken.exp", "SCHEMA taken;\nUSE FROM elsewhere;\nENTITY a; x : LIST [1:n] OF REAL; END_ENTITY;\nEND_SCHEMA;\n")
+    page.tests.make("demo.step", file_of("#1=POINT($,1.,2.);", [("PRODUCT_MODEL", "DEMO")]))
+    in_both(page, fitted_in)
+
+
+def fitted_in(page, name):
+    judge, ask, wait = page.tests.judge, page.browser.ask, page.browser.wait
+    changes = "document.querySelector('.adapted pre').textContent.split('\\n')"
+    tool = lambda listing: subprocess.run([ROOT / "tools" / "p21-adapt", "-o", "copy.exp", listing], cwd=page.folder, capture_output=True, text=True, check=False).stderr.splitlines()
+    chosen(page, "bounds.exp")
+    judge(f"what is changed in {name}", tool("bounds.exp"), ask(changes))
+    ask("[...document.querySelectorAll('.adapted button')].find((found) => found.textContent === 'Save the copy').click()")
+    judge(f"the copy in {name}", (page.folder / "copy.exp").read_text(), saved(page, "bounds.adapted.exp"))
+    page.browser.choose("#first", page.folder / "demo.step")
+    wait(f"document.getElementById('use-copy') && {ANSWER}")
+    ask("document.getElementById('use-copy').click()")
+    shown = wait(f"document.getElementById('verdict')?.textContent === 'Accepted' && {ANSWER}")
+    page.judge_file(f"by the copy in {name}", shown["files"][0], "copy.exp", "demo.step")
+    judge(f"what it is by in {name}", ["By bounds.adapted.exp, a copy of the listing: 1 edit, and it accepts more files than the listing does."], shown["files"][0]["by"])
+    page.open(page.path)
+    chosen(page, "taken.exp")
+    judge(f"what is left in {name}", tool("taken.exp"), ask(changes))
+    judge(f"no copy to check by in {name}", None, ask("document.getElementById('use-copy')"))
+
+
+def alone(page):
+    """A file and nothing else has an answer: whether it is well formed, what it says of itself, and what it holds."""
+    for name in ("product.exp", "product.step", "refused/BadByte.step", "refused/Dangling.step", "refused/Count.step", "refused/BadDirective.step"):
+        shutil.copy(ROOT / "examples" / name, page.folder)
+    text = (ROOT / "examples" / "product.step").read_text().replace("'block.step'", "'<script>document.title=1</script>'")
+    page.tests.make(HOSTILE[2], text)
+    in_both(page, alone_in)
+
+
+def alone_in(page, name):
+    judge, ask, wait = page.tests.judge, page.browser.ask, page.browser.wait
+    page.open(page.path)
+    if not ask("document.getElementById('remembered').hidden"):
+        forget(page)
+    verdict = "document.getElementById('verdict')?.textContent"
+    page.browser.choose("#first", page.folder / "product.step")
+    wait(f"{verdict} === 'Well formed'")
+    judge(f"the line in {name}", page.program("syntax", "product.step")[0].strip(), ask("document.querySelector('.file .line').textContent"))
+    rows = dict(zip(ask("[...document.querySelectorAll('.header dt')].map((found) => found.textContent)"), ask("[...document.querySelectorAll('.header dd')].map((found) => found.textContent)")))
+    judge(f"the header in {name}", ("block.step", "Edda Krüger", "PRODUCT_MODEL"), (rows["Name"], rows["Author"], rows["Schema"]))
+    holds = ask("[...document.querySelectorAll('.holds tr')].map((row) => [...row.children].map((cell) => cell.textContent))")
+    judge(f"what it holds in {name}", (["ORIENTED_EDGE", "24"], 128), (holds[0], sum(int(count) for _, count in holds)))
+    judge(f"which schema is wanted in {name}", "Now the schema is wanted: product.step names PRODUCT_MODEL.", ask(SAID))
+    judge(f"what a schema adds in {name}", True, "What a schema adds" in ask("document.querySelector('.wanting').textContent"))
+    page.browser.choose("#second", page.folder / "BadByte.step")
+    wait(f"{verdict} === 'Refused'")
+    lines = ask("[...document.querySelectorAll('.file')].map((found) => found.querySelector('.line').textContent)")
+    wanted = [page.program("syntax", file) for file in ("product.step", "BadByte.step")]
+    judge(f"both answers in {name}", [(output + error).strip() for output, error, _ in wanted], lines)
+    judge(f"their bytes in {name}", True, ask(SAID).startswith("The files have different bytes."))
+    ask("document.querySelector('[data-slot=second] .remove').click()")
+    for file in ("BadByte.step", "Dangling.step", "BadDirective.step"):
+        page.browser.choose("#first", page.folder / file)
+        line = page.program("syntax", file)[1].strip()
+        wait(f"document.querySelector('.file .line')?.textContent === {json.dumps(line)}")
+        place = ask("document.querySelector('.lines').textContent.split('\\n')")
+        judge(f"where {file} is refused in {name}", page.tool("p21-where", "product.exp", file)[:3], place[:3])
+    page.browser.choose("#first", page.folder / HOSTILE[2])
+    wait(f"{verdict} === 'Well formed'")
+    judge(f"no script runs in {name}", ["p21: STEP files, checked and compared", 0], ask("[document.title, document.images.length]"))
+    page.browser.choose("#schema", page.folder / "product.exp")
+    shown = wait(ANSWER)
+    judge(f"the schema behind it in {name}", "accepted", shown["files"][0]["line"].split(",")[0])
+    forget(page)
 
 
 def shelf(page):
@@ -730,7 +878,7 @@ def without_schema_in(page, name):
 # What can be pressed or typed into, as far as it is in sight; a choice is as large as its label, and a link in a sentence as its words.
 TARGETS = """[...document.querySelectorAll("a, button, summary, input, [tabindex='0']")]
     .filter((found) => found.checkVisibility() && !found.closest("[inert]") && !found.matches("#skip, #said a"))"""
-SMALL = f"""{TARGETS}.map((found) => found.matches("[type=radio]") ? found.closest("label") : found)
+SMALL = f"""{TARGETS}.map((found) => found.matches("[type=radio], [type=checkbox]") ? found.closest("label") : found)
     .filter((found) => {{ const {{ width, height }} = found.getBoundingClientRect(); return width < 24 || height < 24; }})
     .map((found) => found.outerHTML.slice(0, 80))"""
 # Headings in their order: none is more than one level below the one in front of it.
@@ -1021,7 +1169,7 @@ def main():
     page.path = path
     page.is_unproved = "unproved" in said
     try:
-        groups = [examples, chance, many, stopped_on_the_way, up_to_names, large_up_to_names, shelf, others, large, people, network, in_firefox]
+        groups = [alone, examples, chance, many, stopped_on_the_way, up_to_names, large_up_to_names, asked_otherwise, fitted, shelf, others, large, people, network, in_firefox]
         groups += [mended_files, words, hostile_names, taken_along, on_paper, packed, without_schema, accessible, large_in_both]
         for group in (*groups, want_of_memory, without_memory):
             group(page)

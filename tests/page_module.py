@@ -19,6 +19,7 @@ import sys
 import needs
 import release
 import texts
+import tools_adapt
 import tools_names
 import tools_where
 from renaming import shuffled
@@ -26,6 +27,7 @@ from web import making
 from tooling import ROOT, SCHEMA, Tests, file_of
 
 sys.path.insert(0, str(ROOT / "tools"))
+import p21_pages  # pylint: disable=wrong-import-position
 import p21_reading  # pylint: disable=wrong-import-position
 import p21_shelf  # pylint: disable=wrong-import-position
 
@@ -172,8 +174,14 @@ def pairs_of_files(tests):
         yield tools_names.SCHEMA, tools_names.file_of(records), shuffled(tools_names.file_of(changed), seed)[0]
 
 
+# What is asked of p21-diff, as its command line has it and as the page does.
+OPTIONS = (([], {}), (["--data"], {"data": True}), (["--tolerance", "0.5"], {"tolerance": "0.5"}), (["--data", "--tolerance", "1E-7"], {"data": True, "tolerance": "1E-7"}))
+# Of so many pairs the reports are compared too.
+REPORTS = 40
+
+
 def differences(tests, node):
-    """What differs by names and up to names is what p21-diff prints."""
+    """What differs by names and up to names is what p21-diff prints, with each of its options, and the reports are the same bytes."""
     tests.tool = "p21-diff"
     given = []
     for number, (schema, *files) in enumerate(pairs_of_files(tests)):
@@ -181,13 +189,86 @@ def differences(tests, node):
         given.append([schema, *texts_of])
     accepted = [paths for paths in given if all(is_accepted(tests, paths[0], path) for path in paths[1:])]
     tests.judge("most pairs are accepted", True, 2 * len(accepted) > len(given))
+    asked = []
+    for number, (schema, *files) in enumerate(accepted):
+        _, options = OPTIONS[number % len(OPTIONS)]
+        asked.append({"schema": schema, "files": files, "options": options, "withReport": number < REPORTS})
+    style = {"style": p21_pages.STYLE, "script": p21_pages.SCRIPT}
     command = [*node, "tests/web/differences.mjs", str(making.MODULE)]
-    done = subprocess.run(command, input=json.dumps(accepted), capture_output=True, text=True, check=True)
-    for paths, found in zip(accepted, json.loads(done.stdout), strict=True):
-        for key, options in (("lines", []), ("upToNames", ["--names"])):
+    text = json.dumps({"given": asked, "style": style})
+    done = subprocess.run(command, input=text, capture_output=True, text=True, check=True)
+    for number, (paths, both) in enumerate(zip(accepted, json.loads(done.stdout), strict=True)):
+        words, _ = OPTIONS[number % len(OPTIONS)]
+        for found, names in zip(both, ([], ["--names"]), strict=True):
+            options = [*names, *words, "--stat"]
             output, _, _ = tests.run([*options, *paths])
-            tests.judge(" ".join([*options, *paths]), output.splitlines(), found[key])
+            table, _, lines = output.partition("\n\n")
+            tests.judge(" ".join([*options, *paths]), lines.splitlines(), [*found["lines"], found["verdict"]])
+            rows = [[row[0], *map(int, row[1:])] for row in map(str.split, table.splitlines()[1:-1])]
+            tests.judge(f"the table of {' '.join([*options, *paths])}", rows, found["table"])
+            if found["report"] is not None:
+                options = [*names, *words, "--format", "html"]
+                output, _, _ = tests.run([*options, *paths])
+                tests.judge(f"the report, {' '.join([*options, *paths])}", output, found["report"])
     tests.tool = "p21-where"
+
+
+def adapting(tests, node):
+    """A listing that is made fit, and the lines about it, are those of p21-adapt."""
+    tests.tool = "p21-adapt"
+    texts_of = [f"SCHEMA s;\n{listing}\nEND_SCHEMA;\n" for listing, *_ in tools_adapt.EDITS]
+    texts_of += ["SCHEMA s; USE FROM other (q, r); ENTITY z; x : q; END_ENTITY; END_SCHEMA;", "\xef\xbb\xbfSCHEMA s; END_SCHEMA;", "SCHEMA s; ENTITY a; x : foo; END_ENTITY; END_SCHEMA;"]
+    other = "SCHEMA other; TYPE q = REAL; END_TYPE; ENTITY r; y : p; END_ENTITY; TYPE p = q; END_TYPE; END_SCHEMA;"
+    command = [*node, "tests/web/adapting.mjs", str(making.MODULE)]
+    done = subprocess.run(command, input=json.dumps([[text, other] for text in texts_of]), capture_output=True, text=True, check=True)
+    path = tests.make("other.exp", other)
+    for number, (text, found) in enumerate(zip(texts_of, json.loads(done.stdout), strict=True)):
+        listing = tests.make(f"adapt{number}.exp", text.encode("latin-1"))
+        copy, error, _ = tests.run(["--from", path, listing])
+        tests.judge(f"a listing made fit, {text}", (error.splitlines(), copy), (found["lines"], found["copy"]))
+    tests.tool = "p21-where"
+
+
+# What files hold, as people count it: the header, and the instances by keyword. Strings have what looks like the end of a statement.
+ALONE = (
+    (
+        "ISO-10303-21;HEADER;FILE_DESCRIPTION(('a','b;'),'2;1');/* ; */FILE_NAME('It''s \\X\\FC','2026',('\\X2\\00DF\\X0\\',''),(''),$,'\\S\\'','none');"
+        "FILE_SCHEMA(('DEMO { 1 2 }'));ENDSEC;DATA;\n#1=POINT($,1.,2.);/*#9=POINT();*/#2 = /* a */ POINT ($,'#3=LINE();',2.)\n;\n#3=(B(1)A('x'));#4=A((#1,#2));ENDSEC;END-ISO-10303-21;",
+        [["Description", ["a", "b;"]], ["Implementation level", ["2;1"]], ["Name", ["It's \u00fc"]], ["Time stamp", ["2026"]], ["Author", ["\u00df"]], ["System", ["\u00a7"]], ["Authorization", ["none"]], ["Schema", ["DEMO { 1 2 }"]]],
+        [["POINT", 2], ["A", 1], ["A+B", 1]],
+    ),
+    (
+        "ISO-10303-21;HEADER;FILE_DESCRIPTION($,$);FILE_NAME($,$,$,$,$,$,$);FILE_SCHEMA(('S'));ENDSEC;DATA;ENDSEC;END-ISO-10303-21;",
+        [["Schema", ["S"]]],
+        [],
+    ),
+)
+
+
+def alone(tests, node):
+    """What files say by themselves: the line is that of `p21 syntax`, and where one is refused is where p21-where says it of a file that
+    is refused for the same reason under a schema."""
+    paths = [tests.make(f"alone{number}.step", text) for number, (text, *_) in enumerate(ALONE)]
+    examples = sorted(str(path) for path in pathlib.Path("examples").rglob("*.step"))
+    given = [*paths, *examples]
+    command = [*node, "tests/web/alone.mjs", str(making.MODULE)]
+    done = subprocess.run(command, input=json.dumps(given), capture_output=True, text=True, check=True)
+    found = json.loads(done.stdout)
+    for (_, header, keywords), said in zip(ALONE, found):
+        tests.judge("the header, and what a file holds", (header, keywords), (said.get("header"), said.get("keywords")))
+    same = 0
+    for path, said in zip(given, found, strict=True):
+        line = subprocess.run([tests.program, "syntax", path], capture_output=True, text=True, check=False)
+        tests.judge(f"{path} by itself", (line.stdout + line.stderr).splitlines()[0], said["line"])
+        if "lines" in said:
+            lines = tests.run([SCHEMA, path])[0].splitlines()
+            if lines[0] == said["line"]:
+                same += 1
+                tests.judge(f"where {path} is refused by itself", lines[:3], said["lines"][:3])
+        else:
+            count = int(re.search(r"instances (\d+)", said["line"])[1])
+            tests.judge(f"what {path} holds", count, sum(number for _, number in said["keywords"]))
+    tests.judge("some are refused with a schema and without", True, same >= 5)
 
 
 def is_accepted(tests, schema, path):
@@ -239,7 +320,7 @@ def marks(tests, _):
     the repository, with files in place of what is built."""
     copy = tests.here / "copy"
     shutil.copytree(ROOT / "crates", copy / "crates", ignore=shutil.ignore_patterns("must-fail", "out"))
-    for part in ("making", "platforms", "web", "examples"):
+    for part in ("making", "platforms", "web", "tools", "examples"):
         shutil.copytree(ROOT / part, copy / part, ignore=shutil.ignore_patterns("__pycache__"))
     (copy / "docs").mkdir()
     for part in ("crates.txt", "HANDLES", "docs/SCHEMAS.md"):
@@ -288,7 +369,7 @@ def main():
     needs.wanted("rt")
     tests = Tests("p21-where")
     making.make_page(tests.here / "p21.html")
-    for group in (marks, program_rows, want_of_memory, growth, places, differences, shelves):
+    for group in (marks, program_rows, want_of_memory, growth, places, differences, shelves, adapting, alone):
         group(tests, node)
     tests.end()
 

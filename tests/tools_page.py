@@ -38,6 +38,7 @@ document.querySelector('button.entity[data-entity="CARTESIAN_POINT"]').click();
 seen.entity = [text.value, visible()];
 document.querySelector('button.entity[data-entity="(header)"]').click();
 seen.header = visible();
+seen.heads = [...document.querySelectorAll('.group > h3')].filter(head => head.getClientRects().length).map(head => head.textContent);
 type('');
 for (const box of document.querySelectorAll('.filter input[type=checkbox]')) { if (box.value !== 'came') box.click(); }
 seen.came = visible();
@@ -81,6 +82,10 @@ def looked_at(tests):
     tests.judge("nothing is asked of a network", [], re.findall(r"https?:|src=|@import|url\(", page))
     tests.judge("the name of the file", True, "&lt;b&gt;delivery &amp; \\x1b.step" in page)
     tests.judge("values as people write them", True, "COORDINATES</span> (80, 50, 12.5) mm → (80, 50, 12.25) mm</p>" in page)
+    products, faces = (re.findall(f'<section class="group"><h{level}>(.*?)</h{level}>', re.sub("#[0-9]+", "#", page)) for level in (3, 4))
+    tests.judge("what owns what differs", ["In the header", "PRODUCT # “B-100”, “Block”", "In no product"], products)
+    of_corner = [sorted(re.findall("ADVANCED_FACE # “(.*?)”", face)) for face in faces]
+    tests.judge("the faces of two corners", [["back", "right", "top"], ["bottom", "front", "left"]], sorted(of_corner))
     if CHROMIUM is None:
         return
     stepped = tests.make("page.html", page.replace("</body>", STEPS))
@@ -90,7 +95,7 @@ def looked_at(tests):
     tests.judge("no complaint", [], [line for line in done.stderr.splitlines() if "CONSOLE" in line])
     bars = found.pop("bars", [])
     wanted = {
-        "all": 6, "said": "6 of 6 shown", "typed": 1, "words": 1, "entity": ["CARTESIAN_POINT", 2], "header": 1, "came": 3,
+        "all": 6, "said": "6 of 6 shown", "typed": 1, "words": 1, "entity": ["CARTESIAN_POINT", 2], "header": 1, "heads": ["In the header"], "came": 3,
         "link": found.get("link"), "led": found.get("led"), "open": True, "links": 0,
         "marks": ["$", "$", "'<b>Pat</b>'", "('&amp;')", "(8.E1,5.E1,1.25E1)", "(8.E1,5.E1,1.225E1)"], "bold": 0,
         "views": 3, "dots": [2, 2, 2], "wide": True,

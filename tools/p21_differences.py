@@ -389,6 +389,8 @@ NUMBERING, HEADER = "numbering", "the header"
 # Two canonical files of so many bytes together, which are told apart by names, are compared up to names besides: what is the same
 # but for its numbering is said to be.
 SMALL_ENOUGH = 1 << 21
+# Of two of so many bytes together, which are told apart by names, it is said which product owns what differs.
+MOST_AS_GRAPH = 1 << 25
 
 
 class Verdict(NamedTuple):
@@ -436,6 +438,20 @@ class Files:
         for found in self.all():
             self.counts.add(found)
             yield found
+
+    def graph(self) -> Optional[Tuple[models.Graph, Callable[[int], int]]]:
+        """The instances of both files as a graph, with what gives the node of the second file for that of the first, or -1. None
+        where it would have to be made for large files."""
+        if self.up_to_names is not None:
+            return self.up_to_names.graph, self.up_to_names.pairing.partner.__getitem__
+        if sum(map(len, self.data)) > MOST_AS_GRAPH:
+            return None
+        graph = models.Graph(self.sets())
+        graph.add(self.data[0])
+        graph.add(self.data[1])
+        graph.close()
+        named = {graph.names[node]: node for node in graph.of_side(1)}
+        return graph, lambda node: named.get(graph.names[node], -1)
 
     def pairs(self) -> Iterator[Tuple[int, int]]:
         """The names of paired instances, by rising names of the first file."""

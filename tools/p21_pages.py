@@ -13,6 +13,7 @@ from typing import Any, Dict, Iterable, Iterator, List, Mapping, NamedTuple, Opt
 
 import p21_models as models
 from p21_differences import CAME, CHANGED, WENT, Counts, Difference
+from p21_owners import Owner, Owners
 from p21_plainly import is_spelled, plainly
 from p21_units import Lengths, unit_of, with_unit
 from p21_reading import shown
@@ -59,7 +60,9 @@ button.entity:focus-visible { outline: 2px solid var(--link); }
 .item { border: 1px solid var(--line); border-radius: 6px; margin: .6rem 0; padding: .5rem .8rem; background: var(--card);
   scroll-margin-top: 4rem; }
 .written { font-family: inherit; } .item:target, .line:target { outline: 2px solid var(--link); }
-.item h3 { font-size: .95rem; margin: 0 0 .2rem; } .line { margin: .1rem 0; padding-left: 2rem; text-indent: -2rem;
+.group > h3, .group > h4 { margin: 1.4rem 0 .3rem; overflow-wrap: anywhere; } .group > h3 { font-size: 1.05rem; }
+.group > h4 { font-size: .95rem; color: var(--soft); }
+.item h3, .item h4, .item h5 { font-size: .95rem; margin: 0 0 .2rem; } .line { margin: .1rem 0; padding-left: 2rem; text-indent: -2rem;
   scroll-margin-top: 4rem; }
 .side { display: inline-block; width: 1.6rem; text-indent: 0; color: var(--soft); }
 .views { display: flex; flex-wrap: wrap; gap: 1rem; } figure { margin: 0; flex: 1 1 20rem; }
@@ -73,6 +76,7 @@ svg .went { fill: var(--went); } svg .before { fill: none; stroke: var(--changed
 
 SCRIPT = """
 const items = [...document.querySelectorAll('.item')];
+const groups = [...document.querySelectorAll('.group')];
 const text = document.getElementById('text');
 const boxes = [...document.querySelectorAll('.filter input[type=checkbox]')];
 const shown = document.getElementById('shown');
@@ -85,6 +89,7 @@ function sift() {
     item.hidden = !kinds.includes(item.dataset.kind) || !wanted.every(word => words.includes(word));
     count += !item.hidden;
   }
+  for (const group of groups) { group.hidden = !group.querySelector('.item:not([hidden])'); }
   shown.textContent = count + ' of ' + items.length + ' shown';
 }
 text.addEventListener('input', sift);
@@ -112,6 +117,11 @@ class Item(NamedTuple):
     all: List[Difference]
 
 
+# Items by the faces or sets of properties that own them; and these by products.
+Parts = Dict[str, List[Item]]
+Groups = Dict[str, Parts]
+
+
 def quoted(text: str) -> str:
     """A text as it stands in a page: as one line of signs that are just shown."""
     return html.escape(str(shown(text)))
@@ -124,6 +134,15 @@ def place_of(coordinates: bytes) -> Optional[Tuple[float, ...]]:
         return None
     numbers = tuple(float(number) for number in found.groups())
     return numbers if all(abs(number) < 1e100 for number in numbers) else None
+
+
+def owner_of(found: Difference, owners: Owners) -> Owner:
+    """What owns what differs: of an instance that went by the first file, of another one by the second."""
+    if found.what not in ("instance", "section of"):
+        return Owner(f"In the {'header' if found.what == 'header' else 'list of sections'}", "")
+    if found.second is not None:
+        return owners.of(1, found.second)
+    return owners.of(0, found.first or 0)
 
 
 class Page:
@@ -277,8 +296,8 @@ class Page:
 
     # --- The parts of the page ---
 
-    def lines(self, headline: str, verdict: str, counts: Counts) -> Iterator[str]:
-        """The page."""
+    def lines(self, headline: str, verdict: str, counts: Counts, owners: Optional[Owners]) -> Iterator[str]:
+        """The page. By `owners` the differences stand together that one product owns."""
         self.fetch()
         if self.points:
             self.read_behind()
@@ -292,7 +311,7 @@ class Page:
         yield f'<p class="verdict" id="verdict">{quoted(verdict)}</p>'
         yield from self.summary(counts)
         yield from self.plot()
-        yield from self.list()
+        yield from self.list(owners)
         yield from self.around()
         yield f"<script>{SCRIPT}</script>\n</body>\n</html>"
 
@@ -315,20 +334,47 @@ class Page:
             yield f'<tr><td>{entity}</td>{cells}<td class="bars">{bars}</td></tr>'
         yield "</table>" + (f'<p class="soft">and {len(rows) - 200} more entities</p>' if len(rows) > 200 else "")
 
-    def list(self) -> Iterator[str]:
+    def list(self, owners: Optional[Owners]) -> Iterator[str]:
         """The differences, with a filter in front of them."""
         yield f'<h2 id="list">{len(self.items) + self.left_out} differences</h2>'
         yield '<form class="filter" onsubmit="return false"><input type="search" id="text" placeholder="entity, attribute, name or text" aria-label="filter">'
         for kind in (CHANGED, CAME, WENT):
             yield f'<label class="{kind}"><input type="checkbox" value="{kind}" checked> {kind}</label>'
         yield '<span class="soft" id="shown"></span></form>'
-        for item in self.items:
-            yield from self.item(item)
+        if owners is None:
+            for item in self.items:
+                yield from self.item(item, 3)
+        else:
+            for products, parts in self.groups(owners).items():
+                yield from self.group(products, parts)
         if self.left_out:
             yield f'<p class="soft" id="left-out">{self.left_out} more are not on this page; --format json has all.</p>'
 
-    def item(self, item: Item) -> Iterator[str]:
-        """What is shown of an instance, a header record or a section."""
+    def groups(self, owners: Owners) -> Groups:
+        """The differences by what owns them, in the order of the first of each."""
+        instances = [item.first for item in self.items if item.first.what in ("instance", "section of")]
+        owners.find(0, {found.first for found in instances if found.first is not None and found.second is None})
+        owners.find(1, {found.second for found in instances if found.second is not None})
+        groups: Groups = {}
+        for item in self.items:
+            owner = owner_of(item.first, owners)
+            groups.setdefault(owner.products, {}).setdefault(owner.parts, []).append(item)
+        return groups
+
+    def group(self, products: str, parts: Parts) -> Iterator[str]:
+        """What one product owns, or some together."""
+        yield f'<section class="group"><h3>{quoted(products)}</h3>'
+        for part, items in parts.items():
+            if part:
+                yield f'<section class="group"><h4>{quoted(part)}</h4>'
+            for item in items:
+                yield from self.item(item, 5 if part else 4)
+            if part:
+                yield "</section>"
+        yield "</section>"
+
+    def item(self, item: Item, level: int) -> Iterator[str]:
+        """What is shown of an instance, a header record or a section, below a heading of this level."""
         found = item.first
         entity = quoted(found.entity or found.what)
         names = [f'<span class="soft">{side}</span> #{name}' for side, name in zip("AB", (found.first, found.second)) if name is not None]
@@ -338,7 +384,8 @@ class Page:
         kind = "" if found.what == "instance" else f"({quoted(found.what.split()[0])}) "
         yield f'<div class="item"{identity} data-kind="{found.kind}" data-entity="{kind}{entity}">{other}'
         attributes = ", ".join(dict.fromkeys(quoted(each.attribute) for each in item.all if each.attribute))
-        yield f'<h3><span class="{found.kind}">{found.kind}</span> {", ".join(names)} {entity} <span class="soft">{attributes}</span></h3>'
+        kind_of = f'<span class="{found.kind}">{found.kind}</span>'
+        yield f'<h{level}>{kind_of} {", ".join(names)} {entity} <span class="soft">{attributes}</span></h{level}>'
         changed = {(each.entity or "", each.attribute) for each in item.all if each.attribute}
         for at, name in enumerate((found.first, found.second)):
             line = None if name is None else self.lines_by_name[at].get(name)

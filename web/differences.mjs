@@ -1,16 +1,18 @@
 // What differs in the meaning of two STEP files, as tools/p21-diff tells it: by header parameters, instances and attributes.
 // Instances are told by their names, or up to names by a pairing.
 
+import { areNear } from "./decimals.mjs";
 import { Graph, elementsOf, renamedFile, renamedText, sectionsOf, sortedText } from "./models.mjs";
 import { NONE, SAME, DIFFERENT, UNDECIDED, fitsWhole, pairing } from "./pairing.mjs";
 import { isSpelled, plainly } from "./plainly.mjs";
 import { joined } from "./program.mjs";
 import { namesOfValues, readParts, shortened, textOf } from "./reading.mjs";
 import { nestingOf } from "./sets.mjs";
-import { Units, withUnit } from "./units.mjs";
+import { unitOf, withUnit } from "./units.mjs";
 
 const LINE_END = 10;
 const EQUALS = 0x3d;
+const HASH_SIGN = 0x23;
 const ENDSEC = [..."ENDSEC;"].map((sign) => sign.charCodeAt(0));
 const FRONT = "ISO-10303-21;\nHEADER;\n";
 const HEADER_NAMES = new Map([
@@ -21,7 +23,13 @@ const HEADER_NAMES = new Map([
   ],
   ["FILE_SCHEMA", ["schema_identifiers"]],
 ]);
-const [CHANGED, CAME, WENT] = ["changed", "came", "went"];
+export const KINDS = ["changed", "came", "went"];
+const [CHANGED, CAME, WENT] = KINDS;
+// Two canonical files of so many bytes together are compared up to names unasked, where they are told apart by names; and of two
+// of so many it is said which product owns what differs.
+export const SMALL_ENOUGH = 1 << 21;
+const MOST_AS_GRAPH = 1 << 25;
+const WORDS_OF_VERDICTS = { [SAME]: "same", [DIFFERENT]: "different", [UNDECIDED]: "not decided" };
 // No file has a name so great.
 const NO_NAME = 2n ** 64n;
 // A value of more characters isn't written as people would.
@@ -127,10 +135,15 @@ function entityOf(line) {
  * attribute, the texts of either file or of one alone, and what gives those of values as people write them, where that is other.
  */
 class Comparison {
-  constructor(attributes, { sets = null, lengths = null } = {}) {
-    this.attributes = attributes;
-    this.sets = sets;
-    this.lengths = lengths;
+  constructor(attributes, { sets = null, lengths = null, tolerance = null, isFull = false } = {}) {
+    Object.assign(this, { attributes, sets, lengths, tolerance, isFull });
+    // How many values are within the tolerance and other.
+    this.near = 0;
+  }
+
+  /** A text around the first place at which it differs, or the whole. */
+  text(text, at) {
+    return this.isFull ? text : shortened(text, at);
   }
 
   /** What changed in a pair. */
@@ -143,13 +156,13 @@ class Comparison {
       const read = isRead && texts.map((text, side) => withUnit(text, plainly(text), isLength ? units[side] : null));
       return isRead && (texts.some(isSpelled) || read.some((text, side) => text !== plainly(texts[side]))) ? shortenedPair(read) : null;
     };
-    return { kind: CHANGED, what, names, entity, attribute, texts: texts.map((text) => shortened(text, at)), plain };
+    return { kind: CHANGED, what, names, entity, attribute, texts: texts.map((text) => this.text(text, at)), plain };
   }
 
   /** A line that stands in one of the files alone. */
   either(what, names, [first, second]) {
     const entity = what === "instance" ? entityOf(first ?? second) : null;
-    return { kind: first === null ? CAME : WENT, what, names, entity, attribute: null, texts: [shortened(first ?? second, 0)] };
+    return { kind: first === null ? CAME : WENT, what, names, entity, attribute: null, texts: [this.text(first ?? second, 0)] };
   }
 
   /** The records of two headers, one beside the other. */
@@ -199,24 +212,71 @@ class Comparison {
     }
   }
 
-  /** Are two values the same, up to names in sets of any order? */
+  /** Are two values the same, in sets of any order, or within the tolerance? */
   isEqual(first, second, nesting) {
     if (first === second) return true;
-    if (!this.sets || !first.includes("#") || !second.includes("#")) return false;
-    const around = nestingOf(false, nesting);
-    const [one, other] = [first, second].map((text) => sortedText(this.sets, elementsOf(text), around));
-    return one === other;
+    let texts = [first, second];
+    if (this.sets && texts.every((text) => text.includes("#"))) {
+      const around = nestingOf(false, nesting);
+      texts = texts.map((text) => sortedText(this.sets, elementsOf(text), around));
+    }
+    if (texts[0] === texts[1]) return true;
+    if (!this.tolerance || !areNear(...texts, this.tolerance)) return false;
+    this.near++;
+    return true;
   }
 }
 
-/** What differs in instances of equal names, and those of names that one file alone has. `units` hear all of them. */
-function* byNames(comparison, first, second, units, heard) {
+/** What differs in instances of equal names, and those of names that one file alone has. */
+function* byNames(comparison, first, second, heard) {
+  const [one, other] = [first, second].map(sectionsOf);
+  const haveOne = one.length === 1 && other.length === 1 && one[0].heading === other[0].heading;
+  const found = haveOne ? otherPairs(first, second, one[0], other[0].start) : pairs(instances(first), instances(second));
+  yield* inPairs(comparison, heardOfEach(found, heard));
+}
+
+/** Pairs as they come, of which each ten-thousandth is heard. */
+function* heardOfEach(pairs, heard) {
   let count = 0;
-  for (const [one, other] of pairs(instances(first), instances(second))) {
+  for (const pair of pairs) {
     if (++count % 10_000 === 0) heard(count);
+    yield pair;
+  }
+}
+
+/**
+ * Each name with its instance in the one file and in the other, null where it isn't there, but for those whose lines are the same. Both
+ * files have one section with this heading, which begins at a place of its own in the second one.
+ */
+function* otherPairs(first, second, { heading, start }, otherStart) {
+  let [one, other] = [start, otherStart];
+  const instanceAt = (bytes, at) => {
+    if (bytes[at] !== HASH_SIGN) return null;
+    const line = bytes.subarray(at, bytes.indexOf(LINE_END, at));
+    return { name: BigInt(textOf(line.subarray(1, line.indexOf(EQUALS)))), section: heading, line };
+  };
+  while (first[one] === HASH_SIGN || second[other] === HASH_SIGN) {
+    let size = 0;
+    while (first[one + size] === second[other + size] && first[one + size] !== LINE_END) size++;
+    if (first[one + size] === second[other + size]) {
+      one += size + 1;
+      other += size + 1;
+      continue;
+    }
+    let [left, right] = [instanceAt(first, one), instanceAt(second, other)];
+    if (left && right && left.name < right.name) right = null;
+    else if (left && right && right.name < left.name) left = null;
+    yield [left, right];
+    one += left ? left.line.length + 1 : 0;
+    other += right ? right.line.length + 1 : 0;
+  }
+}
+
+/** What differs in pairs of instances. */
+function* inPairs(comparison, found) {
+  for (const [one, other] of found) {
     const names = [one?.name ?? null, other?.name ?? null];
     const texts = [one, other].map((found) => found && textOf(found.line));
-    texts.forEach((text, side) => text && units[side].hear(text));
     if (!one || !other) {
       yield comparison.either("instance", names, texts);
       continue;
@@ -231,9 +291,8 @@ function* byNames(comparison, first, second, units, heard) {
 
 /** Two files of which the names of instances don't count, with a pairing of their instances. */
 class UpToNames {
-  constructor(comparison, first, second, heard) {
-    this.comparison = comparison;
-    this.graph = new Graph(comparison.sets);
+  constructor(sets, first, second, heard) {
+    this.graph = new Graph(sets);
     for (const bytes of [first, second]) this.graph.add(bytes, heard);
     this.graph.close();
     this.pairing = pairing(this.graph);
@@ -258,12 +317,12 @@ class UpToNames {
   }
 
   /** What differs in the instances: of the first file by its names, then what came by the second's. */
-  *differences() {
-    const { graph, comparison } = this;
+  *differences(comparison) {
+    const { graph } = this;
     const { partner } = this.pairing;
     for (const node of this.nodes(0)) {
       if (partner[node] === NONE) yield comparison.either("instance", [graph.names[node], null], [graph.line(node), null]);
-      else if (!fitsWhole(graph, partner, node)) yield* this.changed(node, partner[node]);
+      else if (!fitsWhole(graph, partner, node)) yield* this.changed(comparison, node, partner[node]);
     }
     for (const node of this.nodes(1)) {
       if (partner[node] === NONE) yield comparison.either("instance", [null, graph.names[node]], [null, graph.line(node)]);
@@ -277,8 +336,8 @@ class UpToNames {
   }
 
   /** What differs in a pair. */
-  *changed(node, other) {
-    const { graph, comparison } = this;
+  *changed(comparison, node, other) {
+    const { graph } = this;
     const pair = { what: "instance", names: [graph.names[node], graph.names[other]], told: [node, other].map((each) => this.told(each)) };
     const texts = [graph.line(node), graph.line(other)];
     yield* comparison.section(pair, this.section(node), this.section(other));
@@ -333,86 +392,171 @@ class UpToNames {
 
 // --- Both ---
 
-/** How many instances changed, came and went; what isn't an instance is counted too. */
+/** How many instances changed, came and went, by entity; what isn't an instance is told by what it is. */
 class Counts {
   constructor() {
-    this.changed = this.came = this.went = 0;
+    this.rows = new Map();
+    this.listed = this.inHeader = this.inTimeStamp = 0;
     this.last = null;
   }
 
   /** The next difference. Those of one instance stand one behind the other, and count once. */
-  add({ kind, what, names }) {
+  add({ kind, what, names, entity, attribute }) {
+    this.listed++;
+    this.inHeader += Number(what === "header");
+    this.inTimeStamp += Number(what === "header" && attribute === "time_stamp");
     const isInstance = what === "instance" || what === "section of";
     const now = `${kind} ${names.join()}`;
     if (isInstance && now === this.last) return;
     this.last = isInstance ? now : null;
-    this[kind]++;
+    const name = tableName(what, entity);
+    if (!this.rows.has(name)) this.rows.set(name, { [CHANGED]: 0, [CAME]: 0, [WENT]: 0 });
+    this.rows.get(name)[kind]++;
+  }
+
+  /** How many there are of a kind. */
+  total(kind) {
+    return [...this.rows.values()].reduce((sum, row) => sum + row[kind], 0);
+  }
+
+  /** A row for each entity, with what changed, came and went; those with most first. */
+  table() {
+    const rows = [...this.rows].map(([name, row]) => [name, ...KINDS.map((kind) => row[kind])]);
+    const sum = ([, ...numbers]) => numbers.reduce((all, number) => all + number);
+    return rows.sort((one, other) => sum(other) - sum(one) || (one[0] < other[0] ? -1 : 1));
   }
 }
 
-/** The differences of two files as they are shown: the first ones, and the lines of all. */
-class Found {
-  constructor(most) {
-    this.most = most;
-    this.counts = new Counts();
-    this.count = 0;
-    this.inHeader = this.inTimeStamp = 0;
-    this.shown = [];
-    this.lines = [];
-  }
-
-  add(difference) {
-    this.count++;
-    this.counts.add(difference);
-    this.inHeader += Number(difference.what === "header");
-    this.inTimeStamp += Number(difference.what === "header" && difference.attribute === "time_stamp");
-    if (this.shown.length < this.most) this.shown.push(difference);
-    this.lines.push(lineOfDifference(difference));
-  }
-
-  /** The whole of it, where the files have these units of length: those that are shown have their values as people write them. */
-  whole(units) {
-    const shown = this.shown.map(({ plain, ...rest }) => ({ what: whatOf(rest), texts: rest.texts, plain: plain?.(units) ?? null }));
-    return { ...this, shown, units };
-  }
+/** By what a difference stands in the table. */
+export function tableName(what, entity) {
+  return what === "instance" && entity ? entity : `(${what.split(" ")[0]})`;
 }
 
-/** What differs between two canonical files by the names of instances, with the units of length of both. */
-export function differencesOf(attributes, lengths, first, second, most, heard = () => {}) {
-  const comparison = new Comparison(attributes, { lengths });
-  const found = new Found(most);
-  const units = [new Units(), new Units()];
-  for (const difference of comparison.headers(header(first), header(second))) found.add(difference);
-  for (const difference of comparison.sections(first, second)) found.add(difference);
-  for (const difference of byNames(comparison, first, second, units, heard)) found.add(difference);
-  return found.whole(units.map((each) => each.length()));
-}
+/** How files are compared where nothing is asked: by names, with the header, and without a tolerance. */
+const USUALLY = { names: false, data: false, tolerance: null, isFull: false };
 
 /**
- * What differs between two canonical files up to the names of instances, with a last line that says what is known. `isSame` says
- * of two files whether the program says that they are the same, and `units` are their units of length.
+ * Two canonical files that are compared, by a schema of these attributes and lengths. `isSame` says of two files whether the program
+ * says that they are the same, and `heard` is told how many instances are done.
  */
-export function differencesUpToNames(attributes, lengths, units, first, second, most, isSame, heard = () => {}) {
-  const comparison = new Comparison(attributes, { sets: lengths.sets, lengths });
-  const upToNames = new UpToNames(comparison, first, second, heard);
-  const found = new Found(most);
-  for (const difference of comparison.headers(header(first), header(second))) found.add(difference);
-  for (const difference of comparison.sections(first, second)) found.add(difference);
-  for (const difference of upToNames.differences()) found.add(difference);
-  const { verdict, ambiguous } = upToNames.pairing;
-  const names = upToNames.pairs();
-  let word = verdict === SAME && found.count > found.inHeader ? DIFFERENT : verdict;
-  if (word === SAME) {
-    const renamed = joined(renamedFile(first, (name) => names.get(name), frontOf(second)));
-    if (!isSame(renamed, second)) word = UNDECIDED;
+export class Files {
+  constructor({ attributes, lengths, isSame, heard = () => {} }, first, second) {
+    Object.assign(this, { attributes, lengths, isSame, heard });
+    this.canonical = [first, second];
+    this.units = this.canonical.map(unitOf);
+    this.paired = null;
+    this.isSameRenamed = null;
+    this.asGraph = null;
   }
-  let butFor = [];
-  if (word === SAME && found.inHeader > 0) {
-    word = DIFFERENT;
-    butFor = [...([...names].some(([one, other]) => one !== other) ? ["numbering"] : []), "the header"];
+
+  /** How many bytes both have. */
+  get size() {
+    return this.canonical[0].length + this.canonical[1].length;
   }
-  const alike = [...names].filter(([one, other]) => one === other).length;
-  return { ...found.whole(units), word, butFor, isRenamed: 2 * alike < names.size, verdict: verdictLine(word, found.counts, names.size, ambiguous, butFor) };
+
+  /** The instances paired up to names, which is done once. */
+  get upToNames() {
+    this.paired ??= new UpToNames(this.lengths.sets, ...this.canonical, this.heard);
+    return this.paired;
+  }
+
+  /** What compares the values of both as the command line of p21-diff says. */
+  comparison({ names, tolerance, isFull }) {
+    const { attributes, lengths } = this;
+    return new Comparison(attributes, { sets: names ? lengths.sets : null, lengths, tolerance, isFull });
+  }
+
+  /** What differs, one after the other. */
+  *differences(comparison, { names, data }) {
+    if (!data) yield* comparison.headers(...this.canonical.map(header));
+    yield* comparison.sections(...this.canonical);
+    if (names) yield* this.upToNames.differences(comparison);
+    else yield* byNames(comparison, ...this.canonical, this.heard);
+  }
+
+  /** What p21-diff lists with these words of its command line, of which so many are shown. */
+  list(asked, most) {
+    const shown = [];
+    const lines = [];
+    const { counts, known } = this.each(asked, (difference) => {
+      if (shown.length < most) shown.push(difference);
+      lines.push(lineOfDifference(difference));
+    });
+    return { counts, shown, lines, ...known };
+  }
+
+  /** Takes each difference, with these words of the command line of p21-diff, and answers how many they are and what is known then. */
+  each(asked, take) {
+    const how = { ...USUALLY, ...asked };
+    const counts = new Counts();
+    const comparison = this.comparison(how);
+    for (const difference of this.differences(comparison, how)) {
+      counts.add(difference);
+      take(difference);
+    }
+    return { counts, known: this.known(how, counts, comparison.near) };
+  }
+
+  /** What is known behind the last difference: in a word, in what alone the files differ, and as the last line of p21-diff. */
+  known(how, counts, near) {
+    const found = how.names ? this.knownUpToNames(counts, near) : this.knownByNames(counts, near);
+    const said = { ...found, near, tolerance: how.tolerance };
+    return { ...said, headline: headline(said), verdict: verdictLine(how, counts, said) };
+  }
+
+  knownByNames({ listed, inHeader }, near) {
+    const header = inHeader > 0 ? ["the header"] : [];
+    const hasEqualData = listed === inHeader && near === 0;
+    const word = listed === 0 && near === 0 ? SAME : DIFFERENT;
+    return { word, pairs: 0, ambiguous: 0, butFor: hasEqualData ? header : this.butForNumbering(header) };
+  }
+
+  knownUpToNames({ listed, inHeader }, near) {
+    const { verdict, ambiguous } = this.upToNames.pairing;
+    const pairs = this.upToNames.pairs();
+    const isRenumbered = [...pairs].some(([one, other]) => one !== other);
+    let word = verdict === SAME && (listed > inHeader || near > 0) ? DIFFERENT : verdict;
+    if (word === SAME && !this.isSameUpToNames()) word = UNDECIDED;
+    const alike = [...pairs].filter(([one, other]) => one === other).length;
+    const found = { word, pairs: pairs.size, ambiguous, butFor: [], isRenamed: 2 * alike < pairs.size };
+    if (word !== SAME || inHeader === 0) return found;
+    return { ...found, word: DIFFERENT, butFor: [...(isRenumbered ? ["numbering"] : []), "the header"] };
+  }
+
+  /** Does the program say of the first file with the names and the front of the second that it means the same as the second? */
+  isSameUpToNames() {
+    if (this.isSameRenamed === null) {
+      const names = this.upToNames.pairs();
+      const [first, second] = this.canonical;
+      this.isSameRenamed = this.isSame(joined(renamedFile(first, (name) => names.get(name), frontOf(second))), second);
+    }
+    return this.isSameRenamed;
+  }
+
+  /** In what alone two small files differ, whose instances of one name differ: in their numbering and maybe the header, or nothing. */
+  butForNumbering(inHeader) {
+    if (this.size > SMALL_ENOUGH || this.upToNames.pairing.verdict !== SAME) return [];
+    const how = { ...USUALLY, names: true, data: true };
+    const isOther = !this.differences(this.comparison(how), how).next().done;
+    return isOther || !this.isSameUpToNames() ? [] : ["numbering", ...inHeader];
+  }
+
+  /** The instances of both files as a graph, with what gives the node of the second file for that of the first, or -1; null where it
+   *  would have to be made for large files. */
+  graph(names) {
+    if (names) return { graph: this.upToNames.graph, partner: (node) => this.upToNames.pairing.partner[node] };
+    if (this.size > MOST_AS_GRAPH) return null;
+    if (!this.asGraph) {
+      const graph = this.paired?.graph ?? new Graph(this.lengths.sets);
+      if (!this.paired) {
+        for (const bytes of this.canonical) graph.add(bytes, this.heard);
+        graph.close();
+      }
+      const named = new Map(graph.ofSide(1).map((node) => [graph.names[node], node]));
+      this.asGraph = { graph, partner: (node) => named.get(graph.names[node]) ?? NONE };
+    }
+    return this.asGraph;
+  }
 }
 
 /** So many of something, in words. */
@@ -420,15 +564,27 @@ function many(count, word) {
   return `${count} ${word}${count === 1 ? "" : "s"}`;
 }
 
-/** What is known of two files up to names, as the last line of p21-diff. */
-function verdictLine(word, { changed, came, went }, pairs, ambiguous, butFor) {
-  const counts = `${changed} changed, ${came} came, ${went} went`;
-  const said = {
-    [SAME]: `same up to names: ${many(pairs, "pair")}, checked one by one`,
-    [DIFFERENT]: `${butFor.length > 0 ? `the same but for ${butFor.join(" and ")}` : "different"}: ${counts}`,
-    [UNDECIDED]: `not decided: ${counts}; no pairing without a difference was found, and none is ruled out`,
-  }[word];
-  return ambiguous > 0 ? `${said}; ${many(ambiguous, "pair")} chosen where others could be` : said;
+/** In what alone two files differ, where that's the numbering or the header; else nothing. */
+function butForOf({ butFor }) {
+  return butFor.length > 0 ? `the same but for ${butFor.join(" and ")}` : "";
+}
+
+/** What stands above a report. */
+function headline(found) {
+  const said = butForOf(found) || (found.word === SAME ? "the same" : "what differs");
+  return said[0].toUpperCase() + said.slice(1);
+}
+
+/** The last line of p21-diff. */
+function verdictLine({ names, tolerance }, counts, found) {
+  const { word, pairs, ambiguous, near } = found;
+  const said = butForOf(found) || WORDS_OF_VERDICTS[word];
+  const parts = [`${said}: ${KINDS.map((kind) => `${counts.total(kind)} ${kind}`).join(", ")}`];
+  if (word === SAME) parts[0] = names ? `same up to names: ${many(pairs, "pair")}, checked one by one` : "same";
+  else if (word === UNDECIDED) parts[0] += "; no pairing without a difference was found, and none is ruled out";
+  if (tolerance) parts.push(`${many(near, "value")} within the tolerance ${tolerance.text} not listed`);
+  if (ambiguous > 0) parts.push(`${many(ambiguous, "pair")} chosen where others could be`);
+  return parts.join("; ");
 }
 
 /** The names of an instance. */
@@ -437,7 +593,7 @@ function namesOf([first, second]) {
 }
 
 /** What a difference is about. */
-function whatOf({ kind, what, names, entity, attribute }) {
+export function whatOf({ kind, what, names, entity, attribute }) {
   if (kind !== CHANGED) return `only in ${kind === CAME ? "B" : "A"}${what === "header" ? ", header" : ""}`;
   if (what === "section of") return `changed ${namesOf(names)}, its section`;
   const where = attribute === null ? "" : ` ${entity}.${attribute}`;

@@ -112,7 +112,7 @@ function isRemark(bytes, at) {
 }
 
 /** The place behind the blanks and remarks that stand from a place on. */
-function behindBlanks(bytes, start) {
+export function behindBlanks(bytes, start) {
   let at = start;
   while (at < bytes.length) {
     if (bytes[at] <= 0x20 || bytes[at] === 0x7f) {
@@ -182,11 +182,17 @@ export class GivenFile {
     this.named = named;
     this.bytes = bytes;
     this.looksForAll = looksForAll;
+    this.isAlone = false;
     this.outline = new Outline(schema.bytes);
     this.name = this.outline.words[1]?.text ?? "";
     this.known = new Map();
     this.numbered = new Map();
     this.lines = new Lines(bytes);
+  }
+
+  /** What the program says of a text under the schema, or under another one: its line and its status. */
+  asked(text, schema = this.schema) {
+    return this.program.run(["check", "--", "schema", "file"], { schema, file: new Text(bytesOf(text)) });
   }
 
   /** The text of a statement. */
@@ -259,6 +265,12 @@ export class GivenFile {
     );
   }
 
+  /** Forgets what was looked for. */
+  forget() {
+    this.known.clear();
+    this.numbered.clear();
+  }
+
   /** How many refused references of an instance are placed. */
   mostPlaced(instance) {
     const statement = this.statementsOf([instance])[0]?.statement;
@@ -295,6 +307,18 @@ export class GivenFile {
   }
 }
 
+/** A file that is read by itself: the program is asked without a schema. */
+export class GivenAlone extends GivenFile {
+  constructor(program, bytes) {
+    super(program, new Text(bytesOf("SCHEMA none; END_SCHEMA;")), "", bytes);
+    this.isAlone = true;
+  }
+
+  asked(text) {
+    return this.program.run(["syntax", "--", "file"], { file: new Text(bytesOf(text)) });
+  }
+}
+
 /**
  * A refusal of a file by a number: at a statement, or in an instance. Of those that are alike by number and instance it is the
  * one with so many in front of it.
@@ -323,7 +347,7 @@ export class RefusedFile {
 
   /** The number by which a text is refused, 0 where it is accepted and null where the schema is refused. */
   answer(text, schema = this.given.schema) {
-    const { error, status } = this.given.program.run(["check", "--", "schema", "file"], { schema, file: new Text(bytesOf(text)) });
+    const { error, status } = this.given.asked(text, schema);
     if (status > 1) throw new Trouble(error);
     const found = /^refused (\d+)/.exec(error);
     return found ? Number(found[1]) : status === 0 ? 0 : null;
@@ -450,6 +474,7 @@ export class RefusedFile {
   placeOfSchema(text) {
     const value = readParts(text)[0].values.at(-1).inner[0];
     const named = /^[A-Za-z0-9_]*/.exec(text.slice(value.start + 1))[0];
+    if (this.given.isAlone) return placeOf(value.start, value.end);
     const notes = [`the file is of ${brief(named) || "(no name)"}, the schema text of ${this.given.name}`];
     if (/^[A-Za-z]\w*$/.test(named)) {
       notes.push("where both are one schema by two names, this makes a schema text of the file's name:");

@@ -27,3 +27,8 @@ const WIDE_MEMORY = Uint8Array.of(0, 0x61, 0x73, 0x6d, 1, 0, 0, 0, 5, 3, 1, 4, 1
 export function hasWideMemory() {
   return typeof WebAssembly === "object" && WebAssembly.validate(WIDE_MEMORY);
 }
+
+/** The number and the name of a refusal, by its line; the whole of another line. */
+export function kindOfLine(line) {
+  return /refused (S?\d+ .*?)(?: in #\d+| at statement \d+)?$/.exec(line)?.[1] ?? line;
+}

@@ -10,7 +10,7 @@ import { nestingOf } from "./sets.mjs";
 const NEXT_LINE = 10;
 const SHARP = 0x23;
 const DIGIT_OR_SHARP = /#(\d+)/;
-const STRING_OR_REFERENCE = /'[^']*'|#(\d+)/g;
+export const STRING_OR_REFERENCE = /'[^']*'|#(\d+)/g;
 const CANONICAL_TOKEN = /'[^']*'|#\d*|[(),]|[^'#(),]+/y;
 // What a text without names says beside its keyword: a string that isn't empty, or a number.
 const SAYING = /'[^']|[(,]-?\d/;
@@ -216,7 +216,7 @@ export function sortedText(sets, elements, nesting) {
 // --- Files ---
 
 /** Where each instance begins and ends, from a place on, up to the line that ends the section. */
-function* linesFrom(bytes, start) {
+export function* linesFrom(bytes, start) {
   for (let at = start; bytes[at] === SHARP; ) {
     const end = bytes.indexOf(NEXT_LINE, at);
     yield { start: at, end };

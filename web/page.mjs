@@ -33,11 +33,13 @@
 //
 // Of a canonical file the page shows the first 128 KiB, and of differences the first 1,000. Both can be saved whole.
 
-import { SCHEMA_TEXT, hasWideMemory, namedSchema } from "./kinds.mjs";
+import { isTolerance } from "./decimals.mjs";
+import { SCHEMA_TEXT, hasWideMemory, kindOfLine, namedSchema } from "./kinds.mjs";
 import { beginningOf, otherKindOf } from "./packed.mjs";
 import { shown } from "./reading.mjs";
 import { forgetAll, remember, remembered } from "./remembered.mjs";
 
+const KINDS = ["changed", "came", "went"];
 // So many schemas have a row each; of more there is one list that opens.
 const FEW_SCHEMAS = 3;
 // So many refusals are shown open, so many have all of their kinds open, and of so many kinds the first refusal is; of a kind so
@@ -51,6 +53,10 @@ const FEW_DIFFERENCES = 5;
 const SEARCH_WAITS = 100;
 const COMPARED_AT_ONCE = 1 << 22;
 const MORE_ROWS = 200;
+// So many refusals are looked through before the page does something else.
+const SOUGHT_AT_ONCE = 4000;
+// A job of so many milliseconds isn't shown to be under way.
+const SOON = 150;
 // So many refusals are shown as text; all can be saved.
 const MOST_TEXTS = 1000;
 const COMPARISONS = {
@@ -65,6 +71,12 @@ const WORDS = {
 };
 const NOT_CHECKED =
   "Not checked: the rules of the schema (WHERE, UNIQUE and RULE, INVERSE, what DERIVE computes), and whether the geometry is sound.";
+const WITH_A_SCHEMA =
+  "What a schema adds: it says which entities there are, how many values each has and of which kind, and what references lead to. " +
+  "By it each instance is checked, two files are compared by what they mean, and a canonical file with its hash is made. " +
+  "Drop it on the page with the file or by itself.";
+// Of the keywords of a file so many are shown.
+const MOST_KEYWORDS = 300;
 const examples = __EXAMPLES__;
 // Where listings are published: of each the schema, what FILE_SCHEMA begins with, by whom, and the address.
 const PUBLISHED = __PUBLISHED__;
@@ -74,10 +86,17 @@ const chosen = { schemas: [], aliases: null, first: null, second: null };
 const handles = new WeakMap();
 const ofExamples = new WeakSet();
 const readBefore = new WeakSet();
+// Copies of listings that were made fit, with what was changed in each.
+const copies = new WeakMap();
 const at = (id) => document.getElementById(id);
 let worker = null;
+// A worker whose job is done, and of which other lists of what differs can be asked.
+let resting = null;
 // What begin() was called for last.
 let current = null;
+// How differences are listed where nothing is asked: those by names, with the header, and without a tolerance. `way` is which of the
+// lists is shown, and `focus` what had the focus when it was asked.
+const USUALLY_ASKED = { upToNames: false, data: false, tolerance: "", way: null, focus: null, report: null };
 
 // --- Parts of the page ---
 
@@ -115,11 +134,14 @@ function sized(bytes) {
 
 /** A button that saves what a function gives as a file of this name. */
 function saving(text, bytesOf, name) {
-  return button(text, async () => {
-    const link = element("a", { href: URL.createObjectURL(await bytesOf()), download: name });
-    link.click();
-    setTimeout(() => URL.revokeObjectURL(link.href), 60_000);
-  });
+  return button(text, async () => save(await bytesOf(), name));
+}
+
+/** Saves bytes as a file of this name. */
+function save(bytes, name) {
+  const link = element("a", { href: URL.createObjectURL(bytes), download: name });
+  link.click();
+  setTimeout(() => URL.revokeObjectURL(link.href), 60_000);
 }
 
 /** A button that copies the text that a function gives, and says so. */
@@ -136,17 +158,19 @@ function copying(title, textOf, what) {
   return made;
 }
 
-/** A field that looks for words in a list. `find` shows what has all of them, and answers how many that are. */
-function searching(label, count, find) {
+/** A field that looks for words in a list. `find` shows what has all of them, and answers how many that are; nothing is said of the
+ *  whole, which is shown without words mostly. */
+function searching(label, count, find, isWhole = () => true) {
   const found = element("span", { class: "hint", role: "status" });
   const field = element("input", { type: "search", autocomplete: "off", spellcheck: "false" });
   let waiting = null;
   field.addEventListener("input", () => {
     clearTimeout(waiting);
-    waiting = setTimeout(() => {
+    waiting = setTimeout(async () => {
       const words = field.value.toLowerCase().split(/\s+/).filter(Boolean);
-      const many = find(words);
-      found.textContent = words.length > 0 ? `${many.toLocaleString("en")} of ${count.toLocaleString("en")}` : "";
+      const many = await find(words);
+      if (many === null) return;
+      found.textContent = words.length > 0 || !isWhole() ? `${many.toLocaleString("en")} of ${count.toLocaleString("en")}` : "";
     }, SEARCH_WAITS);
   });
   return element("p", { class: "search" }, element("label", {}, element("span", {}, label), " ", field), " ", found);
@@ -356,9 +380,18 @@ async function compiled() {
 const module = hasWideMemory() ? compiled() : null;
 const script = URL.createObjectURL(new Blob([__WORKER__], { type: "text/javascript" }));
 
-/** Ends the job that is under way. */
+/** Ends the job that is under way, or done. */
 function stop() {
   worker?.terminate();
+  resting?.terminate();
+  worker = resting = null;
+  at("work").hidden = true;
+}
+
+/** Behind a job: its worker rests where more can be asked of it. */
+function rest(isKept) {
+  if (isKept) resting = worker;
+  else worker.terminate();
   worker = null;
   at("work").hidden = true;
 }
@@ -409,8 +442,8 @@ async function renewAll() {
   return true;
 }
 
-/** Starts over with what is chosen. */
-async function begin(said = "", upToNames = false) {
+/** Starts over with what is chosen, and lists differences as it is asked. */
+async function begin(said = "", asked = USUALLY_ASKED) {
   stop();
   at("answer").hidden = true;
   at("answer").removeAttribute("data-whole");
@@ -421,28 +454,53 @@ async function begin(said = "", upToNames = false) {
   if (!module || !(await renewAll()) || current !== begun) return;
   const files = [chosen.first, chosen.second].filter((file) => file !== null);
   if (chosen.schemas.length === 0) {
-    if (files.length > 0) sayWanted(files, said, begun);
-    return;
+    if (files.length === 0 || !(await sayWanted(files, said, begun)) || current !== begun) return;
   }
   progress({ name: nameOf(files[0] ?? chosen.schemas[0]) });
   for (const file of [...chosen.schemas, chosen.aliases, ...files]) if (file) readBefore.add(file);
-  const job = { schemas: chosen.schemas, aliases: chosen.aliases, files, upToNames };
-  const mine = started(job, (message) => {
-    if (worker !== mine) return;
-    if (message.trouble || message.isWhole) stop();
-    if (message.progress) progress(message.progress);
-    if (message.trouble) say(`There is no answer: ${shown(message.trouble)}.`);
-    if (message.answer) {
-      show(message.answer, said, upToNames);
-      const read = message.answer.read.map((number) => job.schemas[number]);
-      inTurn(() => rememberAll(read));
-    }
-    if (message.places) shownPlaces(message.places);
-    at("answer").toggleAttribute("data-whole", message.isWhole === true);
-    if (message.isWhole) shownLines();
-  });
+  const job = { schemas: chosen.schemas, aliases: chosen.aliases, files, asked };
+  const mine = started(job, (message) => worker === mine && heard(message, job, said));
   worker = mine;
-  setTimeout(() => worker === mine && showWork(said), 150);
+  setTimeout(() => worker === mine && showWork(said || chosen.schemas.length === 0), SOON);
+}
+
+/** What a worker says of a job. */
+function heard(message, job, said) {
+  const { answer, lists, places, further, report, trouble, isWhole } = message;
+  if (trouble) stop();
+  else if (report || (isWhole && !(answer && job.asked.report))) rest((answer?.differences ?? lists ?? shownLists)?.isKept);
+  if (message.progress) progress(message.progress);
+  if (trouble) say(`There is no answer: ${shown(trouble)}.`);
+  if (answer?.isAlone) showAlone(answer);
+  else if (answer) {
+    show(answer, said, job.asked);
+    const read = answer.read.map((number) => job.schemas[number]);
+    inTurn(() => rememberAll(read));
+  }
+  if (lists) showLists(lists);
+  if (places) shownPlaces(places);
+  if (further?.length > 0) furtherRefusals(further);
+  if (report) {
+    save(report, "differences.html");
+    hear("The report is saved.");
+  }
+  if (job.schemas.length > 0 && !report) at("answer").toggleAttribute("data-whole", isWhole === true);
+  if (isWhole) shownLines();
+}
+
+/** Asks for other lists of what differs, or for a report: the job that is done, or where it isn't kept another one. */
+function askFor(change) {
+  const asked = { ...shownLists.asked, report: null, ...change };
+  if (!resting) {
+    begin("", asked);
+    return;
+  }
+  const mine = resting;
+  [worker, resting] = [mine, null];
+  progress({ name: "", compares: true });
+  if (!asked.report) at("answer").removeAttribute("data-whole");
+  mine.postMessage(asked.report ? { report: asked.report } : { asked });
+  setTimeout(() => worker === mine && showWork(""), SOON);
 }
 
 /** Shows that a job is under way. */
@@ -466,19 +524,20 @@ async function saidOfBytes(first, second) {
   }
 }
 
-/** Says of files without a schema what can be said, and which one is wanted. */
+/** Says of files without a schema what can be said, and which one is wanted. Answers whether there is more to say of them. */
 async function sayWanted([file, second], given, begun) {
   const { front, kind } = await beginning(file);
   const said = given + (second ? await saidOfBytes(file, second) : "");
   const name = namedSchema(front);
   const other = kind ? null : otherKindOf(front);
-  if (current !== begun) return;
+  if (current !== begun) return false;
   if (other) {
     say(said, `${nameOf(file)} is ${other}, and no STEP file in clear text.`);
-    return;
+    return false;
   }
   if (name) say(said, `Now the schema is wanted: ${nameOf(file)} names ${shown(name)}.`, publishedAt(name) ?? "");
   else say(said, "Now the schema is wanted, an EXPRESS text.");
+  return true;
 }
 
 /** Shows how far the job is. */
@@ -492,7 +551,7 @@ function progress({ name, done, size, placed, of, compares }) {
   const found = () => `${counted(of, "refusal")}, ${placed.toLocaleString("en")} found`;
   if (of > 1) at("doing").textContent = `${name}: looking for the places of ${found()}`;
   else if (of) at("doing").textContent = `${name}: looking for the place`;
-  else if (compares) at("doing").textContent = `Comparing, ${name}`;
+  else if (compares) at("doing").textContent = ["Comparing", name].filter(Boolean).join(", ");
   else if (size && done < size) at("doing").textContent = `${name}: ${sized(done)} of ${sized(size)}`;
   else at("doing").textContent = name;
 }
@@ -501,37 +560,60 @@ function progress({ name, done, size, placed, of, compares }) {
 
 // What is shown: of each file what the worker said of it, and what shows a refusal of it and its text.
 let files = [];
+// The lists of what differs, as they were asked for.
+let shownLists = null;
+
+/** Shows what files say by themselves, below the sentence on the schema that is wanted. */
+function showAlone(answer) {
+  const refused = answer.files.filter(({ accepted }) => !accepted);
+  const [title, mood] = refused.length > 0 ? [failed(refused[0]), "bad"] : ["Well formed", "other"];
+  const ofBoth = ["Both files are.", "One of the files is well formed, and one isn’t.", "Neither file is well formed."][refused.length];
+  const more = answer.files.length === 2 ? ofBoth : refused.length > 0 ? answer.files[0].name : "Not checked by a schema yet.";
+  files = answer.files;
+  at("answer").replaceChildren(
+    ofVerdict(title, more, mood, () => answerAsText(title, more, files, null)),
+    ...files.map((file) => ofFile(file, answer.explained)),
+    element("p", { class: "hint wanting" }, WITH_A_SCHEMA),
+  );
+  appear();
+}
 
 /** Shows an answer, and says it in a sentence. */
-function show(answer, said, upToNames) {
+function show(answer, said, asked) {
   const { title, more, mood } = summary(answer);
   files = answer.files.length > 0 ? answer.files : answer.schemas;
+  shownLists = answer.differences && { ...answer.differences, asked };
   at("answer").replaceChildren(
-    ofVerdict(title, more, mood, () => answerAsText(title, more, files, answer.differences)),
-    ...(answer.differences ? [differences(answer.differences, answer.files, upToNames)] : []),
+    ofVerdict(title, more, mood, () => answerAsText(title, at("summary").textContent, files, shownLists)),
+    ...(shownLists ? [differences(shownLists, files)] : []),
     ...files.map((file) => ofFile(file, answer.explained)),
   );
-  at("answer").hidden = false;
-  at("skip").hidden = false;
-  at("picture").hidden = true;
-  bringIntoSight(upToNames);
+  appear(asked.focus);
   const refused = files.filter(({ accepted }) => !accepted).map(heardOf);
   const sentence = said + [`${title}.`, more, ...refused].filter(Boolean).join(" ");
   if (said) say(sentence);
   else hear(sentence);
 }
 
-/** Brings an answer into sight and the focus to it; to the choice where one led to it. */
-function bringIntoSight(upToNames) {
+/** Brings the answer to the page, and in front of it a link that leads there. */
+function appear(focus = null) {
+  at("answer").hidden = false;
+  at("skip").hidden = false;
+  at("picture").hidden = true;
+  bringIntoSight(focus);
+}
+
+/** Brings an answer into sight and the focus to it; to the choice that led to it where there is one. */
+function bringIntoSight(focus) {
   const { top } = at("answer").getBoundingClientRect();
   if (top < 0 || top > innerHeight / 2) at("answer").scrollIntoView({ block: "start" });
-  const choice = upToNames ? document.querySelector("[name=way]:checked") : null;
+  const choice = focus && document.querySelector(focus);
   (choice ?? at("verdict")).focus({ preventScroll: !choice });
 }
 
 /** How an answer ends, with what there is to do with it. `textOf` gives its text. */
 function ofVerdict(title, more, mood, textOf) {
-  const said = element("div", {}, element("h2", { id: "verdict", tabindex: "-1" }, title), more && element("p", {}, more));
+  const said = element("div", {}, element("h2", { id: "verdict", tabindex: "-1" }, title), element("p", { id: "summary" }, more ?? ""));
   const actions = [
     button("Check again", () => begin(), { id: "again" }),
     copying("Copy", textOf, "the answer"),
@@ -544,7 +626,7 @@ function ofVerdict(title, more, mood, textOf) {
 /** An answer as a text: how it ends, and what there is to say of each file and of what differs. */
 async function answerAsText(title, more, shownFiles, found) {
   const parts = [[`${title}.`, more].filter(Boolean).join(" "), ...shownFiles.map(fileAsText)];
-  if (found) parts.push(`What differs, by the names of instances:\n${await found.text.text()}`);
+  if (found) parts.push(`What differs, by the names of instances:\n${await found.names.text.text()}`);
   if (found?.upToNames) parts.push(`What differs, whatever the names of instances are:\n${await found.upToNames.text.text()}`);
   return parts.map((part) => `${part.trimEnd()}\n`).join("\n");
 }
@@ -554,13 +636,15 @@ function fileAsText(file) {
   const by = file.schema ? ` by ${file.schema}` : "";
   const change = file.change ? [shown(file.change)] : [];
   const hash = file.hash ? [`SHA-256 of the canonical file: ${file.hash}`] : [];
-  const said = file.accepted ? [file.line, ...hash] : linesOf(file, file.refusals.length);
+  const header = (file.header ?? []).map(([name, texts]) => `${name}: ${texts.join(", ")}`);
+  const holds = (file.keywords ?? []).map(([key, count]) => `${count} ${key}`);
+  const said = file.accepted ? [file.line, ...hash, ...header, ...holds] : linesOf(file, file.refusals.length);
   return [`${file.name}${by}:`, ...change, ...said].join("\n");
 }
 
 /** What is said to a screen reader of a file that isn't accepted. */
-function heardOf({ name, line, refusals }) {
-  return `${name}: ${refusals.length > 1 ? `${counted(refusals.length, "refusal")}, first ${line}` : line}.`;
+function heardOf({ name, line, refusals, total = refusals.length }) {
+  return `${name}: ${total > 1 ? `${counted(total, "refusal")}, first ${line}` : line}.`;
 }
 
 /** An answer in a few words: how it ends, what else there is to say, and whether that is good. */
@@ -574,29 +658,44 @@ function summary({ schemas, files, verdict, differences }) {
   if (verdict === "same") return { title: "Same", more: "Both files hold the same model.", mood: "good" };
   const apart = "The files are of two schemas, so they aren’t compared.";
   if (verdict === "apart") return { title: "Accepted", more: apart, mood: "other" };
-  if (verdict === "different") return { title: "Different", more: summaryOfDifferences(differences), mood: "other" };
+  if (verdict === "different") return { title: "Different", more: summaryOfDifferences(differences, wayOf(differences)), mood: "other" };
   const refused = files.filter(({ accepted }) => !accepted);
   if (refused.length === 0) return { title: "Accepted", more: files[0].name, mood: "good" };
   const more = refused.length === 2 ? "Neither file is accepted." : "One of the files is accepted, and one isn’t.";
   const { refusals } = refused[0];
-  const count = refusals.length > 1 ? `${counted(refusals.length, "refusal")}.` : null;
+  const { total = refusals.length } = refused[0];
+  const count = total > 1 ? `${counted(total, "refusal")}.` : null;
   return { title: failed(refused[0]), more: files.length === 1 ? count : more, mood: "bad" };
 }
 
 /** In what alone two files differ, as a sentence; nothing where it is more than their numbering and their header. */
-function butFor({ onlyTimeStamp, upToNames }) {
-  const found = upToNames?.word === "same" ? ["numbering"] : (upToNames?.butFor ?? []);
-  const named = found.map((part) => (part === "the header" && onlyTimeStamp ? "the time stamp" : part));
-  return named.length > 0 ? [`The same but for ${named.join(" and ")}.`] : [];
+function butFor({ names, upToNames }) {
+  const ofShapes = upToNames?.word === "same" ? ["numbering"] : (upToNames?.butFor ?? []);
+  const found = names.butFor.length > 0 ? names.butFor : ofShapes;
+  const parts = found.map((part) => (part === "the header" && names.onlyTimeStamp ? "the time stamp" : part));
+  return parts.length > 0 ? [`The same but for ${parts.join(" and ")}.`] : [];
 }
 
-/** What is known of the differences, and how many they are. */
-function summaryOfDifferences(found) {
-  const { count, onlyHeader, upToNames } = found;
-  const said = [...butFor(found), `${counted(count, "difference")}.`];
-  if (onlyHeader) said.push("All of them stand in the header: the data is the same.");
+/** What is known of the differences, and how many they are in the list that is shown. */
+function summaryOfDifferences({ names, upToNames, asked }, way) {
+  if (names.count === 0) return nothingLeft(asked, names);
+  const ofShapes = way === "shapes" && upToNames.count > 0;
+  const count = ofShapes ? `${counted(upToNames.count, "difference")}, whatever the names of instances are` : counted(names.count, "difference");
+  const said = [...butFor({ names, upToNames }), `${count}${way === "shapes" && !ofShapes ? " by the names of instances" : ""}.`];
+  if (names.onlyHeader) said.push("All of them stand in the header: the data is the same.");
   else if (upToNames?.word === "same") said.push("Up to the names of their instances the files are the same.");
   return said.join(" ");
+}
+
+/** How instances are told at first: by what they say where that was asked, or where most names are other. */
+function wayOf({ asked, upToNames }) {
+  return asked.way ?? (upToNames?.isRenamed ? "shapes" : "names");
+}
+
+/** What is known where nothing is listed, since the header or small distances don't count. */
+function nothingLeft({ data }, { near, tolerance }) {
+  const without = [data && "without the header", near > 0 && `within the tolerance ${tolerance.text}`].filter(Boolean).join(" and ");
+  return `Nothing differs ${without}.`;
 }
 
 /** How an answer is called that isn't one of acceptance. */
@@ -614,14 +713,77 @@ function ofFile(answer, explained) {
   }
   if (answer.isByShelf) made.append(element("p", { class: "by" }, "by ", element("strong", {}, answer.schema)));
   if (answer.change) made.append(element("p", { class: "change" }, element("code", {}, shown(answer.change))));
+  const bySchema = answer.schema ?? answer.name;
+  const copy = copies.get(chosen.schemas.find((file) => nameOf(file) === bySchema));
+  if (copy) made.append(element("p", { class: "change" }, `By ${bySchema}, a copy of the listing: ${effectOf(copy)}`), changesOf(copy));
   if (!answer.accepted) {
-    made.append(...ofRefusals(answer, explained));
+    made.append(...ofAdapted(answer), ...ofRefusals(answer, explained));
     return made;
   }
   made.append(element("code", { class: "line" }, answer.line));
-  if (answer.canonical) made.append(element("p", { class: "hint not-checked" }, NOT_CHECKED), ...hashed(answer), canonical(answer));
+  if (answer.isAlone) made.append(...ofHeader(answer), ...ofKeywords(answer));
+  else if (answer.canonical) made.append(element("p", { class: "hint not-checked" }, NOT_CHECKED), ...hashed(answer), canonical(answer));
   else made.append(element("p", {}, `${counted(answer.entities, "entity").replace("entitys", "entities")}.`));
   return made;
+}
+
+/** The header of a file, in words. */
+function ofHeader({ header }) {
+  const rows = header.flatMap(([name, texts]) => [element("dt", {}, name), element("dd", {}, texts.join(", "))]);
+  return rows.length > 0 ? [element("dl", { class: "header" }, ...rows)] : [];
+}
+
+/** What a file holds: how many instances of which keyword. */
+function ofKeywords({ keywords }) {
+  if (!keywords || keywords.length === 0) return [];
+  const rows = keywords.slice(0, MOST_KEYWORDS).map(([key, count]) => {
+    const name = element("th", { scope: "row" }, element("code", {}, key.replaceAll("+", " + ")));
+    return element("tr", {}, name, element("td", {}, count.toLocaleString("en")));
+  });
+  const table = element("table", {}, element("tbody", {}, ...rows));
+  const find = (words) => {
+    rows.forEach((row, at) => (row.hidden = !hasWords(keywords[at][0], words)));
+    return rows.filter((row) => !row.hidden).length;
+  };
+  const search = rows.length > FEW_DIFFERENCES ? searching("Look for", rows.length, find) : null;
+  const left = keywords.length - rows.length;
+  const rest = left > 0 ? hint(`and ${counted(left, "further keyword")}`) : null;
+  const made = fold(`What it holds: instances of ${counted(keywords.length, "keyword")}`, ...[search, table, rest].filter(Boolean));
+  made.classList.add("holds");
+  made.open = rows.length <= FIRST_ROWS;
+  return [made];
+}
+
+/** What a copy of a listing has in place of it, in a few words. */
+function effectOf({ count, isWider }) {
+  return `${counted(count, "edit")}, and it accepts ${isWider ? "more files than the listing does" : "the same files"}.`;
+}
+
+/** The edits of a copy, line by line. */
+function changesOf({ lines }) {
+  const text = lines.join("\n");
+  return fold("What was changed", copying("Copy", () => text, "what was changed"), element("pre", {}, text));
+}
+
+/** What is offered in place of a listing that is refused: a copy that is made fit. */
+function ofAdapted({ adapted }) {
+  if (!adapted) return [];
+  const { copy, isRead, number } = adapted;
+  const name = chosen.schemas[number].name.replace(/(\.\w+)?$/, ".adapted.exp");
+  const use = () => {
+    const file = new File([copy], name);
+    copies.set(file, adapted);
+    putSchemas(
+      chosen.schemas.map((each, at) => (at === number ? file : each)),
+      chosen.aliases,
+    );
+    begin(`By a copy of the listing, with ${counted(adapted.count, "edit")}. `);
+  };
+  const read = `A copy of this listing is read, in which what p21 leaves out is written in another way, as by p21-adapt: ${effectOf(adapted)}`;
+  const refused = `With ${counted(adapted.count, "edit")} of p21-adapt it is refused still; the last lines say what is left to do.`;
+  const actions = [isRead ? button("Check by the copy", use, { id: "use-copy" }) : null, saving("Save the copy", () => new Blob([copy]), name)];
+  const buttons = element("div", { class: "buttons" }, ...actions.filter(Boolean));
+  return [element("div", { class: "adapted" }, element("p", {}, isRead ? read : refused), buttons, changesOf(adapted))];
 }
 
 /** A part that opens and closes. */
@@ -678,9 +840,9 @@ function ofRefusals(answer, explained) {
   answer.rows = new Map();
   answer.text = element("pre", { class: "lines", tabindex: "0", role: "region", "aria-label": `${answer.name}, as text` });
   const whole = () => new Blob([`${linesOf(answer, refusals.length).join("\n")}\n`], { type: "text/plain" });
-  const isLong = refusals.length > MOST_TEXTS;
+  const isLong = answer.total > MOST_TEXTS;
   const saved = refusals.length > 1 ? saving("Save as text", whole, `${answer.name}.txt`) : null;
-  const note = isLong ? hint(`The first ${MOST_TEXTS} of ${counted(refusals.length, "refusal")}.`) : null;
+  const note = isLong ? hint(`The first ${MOST_TEXTS} of ${counted(answer.total, "refusal")}.`) : null;
   const copied = copying("Copy as text", () => linesOf(answer, refusals.length).join("\n"), `what is said of ${answer.name}`);
   const actions = element("div", { class: "buttons" }, saved, copied);
   const text = fold("As text", ...[actions, note, answer.text].filter(Boolean));
@@ -692,39 +854,71 @@ function ofRefusals(answer, explained) {
     answer.rows.set(0, { show });
     return [row, rest, ...meaning(explained[numberOf(refusals[0])], true), text].filter(Boolean);
   }
-  const kinds = Map.groupBy(refusals.keys(), (at) => kindOfRefusal(refusals[at]));
-  const count = `${counted(refusals.length, "refusal")}${kinds.size > 1 ? ` of ${kinds.size} kinds` : ""}`;
-  const last = answer.unplaced?.toLocaleString("en");
-  const unplaced = answer.unplaced > 0 ? hint(`The places of the last ${last} aren’t looked for.`) : null;
+  const kinds = new Map(answer.kinds);
+  const count = `${counted(answer.total, "refusal")}${kinds.size > 1 ? ` of ${kinds.size} kinds` : ""}`;
   const list = element("div", {});
-  const find = (words) => {
-    const found = refusals.keys().filter((at) => hasWords(refusals[at].lines.join(" "), words));
-    return showKinds(answer, list, [...found], explained);
+  const sofar = hint("");
+  const find = (words) => (words.length > 0 ? sought(answer, words, list, explained) : all());
+  const all = () => {
+    answer.groups = showKinds(answer, list, kinds, explained);
+    answer.grow(0);
+    return answer.total;
   };
-  find([]);
-  const search = refusals.length > FEW_REFUSALS ? searching("Look for", refusals.length, find) : null;
-  return [element("p", { class: "count" }, count), rest, unplaced, search, list, text].filter(Boolean);
+  // Takes in what came, from a place on, where the list isn't searched.
+  answer.grow = (from) => {
+    const came = refusals.length;
+    for (let at = from; at < came && answer.groups; at++) answer.groups.get(kindOfLine(refusals[at].line))?.places.push(at);
+    for (const group of answer.groups?.values() ?? []) group.grow();
+    sofar.textContent = came < answer.total ? `${came.toLocaleString("en")} of them are listed so far.` : "";
+  };
+  all();
+  const search = answer.total > FEW_REFUSALS ? searching("Look for", answer.total, find) : null;
+  return [element("p", { class: "count" }, count), sofar, rest, search, list, text].filter(Boolean);
 }
 
-/** Shows the refusals at these places by their kinds, and answers how many they are. */
-function showKinds(answer, list, places, explained) {
-  const kinds = Map.groupBy(places, (at) => kindOfRefusal(answer.refusals[at]));
-  const isFew = places.length <= FEW_REFUSALS;
-  answer.rows.clear();
-  list.replaceChildren(
-    ...[...kinds].map(([kind, each]) => ofKind(answer, kind, each, explained[kind.split(" ")[0]], isFew, kinds.size)),
-  );
+/** Looks for the refusals that have all of some words, shows them by their kinds, and answers how many they are. */
+async function sought(answer, words, list, explained) {
+  answer.groups = null;
+  const mine = (answer.seeking = Symbol("words"));
+  const { refusals } = answer;
+  const places = [];
+  for (let at = 0; at < refusals.length; at++) {
+    if (hasWords(refusals[at].lines.join(" "), words)) places.push(at);
+    if (at % SOUGHT_AT_ONCE === SOUGHT_AT_ONCE - 1) await new Promise((done) => setTimeout(done));
+    if (answer.seeking !== mine) return null;
+  }
+  const kinds = Map.groupBy(places, (at) => kindOfLine(refusals[at].line));
+  const groups = showKinds(answer, list, new Map([...kinds].map(([kind, each]) => [kind, each.length])), explained);
+  for (const [kind, group] of groups) {
+    group.places = kinds.get(kind);
+    group.grow();
+  }
   return places.length;
+}
+
+/** Shows kinds of refusals by how many there are of each. Answers what each has, to which the places of refusals come. */
+function showKinds(answer, list, kinds, explained) {
+  answer.seeking = null;
+  const total = [...kinds.values()].reduce((sum, count) => sum + count, 0);
+  const about = { isFew: total <= FEW_REFUSALS, isSome: answer.total <= SOME_REFUSALS, countOfKinds: kinds.size };
+  answer.rows.clear();
+  const groups = new Map([...kinds].map(([kind, count]) => [kind, ofKind(answer, kind, count, explained[kind.split(" ")[0]], about)]));
+  list.replaceChildren(...[...groups.values()].map(({ made }) => made));
+  return groups;
+}
+
+/** Takes in further refusals, of which there are the lines alone. */
+function furtherRefusals(further) {
+  const from = files.map(({ refusals }) => refusals?.length);
+  for (const { file, lines } of further) {
+    files[file].refusals.push({ line: lines[0], lines, place: null, attributes: [], looks: null, isText: true });
+  }
+  files.forEach((answer, number) => answer.refusals?.length > from[number] && answer.grow(from[number]));
 }
 
 /** The number of a refusal, as a word; nothing of another line. */
 function numberOf({ line }) {
   return /refused (S?\d+) /.exec(line)?.[1] ?? null;
-}
-
-/** The number and the name of a refusal; the whole of another line. */
-function kindOfRefusal({ line }) {
-  return /refused (S?\d+ .*?)(?: in #\d+| at statement \d+)?$/.exec(line)?.[1] ?? line;
 }
 
 /** What a refusal means, and what to do. */
@@ -736,31 +930,35 @@ function meaning(explained, isOpen) {
   return [means];
 }
 
-/** The refusals of one kind, each of which opens and closes. Rows that aren't shown yet come by a button. */
-function ofKind(answer, kind, places, explained, isFew, countOfKinds) {
-  const times = places.length === 1 ? "once" : `${places.length.toLocaleString("en")} times`;
+/**
+ * The refusals of one kind, each of which opens and closes, of which there are so many. Their places come one after the other; rows
+ * that aren't shown yet come by a button.
+ */
+function ofKind(answer, kind, total, explained, { isFew, isSome, countOfKinds }) {
+  const times = total === 1 ? "once" : `${total.toLocaleString("en")} times`;
   const about = explained?.about ? element("span", { class: "about" }, explained.about) : null;
   const name = element("h4", {}, element("code", {}, kind));
   const title = element("summary", {}, name, " ", element("span", { class: "times" }, times), " ", about);
   const list = element("ol", { class: "refusals" });
   const made = element("details", { class: "kind" }, title, ...meaning(explained, false), list);
-  made.open = answer.refusals.length <= SOME_REFUSALS || countOfKinds <= FEW_KINDS;
+  made.open = isSome || countOfKinds <= FEW_KINDS;
   const isFirstOpen = countOfKinds <= FEW_KINDS;
+  const group = { made, places: [], grow: null };
   let shownRows = 0;
-  const more = button("", () => add(MORE_ROWS), { class: "more" });
   const add = (count) => {
-    const isOpen = (at) => isFew || (isFirstOpen && at === places[0]);
-    const rows = places.slice(shownRows, shownRows + count).map((at) => ofRow(answer, at, isOpen(at)));
+    const isOpen = (at) => isFew || (isFirstOpen && at === group.places[0]);
+    const rows = group.places.slice(shownRows, shownRows + count).map((at) => ofRow(answer, at, isOpen(at)));
     list.append(...rows);
-    if (shownRows > 0) rows[0].querySelector("summary").focus();
     shownRows += rows.length;
-    const left = places.length - shownRows;
+    const left = total - shownRows;
     more.hidden = left === 0;
-    more.textContent = `Show ${Math.min(left, MORE_ROWS).toLocaleString("en")} more of ${places.length.toLocaleString("en")}`;
+    more.textContent = `Show ${Math.min(left, MORE_ROWS).toLocaleString("en")} more of ${total.toLocaleString("en")}`;
+    return rows;
   };
-  add(FIRST_ROWS);
+  const more = button("", () => add(MORE_ROWS)[0]?.querySelector("summary").focus(), { class: "more" });
+  group.grow = () => shownRows < FIRST_ROWS && add(FIRST_ROWS - shownRows);
   made.append(more);
-  return made;
+  return group;
 }
 
 /** A refusal of several: a row that says where it is, which opens to the whole. */
@@ -782,8 +980,13 @@ function ofRow(answer, at, isOpen) {
 
 /** What the row of a refusal says: the instance or statement, where it is, and what is wrong in a few words. */
 function titleOf(refusal) {
-  const { line, place } = refusal;
+  const { line, lines, place, isText } = refusal;
   const name = / (?:in )?(#\d+|at statement \d+)$/.exec(line)?.[1] ?? line;
+  const found = isText && /:(\d+):(\d+)$/.exec(lines[1] ?? "");
+  if (found) {
+    const where = element("span", { class: "where" }, `line ${found[1]}, column ${found[2]}`);
+    return [element("code", {}, name), " ", where, " ", element("span", { class: "first-note" }, lines[4]?.trim() ?? "")];
+  }
   if (!place) return [element("code", {}, name)];
   const where = element("span", { class: "where" }, `line ${place.line}, column ${place.column}`);
   const note = element("span", { class: "first-note" }, place.notes[0] ?? markedText(refusal));
@@ -800,7 +1003,8 @@ function markedText({ place, attributes }) {
 }
 
 /** A refusal: the program's line, the place, and what there is to say of it. Of several the row has the line. */
-function ofRefusal({ line, place, attributes, looks }, heading) {
+function ofRefusal({ line, lines, place, attributes, looks, isText }, heading) {
+  if (isText) return [element("pre", {}, lines.join("\n"))];
   const made = [element(heading ?? "p", { class: "said" }, element("code", { class: "line" }, line))];
   if (WORDS[line]) made.push(element("p", {}, WORDS[line]));
   if (place) made.push(...(heading ? [hint(`line ${place.line}, column ${place.column}`)] : []), ...ofPlace(place));
@@ -870,46 +1074,176 @@ function withMarks(text) {
   });
 }
 
+// What differs
+
+/** Shows other lists of what differs. */
+function showLists(lists) {
+  shownLists = lists;
+  document.querySelector(".differences").replaceWith(differences(lists, files));
+  at("summary").textContent = summaryOfDifferences(lists, wayOf(lists));
+  hear(at("summary").textContent);
+  document.querySelector(lists.asked.focus ?? "#verdict")?.focus();
+}
+
 /**
  * What differs between two files: by the names of instances, and up to names. Where fewer than half of the instances that belong
  * together have one name in both, they are told by what they say at first.
  */
-function differences(found, files, isAsked) {
-  const upToNames = isAsked || found.upToNames?.isRenamed === true;
+function differences(lists, files) {
+  const { names, upToNames, asked } = lists;
+  const way = wayOf(lists);
   const list = element("div", {});
-  const show = (way) => list.replaceChildren(...listOfDifferences(way === "names" ? found : found.upToNames, files));
+  const showWay = (chosenWay) => {
+    shownLists = { ...lists, asked: { ...asked, way: chosenWay, upToNames: asked.upToNames || chosenWay === "shapes" } };
+    list.replaceChildren(...listOfDifferences(chosenWay === "names" ? names : upToNames, files, chosenWay));
+  };
   const ways = { names: "by their names", shapes: "by what they say, whatever their names are" };
-  const choices = Object.entries(ways).map(([way, text]) => {
-    const input = element("input", { type: "radio", name: "way", value: way });
-    input.checked = (way === "shapes") === upToNames;
+  const choices = Object.entries(ways).map(([value, text]) => {
+    const input = element("input", { type: "radio", name: "way", value });
+    input.checked = value === way;
     input.addEventListener("change", () => {
-      if (way === "names" || found.upToNames) show(way);
-      else begin("", true);
+      if (value === "names" || upToNames) {
+        showWay(value);
+        at("summary").textContent = summaryOfDifferences(lists, value);
+      } else askFor({ upToNames: true, way: value, focus: `[name=way][value=${value}]` });
     });
     return element("label", {}, input, ` ${text}`);
   });
-  const asked = element("fieldset", { class: "ways" }, element("legend", {}, "Instances are told"), ...choices);
-  show(upToNames ? "shapes" : "names");
-  return element("div", { class: "differences" }, element("h3", {}, "What differs"), asked, list);
+  const told = element("fieldset", { class: "ways" }, element("legend", {}, "Instances are told"), ...choices);
+  showWay(way);
+  return element("div", { class: "differences" }, element("h3", {}, "What differs"), told, ofCounting(asked), list);
 }
 
-/** A list of differences. */
-function listOfDifferences({ count, shown, text, verdict }, files) {
-  const actions = [saving("Save as text", () => text, "differences.txt"), copying("Copy as text", () => text.text(), "the differences")];
+/** What counts as a difference: the header or the data alone, and from which distance on reals do. */
+function ofCounting({ data, tolerance }) {
+  const header = element("input", { type: "checkbox", id: "with-header" });
+  header.checked = !data;
+  header.addEventListener("change", () => askFor({ data: !header.checked, focus: "#with-header" }));
+  const plain = { autocomplete: "off", spellcheck: "false", "aria-describedby": "no-tolerance" };
+  const field = element("input", { type: "text", id: "tolerance", inputmode: "decimal", size: "8", value: tolerance, ...plain });
+  const wrong = element("span", { class: "wrong", id: "no-tolerance", role: "status" });
+  field.addEventListener("change", () => {
+    const isWrong = field.value.trim() !== "" && !isTolerance(field.value);
+    wrong.textContent = isWrong ? "A tolerance is a number of 0 or more, as 0.001 or 1E-6." : "";
+    field.setAttribute("aria-invalid", String(isWrong));
+    if (!isWrong) askFor({ tolerance: field.value.trim(), focus: "#tolerance" });
+  });
+  return element(
+    "div",
+    { class: "counting" },
+    element("label", {}, header, " with the header"),
+    element("label", {}, "Reals may differ by ", field),
+    wrong,
+  );
+}
+
+/** A list of differences: what is known, how to take it along, a table by entity, what sifts it, and the differences by what owns them. */
+function listOfDifferences({ count, shown, text, verdict, table, tolerance }, files, way) {
+  const report = { names: way === "shapes", data: shownLists.asked.data, tolerance: shownLists.asked.tolerance };
+  const actions = [
+    saving("Save as text", () => text, "differences.txt"),
+    copying("Copy as text", () => text.text(), "the differences"),
+    button("Save as report", () => askFor({ report })),
+  ];
   const made = [element("div", { class: "buttons" }, ...actions)];
-  if (verdict) made.unshift(element("p", { class: "known" }, verdict));
+  if (way === "shapes" || tolerance) made.unshift(element("p", { class: "known" }, verdict));
+  if (count === 0) return made;
+  const rows = shown.map((difference, number) => ofDifference(difference, files, number));
+  const list = element("div", { class: "list" }, ...byOwners(shown, rows));
+  const sifting = new Sifting(shown, rows, list);
+  made.push(byEntity(table, sifting));
   if (shown.length < count) made.push(hint(`The first ${shown.length} of ${counted(count, "difference")}.`));
-  const rows = shown.map((difference) => ofDifference(difference, files));
-  const find = (words) => {
-    for (const row of rows) row.hidden = !hasWords(row.textContent, words);
-    return rows.filter((row) => !row.hidden).length;
-  };
-  const search = rows.length > FEW_DIFFERENCES ? [searching("Look for", rows.length, find)] : [];
-  return [...made, ...search, element("ol", {}, ...rows)];
+  if (rows.length > FEW_DIFFERENCES) made.push(sifting.form);
+  return [...made, list];
+}
+
+/** Sifts the differences that are shown, by words and by what happened. */
+class Sifting {
+  constructor(shown, rows, list) {
+    Object.assign(this, { shown, rows, list, words: [], entity: null });
+    this.kinds = new Set(KINDS);
+    this.search = searching("Look for", rows.length, (words) => this.sift({ words, entity: null }), () => this.isWhole);
+    const boxes = KINDS.map((kind) => {
+      const box = element("input", { type: "checkbox", value: kind });
+      box.checked = true;
+      box.addEventListener("change", () => {
+        this.kinds[box.checked ? "add" : "delete"](kind);
+        this.again();
+      });
+      return element("label", {}, box, ` ${kind}`);
+    });
+    const kinds = element("fieldset", { class: "ways" }, element("legend", {}, "What"), ...boxes);
+    this.form = element("div", { class: "sifting" }, kinds, this.search);
+  }
+
+  /** Is nothing sifted? */
+  get isWhole() {
+    return this.words.length === 0 && this.entity === null && this.kinds.size === KINDS.length;
+  }
+
+  /** Sifts by what is typed, and says how much is shown. */
+  again() {
+    this.search.querySelector("input").dispatchEvent(new Event("input"));
+  }
+
+  /** Shows what an entity has alone. */
+  only(entity) {
+    this.search.querySelector("input").value = "";
+    const [found, all] = [this.sift({ words: [], entity }), this.rows.length].map((count) => count.toLocaleString("en"));
+    this.search.querySelector("[role=status]").textContent = `${found} of ${all}: ${entity}`;
+    this.list.scrollIntoView({ block: "nearest" });
+  }
+
+  /** Shows the differences that have all of some words, and answers how many these are. */
+  sift(by) {
+    Object.assign(this, by);
+    this.rows.forEach((row, at) => {
+      const { kind, inTable } = this.shown[at];
+      const isOf = this.kinds.has(kind) && (this.entity === null || this.entity === inTable);
+      row.hidden = !isOf || !hasWords(`${inTable} ${row.textContent}`, this.words);
+    });
+    for (const group of [...this.list.querySelectorAll("section")]) group.hidden = !group.querySelector("li:not([hidden])");
+    return this.rows.filter((row) => !row.hidden).length;
+  }
+}
+
+/** How many instances of which entity changed, came and went. */
+function byEntity(table, sifting) {
+  const heads = ["Entity", ...KINDS].map((text) => element("th", { scope: "col" }, text));
+  const rows = table.slice(0, MOST_KEYWORDS).map(([name, ...numbers]) => {
+    const only = button(name, () => sifting.only(name), { class: "entity" });
+    const cells = numbers.map((number) => element("td", {}, number > 0 ? number.toLocaleString("en") : ""));
+    return element("tr", {}, element("th", { scope: "row" }, only), ...cells);
+  });
+  const sums = KINDS.map((_, at) => table.reduce((sum, row) => sum + row[at + 1], 0));
+  const title = `By entity: ${KINDS.map((kind, at) => `${sums[at].toLocaleString("en")} ${kind}`).join(", ")}`;
+  const left = table.length - rows.length;
+  const rest = left > 0 ? hint(`and ${left.toLocaleString("en")} more`) : null;
+  const made = element("table", {}, element("thead", {}, element("tr", {}, ...heads)), element("tbody", {}, ...rows));
+  const folded = fold(title, ...[made, rest].filter(Boolean));
+  folded.classList.add("by-entity");
+  return folded;
+}
+
+/** Differences by what owns them: the products, and within them faces or sets of properties. One list where no product is known. */
+function byOwners(shown, rows) {
+  if (!shown.some(({ owner }) => owner)) return [element("ol", {}, ...rows)];
+  return grouped(shown.keys(), (at) => shown[at].owner.products).map(([products, ofProducts]) => {
+    const parts = grouped(ofProducts, (at) => shown[at].owner.parts).map(([part, places]) => {
+      const list = element("ol", {}, ...places.map((at) => rows[at]));
+      return part ? element("section", { class: "of-part" }, element("h5", {}, part), list) : list;
+    });
+    return element("section", { class: "owner" }, element("h4", {}, products), ...parts);
+  });
+}
+
+/** Places by what a function says of them, in the order of the first of each. */
+function grouped(places, saidOf) {
+  return [...Map.groupBy(places, saidOf)];
 }
 
 /** A difference: what it is about, and the text of each file, below which a value stands as people write it. */
-function ofDifference({ what, texts, plain }, files) {
+function ofDifference({ what, texts, plain }, files, number) {
   const marked = texts.length === 2 ? markedPair(...texts) : [[texts[0]]];
   const written = plain && markedPair(...plain);
   const names = texts.length === 2 ? files.map(({ name }, number) => `${"AB"[number]}, ${name}`) : [null];
@@ -918,7 +1252,7 @@ function ofDifference({ what, texts, plain }, files) {
     const read = written && element("span", { class: "plain" }, ...written[number]);
     return element("div", {}, side, element("code", { class: "value" }, ...parts), read);
   });
-  return element("li", {}, element("div", { class: "what" }, what), element("div", { class: "sides" }, ...sides));
+  return element("li", { "data-at": String(number) }, element("div", { class: "what" }, what), element("div", { class: "sides" }, ...sides));
 }
 
 /** Two texts with what stands between their common front and their common end marked. */

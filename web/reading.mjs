@@ -4,7 +4,7 @@ import { Trouble } from "./program.mjs";
 
 const PIECE = 1 << 14;
 const STRETCH = 1 << 16;
-const LINE_FEED = 10;
+export const LINE_FEED = 10;
 const ESCAPES = { "\n": "\\n", "\r": "\\r", "\t": "\\t" };
 // Of names so many are listed.
 const MOST_LISTED = 8;

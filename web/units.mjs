@@ -1,9 +1,12 @@
 // Which values of a file are lengths, by its schema, and in which unit the file has them. As in tools/p21_units.py.
 
 import { unescaped } from "./plainly.mjs";
+import { LINE_FEED, textOf } from "./reading.mjs";
 import { AGGREGATES } from "./sets.mjs";
 
 const MEASURES = ["LENGTH_MEASURE", "IFCLENGTHMEASURE"];
+const UNIT = [..."UNIT"].map((letter) => letter.charCodeAt(0));
+const [LETTER_U] = UNIT;
 const STRING = /'[^']*'/g;
 const ASSIGNED = /\b(?:GLOBAL_UNIT_ASSIGNED_CONTEXT|IFCUNITASSIGNMENT)\(\(([#\d,]*)\)\)/g;
 const OF_LENGTH = /\bLENGTH_UNIT\(|,\.LENGTHUNIT\.,/;
@@ -71,9 +74,8 @@ export class Units {
     this.assigned = [];
   }
 
-  /** The line of an instance. Of those in which the word UNIT doesn't stand there is nothing to hear. */
+  /** The line of an instance, in which the word UNIT stands. */
   hear(line) {
-    if (!line.includes("UNIT")) return;
     const bare = line.replace(STRING, "''");
     for (const [, names] of bare.matchAll(ASSIGNED)) this.assigned.push(...names.split(","));
     if (!OF_LENGTH.test(bare)) return;
@@ -89,6 +91,18 @@ export class Units {
     const found = new Set(this.assigned.filter((name) => this.lengths.has(name)).map((name) => this.lengths.get(name)));
     return found.size === 1 ? [...found][0] : null;
   }
+}
+
+/** The unit of lengths of a canonical file. */
+export function unitOf(bytes) {
+  const found = new Units();
+  for (let at = bytes.indexOf(LETTER_U); at >= 0; at = bytes.indexOf(LETTER_U, at + 1)) {
+    if (!UNIT.every((letter, number) => bytes[at + number] === letter)) continue;
+    const end = bytes.indexOf(LINE_FEED, at);
+    found.hear(textOf(bytes.subarray(bytes.lastIndexOf(LINE_FEED, at) + 1, end)));
+    at = end;
+  }
+  return found.length();
 }
 
 /** A length as people write it, with its unit where it has one: a number, or three of them. */

@@ -6,11 +6,11 @@
 // tools themselves are tested by. What a refusal means comes from the program (`faults`).
 //
 // A file that is refused is read a second time, by `check --all`, which lists its refusals; only who has a refused file
-// waits for that. Of 5,000 refusals the places are looked for, of 256 side by side: what looks for one waits with its
+// waits for that. The places are looked for of 256 side by side: what looks for one waits with its
 // question until the others have theirs, and one run of the program answers all. What is found in 0.3 seconds comes
-// with the answer, and the rest while it is read.
+// with the answer, and the rest while it is read; of refusals behind the first 2,000 the page has the lines alone.
 
-import { GivenFile, LONGEST_PLACED, MOST_PLACED, RefusedFile, refusalsOf } from "./files.mjs";
+import { GivenAlone, GivenFile, LONGEST_PLACED, MOST_PLACED, RefusedFile, refusalsOf } from "./files.mjs";
 import { SCHEMA_TEXT, STEP_FILE } from "./kinds.mjs";
 import { Lines, clean, readParts, shortened, shown, textOf } from "./reading.mjs";
 import { RefusedSchema, numberOf } from "./schemas.mjs";
@@ -26,6 +26,8 @@ const LOOKS = [
   [/^\x89HDF/, "this is STEP in its binary form, and not clear text"],
 ];
 const SCHEMA_LOOKS = [[STEP_FILE, "this is a STEP file: are schema and file exchanged?"], ...LOOKS];
+// For so many refusals the file is looked through once.
+const PLACED_AT_ONCE = 50_000;
 // Of an instance so many parts are shown, so many values that stand for no attribute, and so many attributes explained.
 const MOST_PARTS = 100;
 const MOST_SURPLUS = 8;
@@ -127,13 +129,23 @@ export function whereInFile(program, schema, named, bytes, line) {
   return whereRefused(line, refused, given.placeOf(refused));
 }
 
+/** What there is to say of a file that is refused by this line where it is read by itself. */
+export function whereAlone(program, bytes, line) {
+  const given = new GivenAlone(program, bytes);
+  const refused = new RefusedFile(given, line);
+  return whereRefused(line, refused, given.placeOf(refused));
+}
+
 /** What there is to say of each refusal of a file, of which these are the lines of `check --all`. */
 export function* whereAll(given, lines) {
   const refusals = refusalsOf(given, lines);
-  let at = 0;
-  for (const found of given.placesOf(refusals)) {
-    yield whereIfTold(lines[at], refusals[at], found);
-    at++;
+  for (let start = 0; start < lines.length; start += PLACED_AT_ONCE) {
+    let at = start;
+    for (const found of given.placesOf(refusals.slice(start, start + PLACED_AT_ONCE))) {
+      yield whereIfTold(lines[at], refusals[at], found);
+      at++;
+    }
+    given.forget();
   }
 }
 

@@ -5,26 +5,35 @@
 // Each run has an instance, a memory and streams of its own, and each job a worker of its own. So nothing stays from
 // one run to the next, and a job is stopped by ending its worker.
 
-import { differencesOf, differencesUpToNames, equalBytes } from "./differences.mjs";
+import { adapted } from "./adapting.mjs";
+import { headerOf, keywordsOf, syntaxOf } from "./alone.mjs";
+import { toleranceOf } from "./decimals.mjs";
+import { Files, SMALL_ENOUGH, equalBytes, tableName, whatOf } from "./differences.mjs";
 import { GivenFile } from "./files.mjs";
+import { Owners } from "./owners.mjs";
+import { kindOfLine } from "./kinds.mjs";
 import { LOOKED_AT, otherKindOf, unpacked } from "./packed.mjs";
+import { Report, findOwned, ownerOf } from "./pages.mjs";
 import { Program, Text, Trouble } from "./program.mjs";
 import { listing, shown, textOf } from "./reading.mjs";
 import { Outline } from "./schemas.mjs";
 import { Sets } from "./sets.mjs";
 import { Shelf, nameIn } from "./shelf.mjs";
 import { Lengths } from "./units.mjs";
-import { linesOf, whereAll, whereInFile, whereInSchema } from "./where.mjs";
+import { linesOf, whereAll, whereAlone, whereInFile, whereInSchema } from "./where.mjs";
 
 const READ_AT_ONCE = 1 << 22;
 const SHOWN_CANONICAL = 1 << 17;
 const SHOWN_DIFFERENCES = 1000;
-// Two canonical files of so many bytes together are compared up to names without being asked.
-const SMALL_ENOUGH = 1 << 21;
-// Of so many refusals of a file the places are looked for. Those that are found in so many milliseconds come with the answer.
-const MOST_PLACES = 5000;
+// Of a file so many refusals are kept with all that is said of them, and of further ones the lines alone. The places that are found in so
+// many milliseconds come with the answer.
+const MOST_WHOLE = 2000;
 const FIRST_PLACES = 300;
 const BETWEEN_MESSAGES = 100;
+// Two canonical files of so many bytes together are kept for what else is asked of them.
+const MOST_KEPT = 1 << 27;
+// The style and the script of a report.
+const REPORT = __REPORT__;
 const COUNT_LINE = /^refusals \d+(?:, (.*))?$/;
 
 /** A file of the person at the page, of which a piece is kept at a time. */
@@ -87,11 +96,28 @@ function countInstances(bytes) {
   return count;
 }
 
-/** Differences as they go to the page. */
-function sentDifferences({ count, inHeader, inTimeStamp, shown, lines, word, verdict, butFor, isRenamed }) {
+/** A list of differences as it goes to the page, with what owns each that is shown where `owners` says that. */
+function sentList({ counts, shown, lines, ...known }, { units }, owners) {
   const text = new Blob([lines.map((line) => `${line}\n`).join("")], { type: "text/plain" });
-  const onlyHeader = count > 0 && count === inHeader;
-  return { count, shown, text, word, verdict, butFor, isRenamed, onlyHeader, onlyTimeStamp: inHeader > 0 && inHeader === inTimeStamp };
+  if (owners) findOwned(shown, owners);
+  const sent = shown.map((difference) => ({
+    kind: difference.kind,
+    what: whatOf(difference),
+    inTable: tableName(difference.what, difference.entity),
+    texts: difference.texts,
+    plain: difference.plain?.(units) ?? null,
+    owner: owners ? ownerOf(difference, owners) : null,
+  }));
+  const { listed, inHeader, inTimeStamp } = counts;
+  return {
+    ...known,
+    count: listed,
+    onlyHeader: listed > 0 && listed === inHeader,
+    onlyTimeStamp: inHeader > 0 && inHeader === inTimeStamp,
+    table: counts.table(),
+    shown: sent,
+    text,
+  };
 }
 
 /** A text for people of the program's, which is in UTF-8. */
@@ -116,11 +142,13 @@ function given({ file, unpackedBy }) {
 
 /** The job: schemas, maybe with aliases, and none, one or two files, each with its name and unpacked. */
 class Job {
-  constructor(program, { schemas, aliases, files, upToNames }, say) {
+  constructor(program, { schemas, aliases, files, asked }, say) {
     this.program = program;
     this.files = files.map(given);
-    this.upToNames = upToNames;
+    this.asked = asked;
+    this.compared = null;
     this.say = say;
+    // Without a schema the files are read by themselves.
     const listings = schemas.map(given).map((each) => ({ ...each, text: new Text(each.text.bytes) }));
     this.served = { ...listings[0], change: null };
     this.listings = listings;
@@ -167,7 +195,20 @@ class Job {
       return { accepted: true, name, entities: entities.length, line };
     }
     const report = (status === 1 && placed(() => whereInSchema(this.program, schema, error))) || withoutPlace(error);
-    return notAccepted(name, status, [withLines(report, name)]);
+    return { ...notAccepted(name, status, [withLines(report, name)]), adapted: status === 1 ? placed(() => this.adaptedCopy(schema)) : null };
+  }
+
+  /** A copy of a listing that is refused, made fit as p21-adapt does by the other listings; null where there is nothing to do. */
+  adaptedCopy(schema) {
+    const number = this.listings.findIndex(({ text }) => text === schema);
+    if (number < 0) return null;
+    const others = this.listings.filter((_, at) => at !== number);
+    const found = adapted(
+      this.program,
+      schema.bytes,
+      others.map(({ text }) => text.bytes),
+    );
+    return found.count > 0 ? { ...found, number } : null;
   }
 
   // Files
@@ -190,6 +231,21 @@ class Job {
     return { ...this.refused(name, files, error, heard), ...said, file, otherKind };
   }
 
+  /** What the program says of a file by itself, without a schema, its header and what it holds, or where it is refused. */
+  ofFileAlone({ name, unpackedBy, text: file }) {
+    const heard = (_, done) => this.heard(name, done, file.size);
+    const { line, status, instances, schema } = syntaxOf(this.program, file, heard);
+    const from = { unpackedBy, listing: {} };
+    if (status === 0) {
+      const keywords = placed(() => keywordsOf(file, instances, (done) => this.heard(name, done, file.size)));
+      const header = placed(() => headerOf(this.program, file)) ?? [];
+      return { isAlone: true, accepted: true, name, line, from, names: schema, header, keywords };
+    }
+    const report = (status === 1 && placed(() => whereAlone(this.program, file.bytes, line))) || withoutPlace(line);
+    const otherKind = otherKindOf(textOf(file.piece(0, LOOKED_AT)));
+    return { ...notAccepted(name, status, [withLines(report, name)]), isAlone: true, from, otherKind };
+  }
+
   accepted(name, canonical) {
     const line = `accepted, instances ${countInstances(canonical)}, canonical bytes ${canonical.length}`;
     return { accepted: true, name, line, canonical };
@@ -200,16 +256,17 @@ class Job {
     const lines = this.program.run(["check", "--all", "--", "schema", "file"], files, heard).error.split("\n");
     const count = lines.pop();
     const isAll = COUNT_LINE.test(count);
-    const reports = (isAll ? lines : [error]).map((line) => ({ ...withoutPlace(line), lines: [line] }));
-    const unplaced = Math.max(0, reports.length - MOST_PLACES);
-    return { ...notAccepted(name, 1, reports, isAll ? count : null), isAll, unplaced };
+    const all = isAll ? lines : [error];
+    const reports = all.slice(0, MOST_WHOLE).map((line) => ({ ...withoutPlace(line), lines: [line] }));
+    const kinds = [...Map.groupBy(all, kindOfLine)].map(([kind, each]) => [kind, each.length]);
+    return { ...notAccepted(name, 1, reports, isAll ? count : null), isAll, all, total: all.length, kinds };
   }
 
   /** The places of all refusals, one after the other, each with the number of its file and its own. */
   *places(answers) {
     for (const [file, answer] of answers.entries()) {
       if (!answer.file) continue;
-      this.say({ progress: { name: answer.name, placed: 0, of: answer.refusals.length } });
+      this.say({ progress: { name: answer.name, placed: 0, of: answer.total } });
       const { name } = answer;
       const reports = placed(() => this.reports(answer)) ?? [].values();
       for (let at = 0; ; at++) {
@@ -221,41 +278,74 @@ class Job {
   }
 
   /** The reports of a file's refusals, one after the other. */
-  reports({ served, refusals, file, isAll, line }) {
+  reports({ served, all, file, isAll, line }) {
     if (!isAll) return [whereInFile(this.program, served.text, served.name, file.bytes, line)].values();
-    const lines = refusals.slice(0, MOST_PLACES).map((refusal) => refusal.line);
     const given = new GivenFile(this.program, served.text, served.name, file.bytes, true);
     return whereAll(
       given,
-      lines.filter((each) => each.startsWith("refused")),
+      all.filter((each) => each.startsWith("refused")),
     );
   }
 
   // Differences
 
-  /** What differs between two files that are accepted. */
+  /** What differs between two files that are accepted, as it is asked at first. */
   differences(first, second) {
     const { attributes } = listing(this.program, first.served.text);
-    const canonical = [first.canonical, second.canonical];
-    const lengths = new Lengths(new Sets(new Outline(first.served.text.bytes)));
+    this.outline = new Outline(first.served.text.bytes);
+    const lengths = new Lengths(new Sets(this.outline));
     const heard = (count) => this.say({ progress: { name: `instance ${count}`, compares: true } });
-    const byNames = differencesOf(attributes, lengths, ...canonical, SHOWN_DIFFERENCES, heard);
-    const found = sentDifferences(byNames);
-    const isSmall = canonical[0].length + canonical[1].length <= SMALL_ENOUGH;
-    if (!isSmall && !this.upToNames) return { ...found, upToNames: null };
     const isSame = (one, other) => {
       const files = { schema: first.served.text, first: new Text(one), second: new Text(other) };
       return this.program.run(["same", "--", "schema", "first", "second"], files).status === 0;
     };
-    const { units } = byNames;
-    const upToNames = differencesUpToNames(attributes, lengths, units, ...canonical, SHOWN_DIFFERENCES, isSame, heard);
-    return { ...found, upToNames: sentDifferences(upToNames) };
+    this.compared = new Files({ attributes, lengths, isSame, heard }, first.canonical, second.canonical);
+    this.owners = new Map();
+    return this.lists(this.asked);
+  }
+
+  /** The lists of what differs: by names, and up to names where that is asked for or both files are small. */
+  lists(asked) {
+    const names = this.list(false, asked);
+    const isSmall = this.compared.size <= SMALL_ENOUGH;
+    const upToNames = isSmall || asked.upToNames ? this.list(true, asked) : null;
+    return { asked, names, upToNames, isKept: this.compared.size <= MOST_KEPT };
+  }
+
+  /** The list of what differs by names, or up to names. */
+  list(names, { data, tolerance }) {
+    const found = this.compared.list({ names, data, tolerance: tolerance ? toleranceOf(tolerance) : null }, SHOWN_DIFFERENCES);
+    return sentList(found, this.compared, this.ownersOf(names));
+  }
+
+  /** What tells the owner of an instance; null where there is no product in the files, or these are large. */
+  ownersOf(names) {
+    if (!this.owners.has(names)) {
+      const graph = this.compared.graph(names);
+      const owners = graph && new Owners(graph, this.outline, this.compared.attributes);
+      this.owners.set(names, owners?.hasProducts ? owners : null);
+    }
+    return this.owners.get(names);
+  }
+
+  /** The report of what differs, as p21-diff --format html writes it. */
+  report({ names, data, tolerance }) {
+    const how = { names, data, tolerance: tolerance ? toleranceOf(tolerance) : null, isFull: true };
+    const report = new Report(
+      this.compared,
+      this.files.map(({ path }) => path),
+      REPORT,
+    );
+    const { known, counts } = this.compared.each(how, (difference) => report.add(difference));
+    const lines = [...report.page(known, counts, this.ownersOf(names))];
+    return new Blob([lines.map((line) => `${line}\n`).join("")], { type: "text/html" });
   }
 
   // The answer
 
   /** The answer to the whole job, in which refusals have no places yet. */
   answer() {
+    if (this.listings.length === 0) return this.answerAlone();
     const schemas = this.shelf && this.files.length > 0 ? [] : this.listings.map((each) => this.ofSchema(each));
     const isRead = schemas.every(({ accepted }) => accepted);
     const files = isRead ? this.files.map((file) => this.ofFile(file)) : [];
@@ -269,33 +359,41 @@ class Job {
     return { schemas, files, verdict, differences, read };
   }
 
+  /** The answer to a job without a schema. */
+  answerAlone() {
+    const files = this.files.map((file) => this.ofFileAlone(file));
+    return { isAlone: true, schemas: [], files, verdict: null, differences: null, read: [] };
+  }
+
   /** Does the job: says the answer, and behind it the places that aren't found yet. */
   async run() {
     const answer = this.answer();
-    for (const file of answer.files) if (file.accepted) file.hash = await hashOf(file.canonical);
-    const refused = [...answer.schemas, ...answer.files].flatMap(({ refusals }) => refusals ?? []);
-    const numbers = refused.map(({ line }) => /refused (S?\d+) /.exec(line)?.[1]).filter(Boolean);
+    for (const file of answer.files) if (file.canonical) file.hash = await hashOf(file.canonical);
+    const kindsOf = ({ refusals = [], kinds = null }) => kinds?.map(([kind]) => kind) ?? refusals.map(({ line }) => kindOfLine(line));
+    const kinds = [...answer.schemas, ...answer.files].flatMap(kindsOf);
+    const numbers = kinds.map((kind) => /^(S?\d+) /.exec(kind)?.[1]).filter(Boolean);
     const explained = this.explained(new Set(numbers));
     const begun = performance.now();
     let saidAt = null;
-    let waiting = [];
+    let waiting = { places: [], further: [] };
     for (const found of this.places(answer.files)) {
-      const { name, refusals } = answer.files[found.file];
+      const { name, refusals, total } = answer.files[found.file];
       const now = performance.now();
+      if (found.at >= MOST_WHOLE) waiting.further.push({ file: found.file, lines: found.report.lines });
+      else if (saidAt === null) refusals[found.at] = found.report;
+      else waiting.places.push(found);
       if (saidAt === null) {
-        refusals[found.at] = found.report;
         if (now - begun <= FIRST_PLACES) continue;
         this.say({ answer: sendable(answer, explained), isWhole: false });
       } else {
-        waiting.push(found);
         if (now - saidAt <= BETWEEN_MESSAGES) continue;
-        this.say({ places: waiting, progress: { name, placed: found.at + 1, of: refusals.length } });
-        waiting = [];
+        this.say({ ...waiting, progress: { name, placed: found.at + 1, of: total } });
+        waiting = { places: [], further: [] };
       }
       saidAt = now;
     }
-    if (saidAt === null) this.say({ answer: sendable(answer, explained), isWhole: true });
-    else this.say({ places: waiting, isWhole: true });
+    if (saidAt === null) this.say({ answer: sendable(answer, explained), ...waiting, isWhole: true });
+    else this.say({ ...waiting, isWhole: true });
   }
 }
 
@@ -305,9 +403,9 @@ function sendable(answer, explained) {
 }
 
 /** What is said of a file: of a canonical file the beginning, and the whole to be saved. */
-function sendableFile({ canonical, served, file, from, ...all }) {
-  const rest = { ...all, from: from && { ...from, listing: from.listing.path, listingUnpackedBy: from.listing.unpackedBy } };
-  if (!rest.accepted) return rest;
+function sendableFile({ canonical, served, file, all, from, ...others }) {
+  const rest = { ...others, from: from && { ...from, listing: from.listing.path, listingUnpackedBy: from.listing.unpackedBy } };
+  if (!canonical) return rest;
   const shown = canonical.subarray(0, SHOWN_CANONICAL);
   const end = shown.length < canonical.length ? shown.lastIndexOf(10) + 1 : shown.length;
   const whole = new Blob([canonical], { type: "text/plain" });
@@ -327,13 +425,28 @@ async function unpackedJob({ schemas, files, ...rest }, say) {
   };
 }
 
+// The job that is done, of which more can be asked: other lists of what differs, or a report.
+let job = null;
+
+/** Starts a job, or does what is asked of the one that is done. */
+async function done({ module, report, asked, ...given }, say) {
+  if (report) {
+    say({ report: job.report(report) });
+  } else if (module && !given.schemas) {
+    say({ version: textOf(new Program(module).run(["--version"]).output).trim() });
+  } else if (module) {
+    job = new Job(new Program(module), await unpackedJob({ ...given, asked }, say), say);
+    await job.run();
+  } else {
+    say({ lists: job.lists(asked), isWhole: true });
+  }
+}
+
 if (typeof WorkerGlobalScope !== "undefined") {
   self.onmessage = async ({ data }) => {
     const say = (message) => self.postMessage(message);
     try {
-      const program = new Program(data.module);
-      if (data.schemas) await new Job(program, await unpackedJob(data, say), say).run();
-      else say({ version: textOf(program.run(["--version"]).output).trim() });
+      await done(data, say);
     } catch (error) {
       say({ trouble: error instanceof Trouble ? error.message : `${error.name}: ${error.message}` });
     }

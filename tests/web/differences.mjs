@@ -1,8 +1,11 @@
-// What the page says of how files differ: differences.mjs MODULE reads a list of [SCHEMA, FILE, FILE] as JSON, and writes for
-// each the lines by the names of instances, and those up to names.
+// What the page says of how files differ: differences.mjs MODULE reads a list of {schema, files, options} as JSON, and writes for each
+// the lines by the names of instances with these options, and those up to names, each with the last line, and the reports of both.
 
 import fs from "node:fs";
-import { differencesOf, differencesUpToNames } from "../../web/differences.mjs";
+import { toleranceOf } from "../../web/decimals.mjs";
+import { Files } from "../../web/differences.mjs";
+import { Owners } from "../../web/owners.mjs";
+import { Report } from "../../web/pages.mjs";
 import { Program, Text } from "../../web/program.mjs";
 import { listing } from "../../web/reading.mjs";
 import { Outline } from "../../web/schemas.mjs";
@@ -10,10 +13,11 @@ import { Sets } from "../../web/sets.mjs";
 import { Lengths } from "../../web/units.mjs";
 
 const program = new Program(new WebAssembly.Module(fs.readFileSync(process.argv[2])));
+const { given, style } = JSON.parse(fs.readFileSync(0));
 const bytesOf = (path) => new Uint8Array(fs.readFileSync(path));
 
-/** The differences of two files under a schema. */
-function differences(schemaPath, ...paths) {
+/** Two files under a schema that are compared. */
+function compared(schemaPath, paths) {
   const schema = new Text(bytesOf(schemaPath));
   const { attributes } = listing(program, schema);
   const canonical = paths.map((path) => {
@@ -25,10 +29,28 @@ function differences(schemaPath, ...paths) {
     const files = { schema, first: new Text(first), second: new Text(second) };
     return program.run(["same", "--", "schema", "first", "second"], files).status === 0;
   };
-  const lengths = new Lengths(new Sets(new Outline(schema.bytes)));
-  const { lines, units } = differencesOf(attributes, lengths, ...canonical, 0);
-  const upToNames = differencesUpToNames(attributes, lengths, units, ...canonical, 0, isSame);
-  return { lines, upToNames: [...upToNames.lines, upToNames.verdict] };
+  const outline = new Outline(schema.bytes);
+  return { outline, files: new Files({ attributes, lengths: new Lengths(new Sets(outline)), isSame }, ...canonical) };
 }
 
-process.stdout.write(JSON.stringify(JSON.parse(fs.readFileSync(0)).map((given) => differences(...given))));
+/** The report of what differs. */
+function report({ outline, files }, asked, paths) {
+  const page = new Report(files, paths, style);
+  const { known, counts } = files.each({ ...asked, isFull: true }, (difference) => page.add(difference));
+  const graph = files.graph(asked.names);
+  const owners = graph && new Owners(graph, outline, files.attributes);
+  return [...page.page(known, counts, owners?.hasProducts ? owners : null)].map((line) => `${line}\n`).join("");
+}
+
+/** What p21-diff prints with these options, by names and with --names. */
+function differences({ schema, files: paths, options, withReport }) {
+  const found = compared(schema, paths);
+  const tolerance = options.tolerance ? toleranceOf(options.tolerance) : null;
+  return [false, true].map((names) => {
+    const asked = { names, data: options.data ?? false, tolerance };
+    const { lines, verdict, counts } = found.files.list(asked, 0);
+    return { lines, verdict, table: counts.table(), report: withReport ? report(found, asked, paths) : null };
+  });
+}
+
+process.stdout.write(JSON.stringify(given.map(differences)));
