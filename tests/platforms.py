@@ -5,9 +5,9 @@ QEMU's user mode. What each answers is what the program for Linux on x86-64 answ
     tests/platforms.py [SYSTEM..]     x86_64-windows and aarch64-linux; both without any
 
 program.sh, every_refusal.py, two_ways.py, fuzz.py and hostile/large.py are run over each program; then names, pipes, streams in
-bytes, each allocation of some commands refused, and the C programs of bindings over each library. The tools are run as on
-Windows, as far as a Python for Linux can (platforms/as_windows.py): some command lines with the program for Windows, and all of
-their tests with that for Linux.
+bytes, each allocation of some commands refused, less and less memory, the deepest texts on less stack, and the C programs of
+bindings over each library. The tools are run as on Windows, as far as a Python for Linux can (platforms/as_windows.py): some
+command lines with the program for Windows, and all of their tests with that for Linux.
 
 P21 names another program for Linux than ./p21. It wants `rt`, which makes what is compiled where it is missing or old, and Debian's
 packages wine64, qemu-user, gcc-mingw-w64-x86-64, gcc-aarch64-linux-gnu and libc6-dev-arm64-cross. Where one of them isn't here, the status is 77.
