@@ -5,9 +5,9 @@ QEMU's user mode. What each answers is what the program for Linux on x86-64 answ
     tests/platforms.py [SYSTEM..]     x86_64-windows and aarch64-linux; both without any
 
 program.sh, every_refusal.py, two_ways.py, fuzz.py and hostile/large.py are run over each program; then names, pipes, streams in
-bytes, each allocation of some commands refused, and the C programs of bindings over each library. The tools are run as on
-Windows, as far as a Python for Linux can (platforms/as_windows.py): some command lines with the program for Windows, and all of
-their tests with that for Linux.
+bytes, each allocation of some commands refused, less and less memory, the deepest texts on less stack, and the C programs of
+bindings over each library. The tools are run as on Windows, as far as a Python for Linux can (platforms/as_windows.py): some
+command lines with the program for Windows, and all of their tests with that for Linux.
 
 P21 names another program for Linux than ./p21. It wants `rt`, which makes what is compiled where it is missing or old, and Debian's
 packages wine64, qemu-user, gcc-mingw-w64-x86-64, gcc-aarch64-linux-gnu and libc6-dev-arm64-cross. Where one of them isn't here, the status is 77.
@@ -29,6 +29,7 @@ import ntpath
 import os
 import pathlib
 import re
+import resource
 import shutil
 import subprocess
 import sys
@@ -45,6 +46,7 @@ sys.path[:0] = [str(ROOT / "tools"), str(ROOT / "making"), str(TESTS / "hostile"
 import p21_manifest  # noqa: E402
 import p21_sarif  # noqa: E402
 import p21_system  # noqa: E402
+import stack as deepest  # noqa: E402
 from cases import DEMO, file_of, write_all  # noqa: E402
 from release import systems  # noqa: E402
 from rigged import OUT_OF_MEMORY, Rigged, Tally  # noqa: E402
@@ -80,6 +82,12 @@ MISTAKEN = [["frob"]]
 # A command of fewer allocations has each of them refused.
 FEW = 130
 STACK = 8 << 20
+# As much as Wine gives a program at least.
+LESS_STACK = STACK // 8
+# What is tried with less and less memory, and the memory, in bytes: with the least the program can say its version, and with the
+# most it has enough.
+POINTS, LETTERS = 200_000, 16_000_000
+LIMITS = {WINDOWS: range(32 << 20, 256 << 20, 8 << 20), ARM: range(32 << 20, 256 << 20, 8 << 20)}
 # What a tool prints is the same where it runs as on Windows.
 PRODUCT = "examples/product.exp"
 TOOLS = [
@@ -104,6 +112,16 @@ TOOLS = [
 # These are given the refused file by a pipe.
 BY_A_PIPE = [["p21-where", PRODUCT, "-"], ["p21-table", PRODUCT, "-"], ["p21-where", "--all", "--format", "json", PRODUCT, "-"]]
 
+
+# Where nobody reads what these print, they end with this status and say nothing.
+UNREAD = [
+    ["p21-where", "--all", "--format", "json", PRODUCT, "examples/refused/WrongKind.step"],
+    ["p21-diff", PRODUCT, "examples/product.step", "examples/product-changed.step"],
+    ["p21-renumber", PRODUCT, "examples/product.step", "{here}/pairs"],
+    ["p21-table", PRODUCT, "examples"],
+    ["p21-adapt", PRODUCT],
+]
+TROUBLE = {"p21-where": 3, "p21-diff": 2, "p21-renumber": 2, "p21-table": 2, "p21-adapt": 3}
 
 # What tries the tools on Linux tries them as on Windows too, with the program for Linux; and the rows that are otherwise there, of
 # programs that a signal ends and of devices.
@@ -165,6 +183,15 @@ class Wine:
         """The words in front of a program."""
         return ["env", *(f"{name}={value}" for name, value in self.environment.items()), self.command]
 
+    def within(self, size):
+        """How a program is started that may have so many bytes of its own, as under the limit of a job: a limit of Linux, since Wine
+        8 takes note of those of jobs and holds to none."""
+        return {"preexec_fn": lambda: resource.setrlimit(resource.RLIMIT_DATA, (size, size))}
+
+    def shallow(self, made):
+        """The program with less stack, and how it is started: it is linked so."""
+        return made.started("shallow/p21", made.linked("shallow", f"-Wl,--stack,{LESS_STACK}")), {}
+
     def surely(self, program):
         """A file that starts a program as its own does, and anew where a run under Wine says nothing. The program is given no
         standard input, and its streams are handed on at its end."""
@@ -197,6 +224,14 @@ class Qemu:
     def front(self):
         """The words in front of a program, which finds the libraries of Debian's packages."""
         return ["qemu-aarch64", "-L", "/usr/aarch64-linux-gnu"]
+
+    def within(self, size):
+        """How a program is started that has so many addresses."""
+        return {"env": {**os.environ, "QEMU_RESERVED_VA": str(size)}}
+
+    def shallow(self, made):
+        """The program with less stack, and how it is started: QEMU gives it so much."""
+        return made.program, {"env": {**os.environ, "QEMU_STACK_SIZE": str(LESS_STACK)}}
 
     def surely(self, program):
         """QEMU runs each program."""
@@ -237,11 +272,13 @@ class Made:
     def linked_failing(self):
         """The program over a host that fails as it is told."""
         wrapped = ["rattle_alloc", "rattle_realloc", *(("p21_read", "p21_write") if self.name == WINDOWS else ("read", "write"))]
-        output = self.folder / "linked" / self.system.program
-        output.parent.mkdir()
-        words = systems.linking_program(self.system, "a test's")
-        further = [TESTS / "platforms" / "failing_host.c", *(f"-Wl,--wrap={name}" for name in wrapped)]
-        subprocess.run([*words, *further, "-o", output], check=True)
+        return self.linked("linked", TESTS / "platforms" / "failing_host.c", *(f"-Wl,--wrap={name}" for name in wrapped))
+
+    def linked(self, folder, *further):
+        """The program, linked with further words."""
+        output = self.folder / folder / self.system.program
+        output.parent.mkdir(exist_ok=True)
+        subprocess.run([*systems.linking_program(self.system, "a test's"), *further, "-o", output], check=True)
         return output
 
     def compiled(self, name, *words, compiler=None):
@@ -489,6 +526,33 @@ def refusals(made, tally, here):
     tally.part(f"{made.name}, allocations refused", made.runner.started_again())
 
 
+def limits(made, tally, here):
+    """Less and less memory of the system: a run answers as with enough, or says that there is none."""
+    (here / "points.step").write_text(file_of("".join(f"#{name}=POINT($,1.,1.);\n" for name in range(1, POINTS))))
+    (here / "letters.step").write_text(file_of(f"#2=POINT('{'a' * LETTERS}',1.,1.);\n"))
+    least = answer([made.program, "--version"], **made.runner.within(LIMITS[made.name][0]))
+    tally.check("the version with the least memory", least, answer([made.program, "--version"]))
+    for words in (["check", "demo.exp", "points.step"], ["canon", "demo.exp", "letters.step"]):
+        full = answer([os.environ["P21"], *words], cwd=here)
+        found = [answer([made.program, *words], cwd=here, **made.runner.within(size)) for size in LIMITS[made.name]]
+        for size, it in zip(LIMITS[made.name], found):
+            tally.check(f"{words} within {size >> 20} MB", it, full, tuple(OUT_OF_MEMORY))
+        tally.check(f"{words} with the least and with the most", (found[0], found[-1]), (tuple(OUT_OF_MEMORY), full))
+    tally.part(f"{made.name}, memory that the system refuses")
+
+
+def stack(made, tally, here):
+    """The deepest texts, with an eighth of the stack that there is."""
+    program, more = made.runner.shallow(made)
+    folder = here / "deep"
+    folder.mkdir()
+    for name, (schema, words, given) in deepest.RUNS.items():
+        for file, text in {"S": schema or "", **given}.items():
+            (folder / file).write_text(text)
+        tally.check(name, answer([program, *words], cwd=folder, **more), answer([os.environ["P21"], *words], cwd=folder))
+    tally.part(f"{made.name}, {LESS_STACK >> 10} KB of stack")
+
+
 def fails_itself(rigged, words, **failures):
     """A run of a program that has in it what makes it fail."""
     os.environ["P21_FAILS_ITSELF"] = "1"
@@ -552,6 +616,13 @@ def tools(made, tally, here):
                 break
         again += attempt
         tally.check(f"{tool} {rest}", found, wanted)
+    for tool, *rest in UNREAD:
+        reading, writing = os.pipe()
+        os.close(reading)
+        words = [sys.executable, TESTS / "platforms" / "as_windows.py", tool, *(word.format(here=here) for word in rest)]
+        with open(writing, "wb") as unread:
+            done = subprocess.run(words, cwd=ROOT, env={**as_windows, "P21": os.environ["P21"]}, stdout=unread, stderr=subprocess.PIPE, check=False)
+        tally.check(f"{tool} where nobody reads", (done.returncode, done.stderr), (TROUBLE[tool], b""))
     tally.check("no copy is left", [path.name for path in copies.iterdir() if not path.name.startswith("wine")], [])
     tally.part(f"{made.name}, the tools", f": {again} command lines made again")
 
@@ -579,8 +650,8 @@ def tools_tests(made, tally):
 
 
 PARTS = {
-    WINDOWS: (files, versions, scripts, names, bytes_as_they_are, closed_pipes, of_windows, starters, refusals, library, tools, paths, tools_tests),
-    ARM: (files, versions, scripts, names, bytes_as_they_are, closed_pipes, refusals, library),
+    WINDOWS: (files, versions, scripts, names, bytes_as_they_are, closed_pipes, of_windows, starters, refusals, limits, stack, library, tools, paths, tools_tests),
+    ARM: (files, versions, scripts, names, bytes_as_they_are, closed_pipes, refusals, limits, stack, library),
 }
 
 

@@ -42,6 +42,12 @@ OWN = {
 # The first bytes of a program for each.
 BEGINS = {"aarch64-linux": b"\x7fELF", "x86_64-windows": b"MZ"}
 SYSTEM = {"PATH": "/usr/sbin:/usr/bin:/sbin:/bin", "HOME": "/tmp", "LC_ALL": "C.UTF-8", "PIP_NO_INDEX": "1"}
+# What is wanted before anything is built, with what is said where it isn't here.
+LINKS = {
+    "x86_64-w64-mingw32-gcc": "there is no x86_64-w64-mingw32-gcc of Debian's gcc-mingw-w64-x86-64",
+    "aarch64-linux-gnu-gcc": "there is no aarch64-linux-gnu-gcc of Debian's gcc-aarch64-linux-gnu and libc6-dev-arm64-cross",
+    "dpkg-deb": "there is no dpkg-deb",
+}
 # The program and the library want no newer C library.
 NEWEST = (2, 17)
 # Says how many words it is given, and whether the processor has what the start of a program asks for.
@@ -105,6 +111,16 @@ def make_release(tree, *words, **environment):
     return run(tree / "making/make-release", *words, env={**os.environ, **environment})
 
 
+def path_without(folder, *names):
+    """A path to the programs that are here, but for those of these names."""
+    folder.mkdir()
+    for place in map(pathlib.Path, os.environ["PATH"].split(":")):
+        for program in place.iterdir() if place.is_dir() else ():
+            if program.name not in names and not os.path.lexists(folder / program.name):
+                (folder / program.name).symlink_to(program)
+    return str(folder)
+
+
 def sum_of(path):
     """The checksum of a file."""
     return hashlib.sha256(path.read_bytes()).hexdigest()
@@ -161,13 +177,15 @@ def records(parts, folder):
     def write(crate, lines):
         (tree / "crates" / crate / "out/record").write_text("\n".join(lines) + "\n")
 
-    def refused(name, because):
-        status, output = make_release(tree, folder / "refused", P21_KEEP="1")
+    def refused(name, because, **environment):
+        status, output = make_release(tree, folder / "refused", **{"P21_KEEP": "1", **environment})
         parts.judge(f"no release: {name}", (1, True, False), (status, because in output, (folder / "refused").exists()))
 
     for crate in crates:
         (tree / "crates" / crate / "out/record").unlink(missing_ok=True)
     refused("no record", "there is no crates/p21/out/record")
+    for name, because in LINKS.items():
+        refused(f"no {name}", because, PATH=path_without(folder / f"without-{name}", name))
     for crate in crates:
         write(crate, whole[crate])
     turned = [

@@ -310,6 +310,9 @@ def strange(tests):
             command = ["tools/p21-diff", *words, SCHEMA, product, "examples/product-changed.step"]
             done = subprocess.run(command, stdout=full, stderr=subprocess.PIPE, check=False)
         tests.judge(f"a full device, {words}", (b"p21-diff: [Errno 28] No space left on device\n", 2), (done.stderr, done.returncode))
+    words = f"tools/p21-diff {SCHEMA} {product} examples/product-changed.step >&-"
+    done = subprocess.run(["sh", "-c", words], capture_output=True, check=False)
+    tests.judge("a stream that is closed", (b"p21-diff: standard output is closed\n", 2), (done.stderr, done.returncode))
 
 
 def memory(tests):

@@ -4,8 +4,8 @@ Each is the same byte for byte for the same files: times are those that are give
 order in which they are given.
 """
 
-# The package of Debian depends on Python, because three of its four commands are written in it. It isn't stripped: the
-# program is what the linker made.
+# The package of Debian depends on Python, because its tools are written in it. It isn't stripped: the program is what the
+# linker made.
 
 import base64
 import csv
