@@ -13,7 +13,7 @@ import sqlite3
 import subprocess
 import sys
 
-from tooling import AS_OTHERS, ROOT, SCHEMA, Tests, file_of
+from tooling import AS_OTHERS, ROOT, RUN_BY, SCHEMA, Tests, file_of
 
 sys.path.insert(0, str(ROOT / "tools"))
 import p21_plainly as plainly  # noqa: E402  pylint: disable=wrong-import-position
@@ -438,7 +438,7 @@ def again(tests):
     tests.judge("the runs of one that is killed once", ["a.step", "b.step", "b.step", "c.step", "refused.step"], log)
     (folder / "killed").unlink()
     rows, error, status = table(once)
-    tests.judge("killed once, without --retry", (("b", "ended by signal 9"), False, 3), (rows[1], any("again" in line for line in error), status))
+    tests.judge("killed once, without --retry", (("b", "ended by signal 9"), False, 3), (rows[1], any(line.startswith("tried again") for line in error), status))
     rows, error, status = table(f"{kill} kill -9 $$ ;; esac", "--retry", "2")
     said_again = "tried again: 1 file, of which 0 have an answer now"
     tests.judge("killed each time", ([*answered, ("b", "ended by signal 9")], True, 3), (rows, said_again in error, status))
@@ -499,11 +499,17 @@ def databases(tests):
     tests.judge("its columns", [said(row[0]) for row in EXAMPLES], rows(", ".join(BEHIND[:-1])))
     data = "d1ef44e135ce9068e56fb79f3288b855d8667e3ab9be1ff07a71f07f7cdf80ef"
     found = rows("number, name, statement, instance, data_sha256, form, schema, schema_sha256")
-    tests.judge("a refusal and an answer", [(45, "Count", None, "#3", None, None, *by(SCHEMA, None)[:2]), (None, None, None, None, data, 1, *by(SCHEMA, None)[:2])], [found[5], found[2]])
-    same = "SELECT group_concat(file, ' ') FROM (SELECT * FROM files ORDER BY file) WHERE canonical_sha256 IS NOT NULL GROUP BY canonical_sha256 HAVING count(*) > 1"
-    tests.judge("what means the same", [("examples/product-other.step examples/product.step",)], sqlite3.connect(database).execute(same).fetchall())
-    plan = [row[-1] for query in ("sha256 = ''", "canonical_sha256 = ''") for row in sqlite3.connect(database).execute(f"EXPLAIN QUERY PLAN SELECT * FROM files WHERE {query}")]
-    tests.judge("what is looked up at once", ["files_by_bytes", "files_by_meaning"], [step.split("INDEX ")[1].split()[0] for step in plan])
+    listing = by(SCHEMA, None)[:2]
+    wanted = [(45, "Count", None, "#3", None, None, *listing), (None, None, None, None, data, 1, *listing)]
+    tests.judge("a refusal and an answer", wanted, [found[5], found[2]])
+    opened = sqlite3.connect(database)
+    same = "SELECT group_concat(file, ' ') FROM (SELECT * FROM files ORDER BY file) WHERE canonical_sha256 IS NOT NULL"
+    found = opened.execute(f"{same} GROUP BY canonical_sha256 HAVING count(*) > 1").fetchall()
+    tests.judge("what means the same", [("examples/product-other.step examples/product.step",)], found)
+    for column, index in (("sha256", "files_by_bytes"), ("canonical_sha256", "files_by_meaning"), ("file", "files_by_name")):
+        ((*_, plan),) = opened.execute(f"EXPLAIN QUERY PLAN SELECT * FROM files WHERE {column} = ''")
+        tests.judge(f"the index of {column}", index, plan.split("INDEX ")[1].split()[0])
+    opened.close()
     before = rows("max(checked)")
     tests.expect("the same again", [*given, "examples"], 1, [], SUMMARY)
     tests.judge("no row twice, and each anew", (13, True), (len(rows("file")), rows("min(checked)") > before))
@@ -522,10 +528,13 @@ def databases(tests):
     tests.judge("an answer at last", [gone], rows("file, why", "unanswered"))
     program = tests.rigged("rigged", 'case "$1 $*" in canon*Count.step*) sleep 1; kill -9 $PPID ;; esac')
     other = str(tests.here / "ended.db")
-    _, _, status = tests.run(["--format", "sqlite", "--database", other, "-j", "1", SCHEMA, "examples/product.step", "examples/refused/Count.step"], program=program)
+    files = ["examples/product.step", "examples/refused/Count.step"]
+    _, _, status = tests.run(["--format", "sqlite", "--database", other, "-j", "1", SCHEMA, *files], program=program)
     found = sqlite3.connect(other).execute("SELECT file FROM files").fetchall()
     tests.judge("a run that is ended", (-9, [("examples/product.step",)]), (status, found))
-    together = [subprocess.Popen(["tools/p21-table", "--format", "sqlite", "--database", f"{tests.here}/both.db", SCHEMA, folder], stderr=subprocess.DEVNULL) for folder in ("examples", "./examples/refused")]
+    words = [*RUN_BY, "tools/p21-table", "--format", "sqlite", "--database", f"{tests.here}/both.db", SCHEMA]
+    folders = ("examples", "./examples/refused")
+    together = [subprocess.Popen([*words, folder], stderr=subprocess.DEVNULL) for folder in folders]
     statuses = [run.wait() for run in together]
     found = sqlite3.connect(tests.here / "both.db").execute("SELECT count(*) FROM files").fetchall()
     tests.judge("two runs at once", ([1, 1], [(23,)]), (statuses, found))

@@ -19,7 +19,8 @@ FIRST, MOST, MOST_STATEMENTS = 1 << 16, 1 << 20, 256
 # What in a string isn't a character as it stands: a doubled sign, a character of a page, a page, the number of a character of the
 # first page, numbers of two and of four bytes, and what stands for nothing.
 SIGN = re.compile(
-    rb"''|\\\\|\\S\\([ -~])|\\P([A-I])\\|\\X\\([0-9A-F]{2})|\\X2\\((?:[0-9A-F]{4})+)\\X0\\|\\X4\\((?:[0-9A-F]{8})+)\\X0\\|[\0-\x1f\x7f]"
+    rb"''|\\\\|\\S\\([ -~])|\\P([A-I])\\|\\X\\([0-9A-F]{2})"
+    rb"|\\X2\\((?:[0-9A-F]{4})+)\\X0\\|\\X4\\((?:[0-9A-F]{8})+)\\X0\\|[\0-\x1f\x7f]"
 )
 # The parameters of FILE_NAME, of which some name programs.
 OF_FILE_NAME = [name for name, _ in dict(p21_files.HEADER)["FILE_NAME"]]

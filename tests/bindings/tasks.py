@@ -83,9 +83,9 @@ def catch(tasks):
     """A refusal with its place."""
     words = tasks.words("Catch a refusal with its place")
     tasks.judge("accepted", (b"accepted, instances 128\n", "", 0), tasks.run(words, SCHEMA, EXAMPLES / "product.step"))
-    places = {"Count": ["refused 45 Count in #3", COUNT], "SchemaName": ["refused 31 SchemaName at statement 5", "The file is of another schema than the one given."]}
+    of_schema = ["refused 31 SchemaName at statement 5", "The file is of another schema than the one given."]
     further = {"cpp": {"Count": ["the instance is #3"], "SchemaName": ["the statement is number 5"]}}
-    for name, lines in places.items():
+    for name, lines in (("Count", ["refused 45 Count in #3", COUNT]), ("SchemaName", of_schema)):
         path = EXAMPLES / "refused" / f"{name}.step"
         if tasks.language == "python":
             if not tasks.has_program:
