@@ -13,7 +13,7 @@ import sqlite3
 import subprocess
 import sys
 
-from tooling import AS_OTHERS, ROOT, RUN_BY, SCHEMA, Tests, file_of
+from tooling import AS_OTHERS, MOST_SECONDS, ROOT, RUN_BY, SCHEMA, Tests, file_of
 
 sys.path.insert(0, str(ROOT / "tools"))
 import p21_plainly as plainly  # noqa: E402  pylint: disable=wrong-import-position
@@ -671,7 +671,12 @@ def without_room(tests):
     answers = dict(zip(files, ("accepted", "refused 45 Count in #3")))
 
     def limited(kilobytes, *words):
-        done = subprocess.run(["sh", "-c", f'ulimit -v {kilobytes}; exec "$@"', "sh", *words], capture_output=True, check=False, text=True)
+        command = ["sh", "-c", f'ulimit -v {kilobytes}; exec "$@"', "sh", *words]
+        try:
+            done = subprocess.run(command, capture_output=True, check=False, text=True, timeout=MOST_SECONDS)
+        except subprocess.TimeoutExpired as ended:
+            # Python itself may never end where it has no memory for an exception in front of the tool.
+            return (ended.stdout or b"").decode(), 2
         return done.stdout, done.returncode
 
     # With less Python doesn't come to the tool.
