@@ -533,7 +533,7 @@ def databases(tests):
     found = sqlite3.connect(other).execute("SELECT file FROM files").fetchall()
     tests.judge("a run that is ended", (-9, [("examples/product.step",)]), (status, found))
     words = [*RUN_BY, "tools/p21-table", "--format", "sqlite", "--database", f"{tests.here}/both.db", SCHEMA]
-    folders = ("examples", "./examples/refused")
+    folders = ("examples", str(ROOT / "examples" / "refused"))
     together = [subprocess.Popen([*words, folder], stderr=subprocess.DEVNULL) for folder in folders]
     statuses = [run.wait() for run in together]
     found = sqlite3.connect(tests.here / "both.db").execute("SELECT count(*) FROM files").fetchall()
