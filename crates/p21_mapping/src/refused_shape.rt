@@ -7,14 +7,14 @@ use crate::key::{named, named_entities};
 use crate::members::has_all;
 use crate::positions::Positions;
 use crate::trail::Trail;
-use p21_express_graph::EntityId;
+use p21_express_graph::{EntityId, Place};
 use p21_express_tables::Schema;
 use p21_grammar_tree::{CheckFault, Part, Record};
 use p21_values::NoMemory;
 use std::alloc::Global;
 
 /// Notes the part that the shape of a record is refused for, or the first parameter too many. Where one is missing it is the
-/// one behind the last. Where memory is refused, the first part is noted.
+/// one behind the last, with its attribute. Where memory is refused, the first part is noted.
 pub(crate) fn note_refused_shape(
     alloc: Global,
     schema: &Schema,
@@ -30,19 +30,23 @@ pub(crate) fn note_refused_shape(
 
 fn note_simple(schema: &Schema, part: &Part, fault: CheckFault, trail: &mut Trail) {
     if let CheckFault::Count = fault {
-        if let Some(wanted) = wanted_of(schema, part) {
-            trail.note_value(0, part.params.items().len().min(wanted));
+        if let Some(places) = places_of(schema, part) {
+            let given = part.params.items().len();
+            if let Some(place) = places.get(given) {
+                trail.note_attribute(*place);
+            }
+            trail.note_value(0, given.min(places.len()));
             return;
         }
     }
     trail.note_part(0);
 }
 
-/// How many parameters a record of internal form has to have, if that is known.
-fn wanted_of(schema: &Schema, part: &Part) -> Option<usize> {
+/// The attributes that the parameters of a record of internal form stand for, if they are known.
+fn places_of(schema: &Schema, part: &Part) -> Option<Vec<Place>> {
     let entity = named(schema, &part.key)?;
     match schema.places(entity) {
-        Ok(places) => Some(places.len()),
+        Ok(places) => Some(places),
         Err(NoMemory) => None,
     }
 }
@@ -85,13 +89,19 @@ fn note_other_count(schema: &Schema, listed: &[EntityId], parts: &[Part], trail:
 {
     let mut number: usize = 0;
     for entity in listed {
-        let wanted = schema.attribute_count(*entity) as usize;
+        let wanted = schema.attribute_count(*entity);
         let given = match parts.get(number) {
             Some(part) => part.params.items().len(),
-            None => wanted,
+            None => wanted as usize,
         };
-        if given != wanted {
-            trail.note_value(number, given.min(wanted));
+        if given != wanted as usize {
+            if given < wanted as usize {
+                trail.note_attribute(Place {
+                    entity: *entity,
+                    index: given as u32,
+                });
+            }
+            trail.note_value(number, given.min(wanted as usize));
             return;
         }
         number = number.saturating_add(1);
