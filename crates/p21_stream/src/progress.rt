@@ -19,6 +19,7 @@ use crate::keeper::Stop;
 use crate::walk::{Walk, refused};
 use p21_express_graph::Place as AttributePlace;
 use p21_express_tables::Schema;
+use p21_mapping::Trail;
 use p21_stream_kept::Kept;
 use p21_stream_output::Accepted;
 use p21_stream_statements::{At, Fault, Place, Places, Refusal, Source, StatementReader};
@@ -116,9 +117,9 @@ impl Progress {
 
     /// The attribute whose value is refused, if a call was refused for one. It takes no memory.
     pub(crate) fn attribute(&self) -> Option<AttributePlace> {
-        match self.refused?.fault {
-            Fault::Check(_) => self.walk.workspace.trail.attribute(),
-            _ => None,
+        match self.refused {
+            Some(refusal) => attribute_of(refusal.fault, &self.walk.workspace.trail),
+            None => None,
         }
     }
 
@@ -264,6 +265,14 @@ fn place_of(fault: Fault, places: Places, noted: Option<Place>) -> Option<Place>
         Fault::NoMemory => place,
         Fault::Read => place,
         Fault::Write => place,
+    }
+}
+
+/// The attribute to which a trail leads, where a record is refused.
+fn attribute_of(fault: Fault, trail: &Trail) -> Option<AttributePlace> {
+    match fault {
+        Fault::Check(_) => trail.attribute(),
+        _ => None,
     }
 }
 
