@@ -227,7 +227,7 @@ $here/twice:9:1"
 file '#1=POINT($,1.,1.);  #2=POINT($,1.);' > "$here/placed"
 run check --where "$demo" "$here/placed"
 expect 'the place of a record behind another' 1 '' "refused 45 Count in #2
-$here/placed:8:21"
+$here/placed:8:34: POINT.Y"
 
 file '#1=POINT($,1.,1.);' '#2=point();' > "$here/placed"
 run check "$demo" "$here/placed" --where
@@ -236,7 +236,7 @@ $here/placed:9:4"
 
 run check --where "$demo" "$here/broken"
 expect 'the place of the first of two refusals' 1 '' "refused 45 Count in #1
-$here/broken:8:1"
+$here/broken:8:14: POINT.Y"
 
 file '#2=POINT($,1.,1.);;' > "$here/placed"
 run check --where "$demo" "$here/placed"

@@ -199,6 +199,7 @@ fn run_check_over<S: Read, R: Read, F: Write>(
         Some(most) => Told {
             status: check_all_command(rt.alloc(), schema, file, most, &mut output, faults),
             place: None,
+            attribute: None,
         },
         None => check_located(rt.alloc(), schema, file, &mut output, faults),
     }
@@ -214,7 +215,11 @@ fn tell_place(rt: &HostRuntime, path: &str, told: Told, lines: &LineStarts) {
         return;
     };
     let path = Shown(path);
-    let _ = eprintln!(rt; "{path}:{}:{}", position.line, position.column);
+    let (line, column) = (position.line, position.column);
+    let _ = match told.attribute {
+        Some(attribute) => eprintln!(rt; "{path}:{line}:{column}: {attribute}"),
+        None => eprintln!(rt; "{path}:{line}:{column}"),
+    };
 }
 
 /// How many refusals are listed at most, where `--all` or `--most` asks for them.

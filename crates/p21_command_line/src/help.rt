@@ -94,8 +94,9 @@ refusal ends the list, as one of bytes or of the header:
     refused 56 Dangling in #9
     refusals 2
 With --where, of one file and without --all and --most, a second line has its place, where
-it has one: file, line and column, both from 1 on, the column in bytes:
-    part.step:11:31
+it has one: file, line and column, both from 1 on, the column in bytes; and of a value of a
+record its attribute, behind the entity that declares it:
+    part.step:11:31: PERSON.ID
 With several files, or @LIST for the files that a text names, a path a line, each line has
 the name of its file in front. The schema is read once, and a file that is refused or can't
 be read doesn't end the run; the status is the highest.

@@ -13,6 +13,7 @@ use crate::answer::answer;
 use crate::fault::{CommandFault, report};
 use crate::file_fault::fault_of;
 use crate::load::load_schema;
+use p21_express_graph::Place as AttributePlace;
 use p21_express_tables::Schema;
 use p21_stream::{Place, Watched, count_located};
 use p21_values::Limits;
@@ -20,12 +21,14 @@ use std::alloc::{AllocError, Global};
 use std::io::{Read, Write};
 
 /// How a check ends.
-#[derive(Clone, Copy, Debug)]
+#[derive(Debug, Drop)]
 pub struct Told {
     /// The exit status.
     pub status: u8,
     /// Where the file is refused, if that has a place.
     pub place: Option<Place>,
+    /// The attribute whose value is refused, if it is one, behind the entity that declares it: `ENTITY.ATTRIBUTE`.
+    pub attribute: Option<String>,
 }
 
 /// Reads a schema and a file, and writes to `output` how many instances the file has and how many bytes its canonical
@@ -71,6 +74,7 @@ pub fn check_located<S: Read, R: Read, W: Write, F: Write>(
         Err(fault) => Told {
             status: report(&fault, faults),
             place: None,
+            attribute: None,
         },
     }
 }
@@ -110,6 +114,7 @@ fn check_file_located<R: Read, W: Write, F: Write>(
             return Told {
                 status: report(&fault_of(alloc, "", located.refusal), faults),
                 place: located.place,
+                attribute: name_of(alloc, schema, located.attribute),
             };
         }
     };
@@ -117,12 +122,28 @@ fn check_file_located<R: Read, W: Write, F: Write>(
         Ok(line) => Told {
             status: answer(line.as_bytes(), output, faults),
             place: None,
+            attribute: None,
         },
         Err(AllocError) => Told {
             status: report(&CommandFault::NoMemory, faults),
             place: None,
+            attribute: None,
         },
     }
+}
+
+/// An attribute of the schema behind the entity that declares it. None where it is none of the schema, or memory is refused.
+fn name_of(alloc: Global, schema: &Schema, of: Option<AttributePlace>) -> Option<String> {
+    let place = of?;
+    if place.entity.0 as usize >= schema.entities() {
+        return None;
+    }
+    if place.index >= schema.attribute_count(place.entity) {
+        return None;
+    }
+    let entity = str::from_utf8(schema.entity_name(place.entity)).ok()?;
+    let attribute = str::from_utf8(schema.place_name(place)).ok()?;
+    format!(in alloc; "{entity}.{attribute}").ok()
 }
 
 /// The line of a file that is accepted, by how many instances it has and how many bytes its canonical file.

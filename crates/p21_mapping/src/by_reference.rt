@@ -3,6 +3,7 @@ ghost use Rattle.p21_mapping.specs.Checked.{ChecksRecord};
 
 use crate::check::check_owned_record;
 use crate::record::copied_record;
+use crate::trail::Trail;
 use p21_express_tables::Schema;
 use p21_grammar_tree::{CheckFault, Record};
 use p21_mapping_values::{Need, Typed};
@@ -22,5 +23,5 @@ pub fn check_record<'a>(
     ensures { ChecksRecord schema.now (record_view of.now) result }
 {
     let copy = copied_record(alloc, of)?;
-    check_owned_record(alloc, schema, copy)
+    check_owned_record(alloc, schema, copy, &mut Trail::new())
 }

@@ -19,7 +19,9 @@ ghost use Rattle.p21_spec_schema.specs.WellFormed.{IsWellFormed};
 use crate::arranged_rows::arranged_rows;
 use crate::fitted::{EntitySet, complex_rows, simple_rows};
 use crate::positions::Positions;
+use crate::refused_shape::note_refused_shape;
 use crate::shape::{Shape, shape_of};
+use crate::trail::Trail;
 use p21_express_graph::EntityId;
 use p21_express_tables::Schema;
 use p21_grammar_tree::{CheckFault, Record};
@@ -29,24 +31,30 @@ use std::alloc::Global;
 
 /// Checks a record against a schema, and moves its texts, numbers and names into the typed record that it means (ISO
 /// 10303-21, Mapping of EXPRESS entity data types: internal mapping, external mapping). It also answers what the record
-/// needs of the instances that it refers to, in the order in which it names them.
+/// needs of the instances that it refers to, in the order in which it names them. The trail then leads to the value that is
+/// refused, if one is.
 ///
 /// # Errors
 ///
 /// In this order: `UnknownEntity`, `PartTwice`, `PartMissing`, `Abstract`, `OneOf`, `TwoRedeclarations`, `Count`; then the
 /// fault of the first parameter that doesn't fit its place. `NoMemory`.
-pub fn check_owned_record(
+pub fn check_owned_record<'a>(
     alloc: Global,
-    schema: &Schema,
+    schema: &'a Schema,
     of: Record,
-) -> Result<(Typed<'_>, Vec<Need>), CheckFault>
+    trail: &mut Trail,
+) -> Result<(Typed<'a>, Vec<Need>), CheckFault>
     ensures { ChecksRecord schema.now (record_view of) result }
 {
+    trail.clear();
     schema.well_formed();
     schema.holds_together();
     match shape_of(alloc, schema, &of) {
-        Ok(shape) => check_with_shape(alloc, schema, shape, of),
-        Err(fault) => Err(fault),
+        Ok(shape) => check_with_shape(alloc, schema, shape, of, trail),
+        Err(fault) => {
+            note_refused_shape(alloc, schema, &of, fault, trail);
+            Err(fault)
+        }
     }
 }
 
@@ -56,6 +64,7 @@ fn check_with_shape<'a>(
     schema: &'a Schema,
     shape: Shape<'a>,
     of: Record,
+    trail: &mut Trail,
 ) -> Result<(Typed<'a>, Vec<Need>), CheckFault>
     requires formed { IsWellFormed schema.now }
     requires holds { HoldsTogether schema.now }
@@ -74,7 +83,7 @@ fn check_with_shape<'a>(
             own,
             entities: positions,
         };
-        match rows_of(alloc, &set, in_order, of, &mut needs) {
+        match rows_of(alloc, &set, in_order, of, &mut needs, trail) {
             Ok(rows) => rows,
             Err(fault) => return Err(fault),
         }
@@ -108,6 +117,7 @@ fn rows_of(
     listed: &[EntityId],
     of: Record,
     needs: &mut Vec<Need>,
+    trail: &mut Trail,
 ) -> Result<Vec<Values>, CheckFault>
     requires holds { HoldsTogether set.now.schema.now }
     requires formed { IsWellFormed set.now.schema.now }
@@ -118,8 +128,10 @@ fn rows_of(
     match of {
         Record::Simple(part) => {
             let params = part.params.into_items();
-            simple_rows(alloc, set, listed, params, needs)
+            simple_rows(alloc, set, listed, params, needs, trail)
         }
-        Record::Complex(parts) => complex_rows(alloc, set, listed, parts.into_items(), needs),
+        Record::Complex(parts) => {
+            complex_rows(alloc, set, listed, parts.into_items(), needs, trail)
+        }
     }
 }

@@ -8,11 +8,13 @@ ghost use Rattle.p21_mapping_values.specs.SplitTexts.{joined, lengths_of};
 ghost use Rattle.p21_mapping.specs.PresentTexts.{one, present_texts};
 
 use crate::aggregate::is_unique;
+use crate::trail::Trail;
 use p21_express_graph::TypeUse;
 use p21_express_tables::Schema;
 use p21_mapping_values::{Value, are_distinct, write_value};
 use p21_values::NoMemory;
 use std::alloc::Global;
+use std::collections::BTreeSet;
 
 /// Whether no two elements of an aggregate are the same, where no two may be the same.
 ///
@@ -56,6 +58,36 @@ fn are_different(alloc: Global, schema: &Schema, values: &[Value]) -> Result<boo
         append_present(schema, value, &mut bytes, &mut lengths)?;
     }
     are_distinct(alloc, &bytes, &lengths)
+}
+
+/// Notes the first element that is the same as one before it. Where memory is refused, none is noted.
+pub(crate) fn note_equal(alloc: Global, schema: &Schema, values: &[Value], trail: &mut Trail)
+    requires { HaveKnownTypes schema.now (views values.now) }
+{
+    if let Ok(Some(element)) = second_of_two(alloc, schema, values) {
+        trail.note_element(element);
+    }
+}
+
+/// The first element that is the same as one before it, by their texts.
+fn second_of_two(
+    alloc: Global,
+    schema: &Schema,
+    values: &[Value],
+) -> Result<Option<usize>, NoMemory>
+    requires { HaveKnownTypes schema.now (views values.now) }
+{
+    let mut seen = BTreeSet::new(alloc);
+    let mut element: usize = 0;
+    for value in values {
+        let (mut text, mut lengths) = (Vec::new(alloc), Vec::new(alloc));
+        append_present(schema, value, &mut text, &mut lengths)?;
+        if !lengths.is_empty() && !seen.insert(text)? {
+            return Ok(Some(element));
+        }
+        element = element.saturating_add(1);
+    }
+    Ok(None)
 }
 
 /// Appends the text of a value behind other texts, where there is a value.

@@ -19,6 +19,7 @@ ghost use Rattle.p21_spec_schema.specs.Schema.{attributes_of};
 use crate::among::type_among;
 use crate::place::fit_place;
 use crate::positions::Positions;
+use crate::trail::Trail;
 use p21_express_graph::{EntityId, Place, PlaceType};
 use p21_express_tables::Schema;
 use p21_grammar_tree::{CheckFault, Param, Part};
@@ -59,6 +60,7 @@ fn fit_here(
     place: Place,
     param: Param,
     needs: &mut Vec<Need>,
+    trail: &mut Trail,
 ) -> Result<Value, CheckFault>
     requires own { IsOwnClosure set.now.schema.now set.now.own set.now.entities }
     requires entities { AreEntities set.now.schema.now set.now.entities }
@@ -68,7 +70,7 @@ fn fit_here(
 {
     set.schema.holds_together();
     let at = type_here(alloc, set, place)?;
-    let found = fit_place(alloc, set.schema, at, param, needs);
+    let found = fit_place(alloc, set.schema, at, param, needs, trail);
     found
 }
 
@@ -80,6 +82,7 @@ pub(crate) fn fit_row(
     owner: EntityId,
     params: &mut Vec<Param>,
     needs: &mut Vec<Need>,
+    trail: &mut Trail,
 ) -> Result<Values, CheckFault>
     requires own { IsOwnClosure set.now.schema.now set.now.own set.now.entities }
     requires entities { AreEntities set.now.schema.now set.now.entities }
@@ -98,9 +101,12 @@ pub(crate) fn fit_row(
             entity: owner,
             index,
         };
-        match fit_here(alloc, set, place, param, needs) {
+        match fit_here(alloc, set, place, param, needs, trail) {
             Ok(value) => values.push(value)?,
-            Err(fault) => return Err(fault),
+            Err(fault) => {
+                trail.note_attribute(place);
+                return Err(fault);
+            }
         }
     }
     Ok(Values::from_vec(values))
@@ -113,6 +119,7 @@ pub(crate) fn simple_rows(
     listed: &[EntityId],
     params: Vec<Param>,
     needs: &mut Vec<Need>,
+    trail: &mut Trail,
 ) -> Result<Vec<Values>, CheckFault>
     requires own { IsOwnClosure set.now.schema.now set.now.own set.now.entities }
     requires entities { AreEntities set.now.schema.now set.now.entities }
@@ -121,13 +128,17 @@ pub(crate) fn simple_rows(
     requires each { length params.items ≡ length (flat_map (own_places set.now.schema.now) (numbers listed.now)) }
     ensures { MatchResult result (λ rows. TakesRows set.now.schema.now set.now.entities (numbers listed.now) (param_views params.items) [] (rows_view rows.items) (needs_view needs.old.items) (needs_view needs.new.items)) (RefusesAmong set.now.schema.now set.now.entities (zip (flat_map (own_places set.now.schema.now) (numbers listed.now)) (param_views params.items))) }
 {
+    let count = params.len();
     let mut left = params;
     left.reverse();
     let mut rows = Vec::with_capacity(alloc, listed.len())?;
     for owner in listed {
-        match fit_row(alloc, set, *owner, &mut left, needs) {
+        match fit_row(alloc, set, *owner, &mut left, needs, trail) {
             Ok(row) => rows.push(row)?,
-            Err(fault) => return Err(fault),
+            Err(fault) => {
+                trail.note_parameter(0, count, left.len());
+                return Err(fault);
+            }
         }
     }
     Ok(rows)
@@ -140,6 +151,7 @@ pub(crate) fn complex_rows(
     listed: &[EntityId],
     parts: Vec<Part>,
     needs: &mut Vec<Need>,
+    trail: &mut Trail,
 ) -> Result<Vec<Values>, CheckFault>
     requires own { IsOwnClosure set.now.schema.now set.now.own set.now.entities }
     requires entities { AreEntities set.now.schema.now set.now.entities }
@@ -155,10 +167,14 @@ pub(crate) fn complex_rows(
             unreachable!()
         };
         let mut params = part.params.into_items();
+        let count = params.len();
         params.reverse();
-        match fit_row(alloc, set, *owner, &mut params, needs) {
+        match fit_row(alloc, set, *owner, &mut params, needs, trail) {
             Ok(row) => rows.push(row)?,
-            Err(fault) => return Err(fault),
+            Err(fault) => {
+                trail.note_parameter(rows.len(), count, params.len());
+                return Err(fault);
+            }
         }
     }
     Ok(rows)

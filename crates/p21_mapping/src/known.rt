@@ -24,6 +24,7 @@ use crate::key::named;
 use crate::param::copied_param;
 use crate::place::fit_place;
 use crate::shape::check_own_set;
+use crate::trail::Trail;
 use p21_express_graph::{EntityId, PlaceType};
 use p21_express_tables::Schema;
 use p21_grammar_tree::{CheckFault, Param, Part, Record};
@@ -240,10 +241,11 @@ fn check_each(
     ensures { IfErr result (RefusesParams schema.now (map place_type types.now) (param_views params.now)) }
 {
     let mut needs = Vec::new(alloc);
+    let mut trail = Trail::new();
     for index in 0..types.len() {
         let at = same_type(&types[index]);
         let param = copied_param(alloc, &params[index])?;
-        match fit_place(alloc, schema, at, param, &mut needs) {
+        match fit_place(alloc, schema, at, param, &mut needs, &mut trail) {
             Ok(_) => {}
             Err(fault) => return Err(fault),
         }

@@ -36,9 +36,11 @@ mod place;
 mod places;
 mod positions;
 mod record;
+mod refused_shape;
 mod scalar;
 mod scalar_copies;
 mod shape;
+mod trail;
 
 pub use aggregate::{allows_count, is_unique};
 pub use bounds::is_within;
@@ -54,3 +56,4 @@ pub use p21_values::{Name, NoMemory};
 pub use param::copied_param;
 pub use record::copied_record;
 pub use shape::{check_members, check_set, has_abstract_leaf};
+pub use trail::Trail;

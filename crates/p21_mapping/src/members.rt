@@ -51,7 +51,7 @@ pub(crate) fn is_closed(schema: &Schema, positions: &Positions<'_>) -> bool
 }
 
 /// Whether entities have all others.
-fn has_all(positions: &Positions<'_>, others: &[EntityId]) -> bool
+pub(crate) fn has_all(positions: &Positions<'_>, others: &[EntityId]) -> bool
     ensures { MatchBool result ((f : ℕ) → Contains (numbers others.now) f → Contains positions.now f) ((f : ℕ) × Contains (numbers others.now) f × (Contains positions.now f → ⊥)) }
 {
     for other in others {

@@ -9,9 +9,10 @@ ghost use Rattle.p21_mapping.specs.Choosing.{IsBaseIn};
 ghost use Rattle.p21_mapping.specs.Outcome.{ElementOrBreaks, ElementsOrBreak, FitsFrom, FitsOrBreaks, FitsPlaceOrBreaks, IsStoredIn};
 
 use crate::aggregate::{aggregate_of, allows_count, element};
-use crate::distinct::keeps_unique;
+use crate::distinct::{keeps_unique, note_equal};
 use crate::instance::{chosen, fit_name};
 use crate::scalar::{fit_bits, fit_item, fit_real, fit_text, fit_whole, other_kind};
+use crate::trail::{Trail, noted};
 use p21_express_graph::{PlaceType, TypeUse};
 use p21_express_tables::{Base, Schema};
 use p21_grammar_tree::{CheckFault, Key, Param, Params};
@@ -35,6 +36,7 @@ pub(crate) fn fit_place(
     at: PlaceType<'_>,
     param: Param,
     needs: &mut Vec<Need>,
+    trail: &mut Trail,
 ) -> Result<Value, CheckFault>
     requires { IsStoredIn schema.now (place_type at) }
     ensures { FitsPlaceOrBreaks schema.now (place_type at.entry) (view param) needs.old.items result needs.new.items }
@@ -47,7 +49,9 @@ pub(crate) fn fit_place(
                 Err(CheckFault::DerivedNotStar)
             }
         }
-        PlaceType::Stored(optional, of) => fit_stored(alloc, schema, param, optional, of, needs),
+        PlaceType::Stored(optional, of) => {
+            fit_stored(alloc, schema, param, optional, of, needs, trail)
+        }
         PlaceType::Two => Err(CheckFault::TwoRedeclarations),
     }
 }
@@ -68,6 +72,7 @@ fn fit_stored(
     optional: bool,
     of: &TypeUse,
     needs: &mut Vec<Need>,
+    trail: &mut Trail,
 ) -> Result<Value, CheckFault>
     requires { IsTypeUse schema.now (type_use of.now) }
     ensures { ElementOrBreaks schema.now optional (type_use of.now) (view param) needs.old.items result needs.new.items }
@@ -75,7 +80,7 @@ fn fit_stored(
     if is_left_out(optional, &param) {
         return Ok(Value::Missing);
     }
-    fit(alloc, schema, param, of, needs)
+    fit(alloc, schema, param, of, needs, trail)
 }
 
 /// Whether the parameter is `$`, where there may be no value.
@@ -106,6 +111,7 @@ fn fit(
     param: Param,
     of: &TypeUse,
     needs: &mut Vec<Need>,
+    trail: &mut Trail,
 ) -> Result<Value, CheckFault>
     requires { IsTypeUse schema.now (type_use of.now) }
     ensures { FitsOrBreaks schema.now (type_use of.now) (view param) needs.old.items result needs.new.items }
@@ -120,7 +126,7 @@ fn fit(
         Param::Bits(bits) => fit_bits(base, bits),
         Param::Item(word) => fit_item(base, word),
         Param::Name(name) => fit_name(schema, base, name, needs),
-        Param::List(params) => fit_list(alloc, schema, params, base, needs),
+        Param::List(params) => fit_list(alloc, schema, params, base, needs, trail),
         Param::Tagged(key, inner) => fit_tagged(
             alloc,
             schema,
@@ -128,6 +134,7 @@ fn fit(
             key,
             base,
             needs,
+            trail,
         ),
     }
 }
@@ -140,6 +147,7 @@ fn fit_list(
     params: Params,
     base: Base<'_>,
     needs: &mut Vec<Need>,
+    trail: &mut Trail,
 ) -> Result<Value, CheckFault>
     requires { IsBaseIn schema.now base }
     ensures { FitsFrom schema.now base.entry (parameter.list (views (items_of params))) needs.old.items result needs.new.items }
@@ -153,8 +161,10 @@ fn fit_list(
     if !allows_count(of, params.items().len()) {
         return Err(CheckFault::Bounds);
     }
-    let values = fit_each(alloc, schema, params.into_items(), optional, element, needs)?;
+    let params = params.into_items();
+    let values = fit_each(alloc, schema, params, optional, element, needs, trail)?;
     if !keeps_unique(alloc, schema, of, &values)? {
+        note_equal(alloc, schema, &values, trail);
         return Err(CheckFault::NotDistinct);
     }
     Ok(aggregate_of(of, Values::from_vec(values)))
@@ -169,6 +179,7 @@ fn fit_each(
     optional: bool,
     of: &TypeUse,
     needs: &mut Vec<Need>,
+    trail: &mut Trail,
 ) -> Result<Vec<Value>, CheckFault>
     requires { IsTypeUse schema.now (type_use of.now) }
     ensures { ElementsOrBreak schema.now optional (type_use of.now) (views params.items) needs.old.items result needs.new.items }
@@ -177,7 +188,8 @@ fn fit_each(
     let mut left = params;
     left.reverse();
     while let Some(param) = last_taken(&mut left) {
-        let value = fit_stored(alloc, schema, param, optional, of, needs)?;
+        let found = fit_stored(alloc, schema, param, optional, of, needs, trail);
+        let value = noted(found, trail, values.len())?;
         values.push(value)?;
     }
     Ok(values)
@@ -203,6 +215,7 @@ fn fit_tagged(
     key: Key,
     base: Base<'_>,
     needs: &mut Vec<Need>,
+    trail: &mut Trail,
 ) -> Result<Value, CheckFault>
     requires { IsBaseIn schema.now base }
     ensures { FitsFrom schema.now base.entry (parameter.typed (key_view key) (view inner)) needs.old.items result needs.new.items }
@@ -210,6 +223,14 @@ fn fit_tagged(
     let Some(chosen) = chosen(schema, &base, &key) else {
         return Err(other_kind(base));
     };
-    let value = fit(alloc, schema, inner, &TypeUse::Defined(chosen), needs)?;
+    let found = fit(
+        alloc,
+        schema,
+        inner,
+        &TypeUse::Defined(chosen),
+        needs,
+        trail,
+    );
+    let value = noted(found, trail, 0)?;
     Ok(Value::Tagged(chosen, Box::new(alloc, value)?))
 }

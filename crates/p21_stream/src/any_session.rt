@@ -13,6 +13,7 @@ ghost use Rattle.p21_stream.specs.Inside.{held_of};
 use crate::counting::Counted;
 use crate::held::Held;
 use crate::progress::Progress;
+use p21_express_graph::Place as AttributePlace;
 use p21_express_tables::Schema;
 use p21_stream_kept::Kept;
 use p21_stream_output::Accepted;
@@ -136,6 +137,11 @@ impl<'s> AnySession<'s> {
         ensures { HasPlaceOf self.now result }
     {
         self.progress.place()
+    }
+
+    /// The attribute whose value is refused, if a call was refused for one. It takes no memory.
+    pub(crate) fn attribute(&self) -> Option<AttributePlace> {
+        self.progress.attribute()
     }
 
     /// Where the session stands in the file: by `Place::of` it says where a refusal of `finish` stands. It takes no memory.

@@ -102,6 +102,7 @@ pub fn same_meaning_located<R: Read, S: Read>(
                 let located = Located {
                     refusal: no_memory,
                     place: None,
+                    attribute: None,
                 };
                 Err((Which::Second, located))
             }
@@ -136,8 +137,11 @@ fn read_whole<R: Read>(
     match feed_all(&mut session, reader, limits.file_source()) {
         Ok(()) => {}
         Err(refusal) => {
-            let place = session.place();
-            return Err(Located { refusal, place });
+            return Err(Located {
+                refusal,
+                place: session.place(),
+                attribute: session.attribute(),
+            });
         }
     }
     let places = session.places();
@@ -145,8 +149,11 @@ fn read_whole<R: Read>(
     match session.whole() {
         Ok(kept) => Ok((kept, no_memory)),
         Err(refusal) => {
-            let place = Place::of(refusal.fault, places);
-            Err(Located { refusal, place })
+            Err(Located {
+                refusal,
+                place: Place::of(refusal.fault, places),
+                attribute: None,
+            })
         }
     }
 }

@@ -1,3 +1,4 @@
+use p21_express_graph::Place as AttributePlace;
 use p21_stream_statements::{Place, Refusal};
 
 /// Why a file is refused, and where in it this stands.
@@ -6,4 +7,6 @@ pub struct Located {
     pub refusal: Refusal,
     /// Want of memory, a read, a write and a reference have none.
     pub place: Option<Place>,
+    /// The attribute whose value is refused, by the entity that declares it: only a value of a record has one.
+    pub attribute: Option<AttributePlace>,
 }

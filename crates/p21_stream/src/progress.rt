@@ -17,7 +17,9 @@ use crate::counting::Counted;
 use crate::held::Held;
 use crate::keeper::Stop;
 use crate::walk::{Walk, refused};
+use p21_express_graph::Place as AttributePlace;
 use p21_express_tables::Schema;
+use p21_mapping::Trail;
 use p21_stream_kept::Kept;
 use p21_stream_output::Accepted;
 use p21_stream_statements::{At, Fault, Place, Places, Refusal, Source, StatementReader};
@@ -87,7 +89,13 @@ impl Progress {
             Ok(()) => Ok(()),
             Err(stop) => match stop {
                 Stop::Refused(refusal) => {
-                    self.noted = inside(self.alloc, &self.walk.source, refusal.fault, refusal.at);
+                    self.noted = inside(
+                        self.alloc,
+                        &self.walk.source,
+                        refusal.fault,
+                        refusal.at,
+                        self.walk.workspace.trail.steps(),
+                    );
                     self.walk.kept = Kept::new(self.alloc);
                     self.refused = Some(refusal);
                     self.answered()
@@ -103,6 +111,14 @@ impl Progress {
     {
         match self.refused {
             Some(refusal) => place_of(refusal.fault, self.walk.statements.places(), self.noted),
+            None => None,
+        }
+    }
+
+    /// The attribute whose value is refused, if a call was refused for one. It takes no memory.
+    pub(crate) fn attribute(&self) -> Option<AttributePlace> {
+        match self.refused {
+            Some(refusal) => attribute_of(refusal.fault, &self.walk.workspace.trail),
             None => None,
         }
     }
@@ -220,9 +236,15 @@ impl Progress {
     }
 }
 
-/// The place of a refusal inside its statement, if it has one.
-fn inside(alloc: Global, statement: &Source, fault: Fault, at: At) -> Option<Place> {
-    statement.place_of(alloc, Refusal { fault, at })
+/// The place of a refusal inside its statement, if it has one. In a record these steps lead there.
+fn inside(
+    alloc: Global,
+    statement: &Source,
+    fault: Fault,
+    at: At,
+    steps: &[usize],
+) -> Option<Place> {
+    statement.place_of(alloc, Refusal { fault, at }, steps)
 }
 
 /// The place of a refusal, by where its reader stands and by what was noted of its statement.
@@ -243,6 +265,14 @@ fn place_of(fault: Fault, places: Places, noted: Option<Place>) -> Option<Place>
         Fault::NoMemory => place,
         Fault::Read => place,
         Fault::Write => place,
+    }
+}
+
+/// The attribute to which a trail leads, where a record is refused.
+fn attribute_of(fault: Fault, trail: &Trail) -> Option<AttributePlace> {
+    match fault {
+        Fault::Check(_) => trail.attribute(),
+        _ => None,
     }
 }
 

@@ -75,16 +75,22 @@ pub fn accept_located<R: Read>(
     match feed_all(&mut session, reader, limits.file_source()) {
         Ok(()) => {}
         Err(refusal) => {
-            let place = session.place();
-            return Err(Located { refusal, place });
+            return Err(Located {
+                refusal,
+                place: session.place(),
+                attribute: session.attribute(),
+            });
         }
     }
     let places = session.places();
     match session.finish() {
         Ok(accepted) => Ok(accepted),
         Err(refusal) => {
-            let place = Place::of(refusal.fault, places);
-            Err(Located { refusal, place })
+            Err(Located {
+                refusal,
+                place: Place::of(refusal.fault, places),
+                attribute: None,
+            })
         }
     }
 }

@@ -7,6 +7,7 @@ ghost use Rattle.p21_stream.specs.Inside.{held_of};
 
 use crate::any_session::AnySession;
 use crate::held::Held;
+use p21_express_graph::Place as AttributePlace;
 use p21_express_tables::Schema;
 use p21_stream_output::Accepted;
 use p21_stream_statements::{Fault, Place, Places, Refusal};
@@ -84,6 +85,11 @@ impl<'s> Session<'s> {
         ensures { HasPlaceOf self.now result }
     {
         self.session.place()
+    }
+
+    /// The attribute whose value is refused, if a call was refused for one. It takes no memory.
+    pub fn attribute(&self) -> Option<AttributePlace> {
+        self.session.attribute()
     }
 
     /// Where the session stands in the file: by `Place::of` it says where a refusal of `finish` stands. It takes no memory.

@@ -79,16 +79,22 @@ fn canonical_of(
     match session.feed(text) {
         Ok(()) => {}
         Err(refusal) => {
-            let place = session.place();
-            return Err(Located { refusal, place });
+            return Err(Located {
+                refusal,
+                place: session.place(),
+                attribute: session.attribute(),
+            });
         }
     }
     let places = session.places();
     let accepted = match session.finish() {
         Ok(accepted) => accepted,
         Err(refusal) => {
-            let place = Place::of(refusal.fault, places);
-            return Err(Located { refusal, place });
+            return Err(Located {
+                refusal,
+                place: Place::of(refusal.fault, places),
+                attribute: None,
+            });
         }
     };
     match text_of(alloc, &accepted) {
@@ -96,6 +102,7 @@ fn canonical_of(
         Err(refusal) => Err(Located {
             refusal,
             place: None,
+            attribute: None,
         }),
     }
 }

@@ -82,6 +82,7 @@ pub fn rewrite_located<R: Read, W: Write>(
         Err(refusal) => Err(Located {
             refusal,
             place: None,
+            attribute: None,
         }),
     }
 }

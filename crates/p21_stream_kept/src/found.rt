@@ -45,7 +45,7 @@ pub(crate) fn find_instance<'a>(
     ensures kind { IfErr result (λ fault. IsOfStatement fault) }
 {
     let alloc = *workspace.line.allocator();
-    let (typed, needs) = match check_owned_record(alloc, schema, of) {
+    let (typed, needs) = match check_owned_record(alloc, schema, of, &mut workspace.trail) {
         Ok(checked) => checked,
         Err(fault) => return Err(Fault::from(fault)),
     };

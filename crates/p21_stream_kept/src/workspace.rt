@@ -9,6 +9,7 @@
 ghost use Rattle.std.specs.Prelude.{◌≡◌, ◌<◌, ◌≤◌, []};
 ghost use Rattle.std.specs.Vec.{vec_capacity};
 
+use p21_mapping::Trail;
 use std::alloc::Global;
 
 /// The most room in bytes that the line of an instance keeps for the next one.
@@ -19,6 +20,8 @@ const LINE_ROOM: usize = 65_536;
 pub struct Workspace {
     /// The canonical line of the instance that was checked last.
     pub line: Vec<u8>,
+    /// Where the record of the instance was refused that was checked last.
+    pub trail: Trail,
 }
 
 impl Workspace {
@@ -29,6 +32,7 @@ impl Workspace {
     {
         Workspace {
             line: Vec::new(alloc),
+            trail: Trail::new(),
         }
     }
 

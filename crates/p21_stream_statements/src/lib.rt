@@ -16,6 +16,7 @@ mod header_places;
 mod marks;
 mod parameters;
 mod place;
+mod record_places;
 mod refusal;
 mod source;
 mod statement_reader;

@@ -16,6 +16,16 @@ impl<'a> Parameters<'a> {
         }
     }
 
+    /// Those of a list, or that of a typed parameter.
+    pub(crate) fn within(value: &'a [Mark]) -> Parameters<'a> {
+        match value.first() {
+            Some(first) if first.sign == Sign::Left => Parameters {
+                rest: value.get(1..).unwrap_or(&[]),
+            },
+            _ => Parameters::of(value),
+        }
+    }
+
     /// The tokens of the next parameter, if there is one more.
     pub(crate) fn next(&mut self) -> Option<&'a [Mark]> {
         let count = tokens_of_parameter(self.rest);

@@ -4,11 +4,16 @@ ghost use Rattle.std.specs.Prelude.{◌≤◌, length};
 use crate::fault::Fault;
 use crate::header_places::{header_place, schema_place, section_place};
 use crate::place::Place;
+use crate::record_places::record_place;
 use crate::refusal::{At, Refusal};
 use p21_grammar::GrammarFault;
 use p21_tokens::Places;
 use p21_values::NoMemory;
 use std::alloc::{AllocError, Global};
+
+/// The most bytes of an instance that are kept behind a piece: more are given up, and then a refusal has the place of the
+/// instance alone.
+const MOST_OF_AN_INSTANCE: usize = 65_536;
 
 /// The bytes of a statement that is open behind a piece, or of the one that is refused.
 #[derive(Drop)]
@@ -33,19 +38,21 @@ impl Source {
     /// Behind a piece: of the statement that is open there, if one is, what the piece has of it is kept.
     pub fn pass(&mut self, piece: &[u8], places: Places, is_open: bool) {
         if is_open {
-            self.take(piece, places);
+            self.gather(piece, places, MOST_OF_AN_INSTANCE);
         } else {
-            self.bytes.clear();
-            self.bytes.shrink_to_fit();
-            self.start = None;
+            self.give_up();
             self.taken = places.byte;
         }
     }
 
-    /// Takes what the bytes of a piece up to a place have of the last statement, unless it is an instance, in which nothing is
-    /// looked for.
-    #[inline(never)]
+    /// Takes what the bytes of a piece up to a place have of the last statement.
     pub fn take(&mut self, piece: &[u8], places: Places) {
+        self.gather(piece, places, usize::MAX);
+    }
+
+    /// Takes what the bytes of a piece up to a place have of the last statement, unless it is an instance of more bytes than these.
+    #[inline(never)]
+    fn gather(&mut self, piece: &[u8], places: Places, most: usize) {
         let before = self.taken;
         self.taken = places.byte;
         let count = offset_in(piece, before, places.byte);
@@ -57,30 +64,38 @@ impl Source {
             self.start = Some(places.statement);
             &front[offset_in(front, before, places.statement)..]
         };
-        if self.bytes.is_empty() && is_of_instance(bytes) {
-            self.start = None;
-        }
         if self.start.is_none() {
             return;
         }
         if let Err(AllocError) = self.bytes.extend_from_slice(bytes) {
             self.start = None;
         }
+        if is_of_instance(&self.bytes) && self.bytes.len() > most {
+            self.give_up();
+        }
+    }
+
+    /// Keeps nothing of the statement.
+    fn give_up(&mut self) {
+        self.bytes.clear();
+        self.bytes.shrink_to_fit();
+        self.start = None;
     }
 
     /// The place of a refusal of the statement whose bytes these are, if it is one that stands inside: none where memory is
-    /// refused.
-    pub fn place_of(&self, alloc: Global, refusal: Refusal) -> Option<Place> {
-        let At::Statement(number) = refusal.at else {
-            return None;
-        };
+    /// refused. In the record of an instance these steps lead from what is refused up to the record: the numbers of the elements
+    /// around it, where the value of a typed parameter is its element 0, that of its parameter, and that of its part.
+    pub fn place_of(&self, alloc: Global, refusal: Refusal, steps: &[usize]) -> Option<Place> {
         let start = self.start?;
-        match offset_of(alloc, refusal.fault, number, &self.bytes) {
-            Some(Ok(offset)) => Some(Place {
+        let found = match refusal.at {
+            At::Statement(number) => offset_of(alloc, refusal.fault, number, &self.bytes)?,
+            At::Instance(_) => offset_in_record(alloc, refusal.fault, &self.bytes, steps)?,
+        };
+        match found {
+            Ok(offset) => Some(Place {
                 byte: start.saturating_add(offset),
             }),
-            Some(Err(NoMemory)) => None,
-            None => None,
+            Err(NoMemory) => None,
         }
     }
 }
@@ -114,6 +129,22 @@ fn offset_of(
         }
         Fault::SchemaName => Some(schema_place(alloc, statement)),
         Fault::SectionTwice => Some(section_place(alloc, statement)),
+        _ => None,
+    }
+}
+
+/// How many bytes of an instance stand in front of what its record is refused for.
+fn offset_in_record(
+    alloc: Global,
+    fault: Fault,
+    instance: &[u8],
+    steps: &[usize],
+) -> Option<Result<u64, NoMemory>> {
+    match fault {
+        Fault::Check(_) => match record_place(alloc, instance, steps) {
+            Ok(found) => Some(Ok(found?)),
+            Err(NoMemory) => Some(Err(NoMemory)),
+        },
         _ => None,
     }
 }

@@ -18,7 +18,7 @@ use p21_canon::write_record;
 use p21_express::read_schema;
 use p21_express_tables::Schema;
 use p21_grammar::{Event, Lexer, Limits, Name, Parser, Record, Token};
-use p21_mapping::{CheckFault, check_owned_record, check_record};
+use p21_mapping::{CheckFault, Trail, check_owned_record, check_record};
 use std::alloc::Global;
 use std::process::Abort;
 
@@ -147,7 +147,7 @@ fn append_moved(
     record: Record,
     out: &mut Vec<u8>,
 ) -> Result<(), CheckFault> {
-    let (typed, _needs) = check_owned_record(alloc, schema, record)?;
+    let (typed, _needs) = check_owned_record(alloc, schema, record, &mut Trail::new())?;
     write_record(schema, name, &typed, out)?;
     Ok(())
 }

@@ -2,7 +2,7 @@ use super::schemas::{DEMO, LINKS};
 use super::*;
 use p21_express_graph::Member;
 use p21_grammar::Canonical;
-use p21_mapping::{Need, check_owned_record, serves};
+use p21_mapping::{Need, Trail, check_owned_record, serves};
 
 /// What may be wanted in the tables here.
 const WANTED: [&str; 5] = ["POINT", "ITEM", "NODE", "TARGET", "OTHER"];
@@ -49,7 +49,7 @@ fn needs(alloc: Global, schema: &Schema, record: &Record, wanted: &str) -> bool 
 
 /// The same by the check that takes the record.
 fn needs_moved(alloc: Global, schema: &Schema, record: Record, wanted: &str) -> bool {
-    match check_owned_record(alloc, schema, record) {
+    match check_owned_record(alloc, schema, record, &mut Trail::new()) {
         Ok((_typed, needs)) => are_needs(alloc, schema, &needs, wanted),
         Err(_) => false,
     }

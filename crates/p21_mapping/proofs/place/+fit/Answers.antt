@@ -70,26 +70,26 @@ fit_tagged-returns-in_default t c = key_refused c.args.schema.now c.args.base (k
 pub fit_tagged-returns-in_err-value : goal.fit_tagged-returns-in_err-value
 fit_tagged-returns-in_err-value t c =
     let p = err_from_is_err_and c.from_residual.result c.from_residual.ensures.1 in
-    rw (p.1, p.2) (chosen_broken c.args.schema.now c.args.base (key_view c.args.key) c.in-Some.chosen (view c.args.inner) _ [] [] c.in-Some.ensures.decides c.in_err-value.ensures)
+    rw (p.1, p.2) (chosen_broken c.args.schema.now c.args.base (key_view c.args.key) c.in-Some.chosen (view c.args.inner) _ [] [] c.in-Some.ensures.decides (rw (sym c.in_err-value.ensures) at c.fit-found.ensures))
 
 pub fit_tagged-returns : goal.fit_tagged-returns
-fit_tagged-returns t c = chosen_at c.args.schema.now c.args.base (key_view c.args.key) c.in-Some.chosen (view c.args.inner) _ _ c.in_ok-value.value c.in_ok-new.field-0 c.in-Some.ensures.decides c.in-Some.ensures.known c.in_ok-value.ensures c.in_ok-new.ensures.ok
+fit_tagged-returns t c = chosen_at c.args.schema.now c.args.base (key_view c.args.key) c.in-Some.chosen (view c.args.inner) _ _ c.in_ok-value.value c.in_ok-new.field-0 c.in-Some.ensures.decides c.in-Some.ensures.known (rw (sym c.in_ok-value.ensures) at c.fit-found.ensures) c.in_ok-new.ensures.ok
 
 pub fit_list-returns-in_err-values : goal.fit_list-returns-in_err-values
 fit_list-returns-in_err-values t c =
     let p = err_from_is_err_and c.from_residual.result c.from_residual.ensures.1 in
-    rw (p.1, p.2) (element_broken c.args.schema.now c.args.base c.in-Plain.of (views (items_of c.args.params)) _ _ _ [] [] c.in-Plain.is c.in-Some.ensures (rw c.into_items.ensures at c.in_err-values.ensures))
+    rw (p.1, p.2) (element_broken c.args.schema.now c.args.base c.in-Plain.of (views (items_of c.args.params)) _ _ _ [] [] c.in-Plain.is c.in-Some.ensures (rw c.into_items-params.ensures at c.in_err-values.ensures))
 
 pub fit_list-returns-then-not-branch : goal.fit_list-returns-then-not-branch
-fit_list-returns-then-not-branch t c = same_broken c.args.schema.now c.args.base c.in-Plain.of (views (items_of c.args.params)) _ _ _ [] _ c.in_ok-values.values c.in-Plain.is c.in-Some.ensures (rw c.into_items.ensures at c.in_ok-values.ensures) (λ keeps. let yes = c.in_ok-keeps_unique.ensures.1 (rw c.deref.ensures.value keeps) in search rules)
+fit_list-returns-then-not-branch t c = same_broken c.args.schema.now c.args.base c.in-Plain.of (views (items_of c.args.params)) _ _ _ [] _ c.in_ok-values.values c.in-Plain.is c.in-Some.ensures (rw c.into_items-params.ensures at c.in_ok-values.ensures) (λ keeps. let yes = c.in_ok-keeps_unique.ensures.1 (rw c.deref.ensures.value keeps) in search rules)
 
 pub fit_list-returns : goal.fit_list-returns
 fit_list-returns t c =
-    aggregate_at c.args.schema.now c.args.base c.in-Plain.of (items_of c.args.params) _ _ _ _ _ c.in_ok-values.values c.aggregate_of.result c.in-Plain.is c.in-Some.ensures (rw c.into_items.ensures at c.in_ok-values.ensures) (ap (λ xs. length xs) c.items.ensures)
+    aggregate_at c.args.schema.now c.args.base c.in-Plain.of (items_of c.args.params) _ _ _ _ _ c.in_ok-values.values c.aggregate_of.result c.in-Plain.is c.in-Some.ensures (rw c.into_items-params.ensures at c.in_ok-values.ensures) (ap (λ xs. length xs) c.items.ensures)
     (c.allows_count.ensures.0 (search rules)) (rw c.deref.ensures.value at (c.in_ok-keeps_unique.ensures.0 (search rules))) (rw c.from_vec.ensures at c.aggregate_of.ensures)
 
 pub fit_list-fit_each-requires : goal.fit_list-fit_each-requires
-fit_list-fit_each-requires t c = let same = ap (λ xs. most the_size xs) c.into_items.ensures in (search (rules, param.the_lemmas), element-known c.args.schema.now _ _ _ c.in-Some.ensures (plain-known c.args.schema.now c.args.base _ c.in-Plain.is c.requires))
+fit_list-fit_each-requires t c = let same = ap (λ xs. most the_size xs) c.into_items-params.ensures in (search (rules, param.the_lemmas), element-known c.args.schema.now _ _ _ c.in-Some.ensures (plain-known c.args.schema.now c.args.base _ c.in-Plain.is c.requires))
 
 pub fit_each-returns : goal.fit_each-returns
 fit_each-returns t c = all_taken c.args.schema.now c.args.optional (type_use c.args.of.now) _ c.args.params.items _ _ _ c.loop-param.invariant c.in_default.ensures
@@ -97,13 +97,13 @@ fit_each-returns t c = all_taken c.args.schema.now c.args.optional (type_use c.a
 pub fit_each-returns-in_err-value : goal.fit_each-returns-in_err-value
 fit_each-returns-in_err-value t c =
     let p = err_from_is_err_and c.from_residual-in_err-value.result c.from_residual-in_err-value.ensures.1 in
-    rw (p.1, p.2) (broken_next c.args.schema.now c.args.optional (type_use c.args.of.now) _ _ c.args.params.items c.in-Some.param _ _ _ _ c.loop-param.invariant c.in-Some.ensures c.in_err-value.ensures)
+    rw (p.1, p.2) (broken_next c.args.schema.now c.args.optional (type_use c.args.of.now) _ _ c.args.params.items c.in-Some.param _ _ _ _ c.loop-param.invariant c.in-Some.ensures (rw (sym c.in_err-value.ensures) at c.fit_stored-found.ensures))
 
 pub fit_each-loop-param-preserved : goal.fit_each-loop-param-preserved
-fit_each-loop-param-preserved t c = one_taken c.args.schema.now c.args.optional (type_use c.args.of.now) _ _ c.args.params.items c.in-Some.param c.in_ok-value.value _ _ _ c.loop-param.values c.push.new.self c.loop-param.invariant c.in-Some.ensures c.in_ok-value.ensures c.in_ok-push.ensures.items
+fit_each-loop-param-preserved t c = one_taken c.args.schema.now c.args.optional (type_use c.args.of.now) _ _ c.args.params.items c.in-Some.param c.in_ok-value.value _ _ _ c.loop-param.values c.push.new.self c.loop-param.invariant c.in-Some.ensures (rw (sym c.in_ok-value.ensures) at c.fit_stored-found.ensures) c.in_ok-push.ensures.items
 
-pub fit_each-fit_stored-requires : goal.fit_each-fit_stored-requires
-fit_each-fit_stored-requires t c =
+pub fit_each-fit_stored-found-requires : goal.fit_each-fit_stored-found-requires
+fit_each-fit_stored-found-requires t c =
     let deep = size_below the_size c.args.schema.now c.args.optional (type_use c.args.of.now) _ _ c.args.params.items c.in-Some.param _ _ _ c.loop-param.invariant c.in-Some.ensures in
     let known = c.requires in
     search rules
