@@ -1,5 +1,5 @@
 -- What a session and what a survey keep of a statement.
-use Rattle.std.proofs.Common.{◌≡◌, ◌≢◌, ◌≤◌, ◌+◌, ℕ, List, length, Result, Ok, Err, IfErr, sym, ap, subst, arith}
+use Rattle.std.proofs.Common.{◌≡◌, ◌≢◌, ◌≤◌, ◌+◌, ℕ, List, length, Result, Ok, Err, IfErr, sym, ap, subst, ◌∙◌, arith}
 use Rattle.p21_spec_basics.specs.Limits.{Limits}
 use Rattle.p21_spec_laws.proofs.Keeps.{keeps-size}
 use Rattle.p21_spec_laws.proofs.Offenders.{offender-dead}
@@ -51,13 +51,14 @@ sifted-follows_found s limits surveying n entities needs text f = record { recor
 more-few : (most : ℕ) (old new : List Refusal) → (most ≤ length old → ⊥) → length new ≤ length old + 1 → length new ≤ most
 more-few most old new open_ listed = omega (arith, open_, listed)
 
-pub sifted-takes : (s : Schema) → IsWellFormed s → (limits : Limits) (old new : Surveying) (statement : Statement) (result : Result (Unit {0}) Fault) → new.most ≡ old.most → (IsFull old → ⊥) → sieve_steps.StepGives s limits old.sieve statement result new.sieve
+pub sifted-takes : (s : Schema) → IsWellFormed s → (limits : Limits) (old new : Surveying) (statement : Statement) (result : Result (Unit {0}) Fault) → new.most ≡ old.most → new.known ≡ old.known → (IsFull old → ⊥) → sieve_steps.StepGives s limits old.sieve statement result new.sieve
     → ListsOne old.sieve.refusals.items result new.sieve.refusals.items → Takes s limits (IsKeptOf s limits) (IsLeftOf s limits) old statement result new
-sifted-takes s formed limits old new statement (Ok done) same open_ gives listed = λ given keeps. record {
+sifted-takes s formed limits old new statement (Ok done) same known open_ gives listed = λ given keeps. record {
   sifts = gives given keeps.sifts;
   few = subst (λ (most : ℕ). length new.sieve.refusals.items ≤ most) (sym same) (more-few old.most old.sieve.refusals.items new.sieve.refusals.items open_ listed);
+  schema_is = known ∙ keeps.schema_is;
 }
-sifted-takes s formed limits old new statement (Err fault) same open_ gives listed = λ other given keeps.
+sifted-takes s formed limits old new statement (Err fault) same known open_ gives listed = λ other given keeps.
     let (as_before, ends) = gives other in
     let sizes : length new.sieve.refusals.items ≡ length old.sieve.refusals.items = ap length as_before in
     let few = keeps.few in
