@@ -42,7 +42,7 @@ ENTITY t SUBTYPE OF (s); END_ENTITY;
 ENTITY u SUBTYPE OF (s); END_ENTITY;
 ENTITY many SUBTYPE OF (wide);
 i : INTEGER; label : STRING(3); values : LIST [1:2] OF measure; mark : colour; members : SET OF point; END_ENTITY;
-ENTITY fixed SUBTYPE OF (many); DERIVE SELF\\many.i : INTEGER := 0; END_ENTITY;
+ENTITY starred SUBTYPE OF (many); DERIVE SELF\\many.i : INTEGER := 0; END_ENTITY;
 ENTITY hidden ABSTRACT SUPERTYPE SUBTYPE OF (wide); END_ENTITY;
 ENTITY clashing SUBTYPE OF (wide, t, u); END_ENTITY;
 ENTITY opened SUBTYPE OF (wide, a, b); END_ENTITY;
@@ -83,11 +83,11 @@ LARGE_RECORDS = [
     ("MANY(1,'abc',(TALLY(1)),.RED.)", "45 Count"),
     ("MANY($,'abc',(TALLY(1)),.RED.,())", "46 Missing"),
     ("MANY(*,'abc',(TALLY(1)),.RED.,())", "47 StarNotDerived"),
-    ("FIXED(1,'abc',(TALLY(1)),.RED.,())", "48 DerivedNotStar"),
+    ("STARRED(1,'abc',(TALLY(1)),.RED.,())", "48 DerivedNotStar"),
     ("MANY(1.,'four',(TALLY(1)),.RED.,())", "49 WrongKind"),
     ("MANY(1,'four',(),.RED.,())", "50 Width"),
     ("MANY(1,'abc',(),.BLUE.,())", "51 Bounds"),
-    ("FIXED(*,'abc',(TALLY(1)),.RED.,(#1,#1))", "52 NotDistinct"),
+    ("STARRED(*,'abc',(TALLY(1)),.RED.,(#1,#1))", "52 NotDistinct"),
     ("MANY(1,'abc',(TALLY(1)),.BLUE.,(#1,#1))", "53 UnknownItem"),
     ("MANY(1,'abc',(1.),.BLUE.,())", "54 SelectType"),
     ("OPENED()", "55 TwoRedeclarations"),
@@ -95,7 +95,7 @@ LARGE_RECORDS = [
 ]
 LARGE_REFERENCES = [
     ("MANY(1,'abc',(TALLY(1)),.RED.,(#999))", "56 Dangling"),
-    ("FIXED(*,'abc',(TALLY(1)),.RED.,(#2))", "57 WrongTarget"),
+    ("STARRED(*,'abc',(TALLY(1)),.RED.,(#2))", "57 WrongTarget"),
 ]
 
 # An instance of a name that stands before it, whatever its record is.

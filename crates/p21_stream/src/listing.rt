@@ -233,7 +233,11 @@ fn finish(walk: Walk<Surveying<'_>>, schema: &Schema) -> Result<Surveyed, NoMemo
         statement,
         ..
     } = walk;
-    let Surveying { mut sieve, most, .. } = kept;
+    let Surveying {
+        mut sieve,
+        most,
+        ..
+    } = kept;
     match statements.finish() {
         Ok(()) => {}
         Err(fault) => return ended(sieve.into_refusals(), refused(fault, None, statement)),

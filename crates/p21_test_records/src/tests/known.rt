@@ -8,7 +8,7 @@ const MEMBERS: u32 = 300;
 /// Behind them, an entity that has all of them in its set, and others.
 const BEHIND: &str = "TYPE colour = ENUMERATION OF (red, green); END_TYPE;
 ENTITY many SUBTYPE OF (wide); k : INTEGER; label : OPTIONAL STRING(3); mark : colour; END_ENTITY;
-ENTITY fixed SUBTYPE OF (many); DERIVE SELF\\many.k : INTEGER := 0; END_ENTITY;
+ENTITY starred SUBTYPE OF (many); DERIVE SELF\\many.k : INTEGER := 0; END_ENTITY;
 ENTITY hidden ABSTRACT SUPERTYPE SUBTYPE OF (wide); END_ENTITY;
 ENTITY r SUPERTYPE OF (ONEOF (s, t)); x : NUMBER; END_ENTITY;
 ENTITY s SUBTYPE OF (r); END_ENTITY;
@@ -109,8 +109,8 @@ const OF_LARGE_SETS: Rows = &[
     ("#1=MANY(1.,'four',.BLUE.);", "49 WrongKind"),
     ("#1=MANY(1,'four',.BLUE.);", "50 Width"),
     ("#1=MANY(1,'abc',.BLUE.);", "53 UnknownItem"),
-    ("#1=FIXED(*,'abc',.RED.);", "nothing"),
-    ("#1=FIXED(1,'abc',.RED.);", "48 DerivedNotStar"),
+    ("#1=STARRED(*,'abc',.RED.);", "nothing"),
+    ("#1=STARRED(1,'abc',.RED.);", "48 DerivedNotStar"),
     ("#1=HIDDEN(1);", "42 Abstract"),
     ("#1=MANY(1,'four',.RED.);", "50 Width"),
     ("#1=FOO();", "nothing"),
