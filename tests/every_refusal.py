@@ -19,7 +19,12 @@ from exchange import BACK, front
 ROOT = pathlib.Path(__file__).resolve().parent.parent
 PROGRAM = os.environ.get("P21", str(ROOT / "p21"))
 
-SCHEMA = """SCHEMA every;
+# Entities that some of the schema have all in their sets.
+MEMBERS = [f"w{number:03}" for number in range(300)]
+
+SCHEMA = f"""SCHEMA every;
+{"".join(f"ENTITY {name}; END_ENTITY; " for name in MEMBERS)}
+ENTITY wide SUBTYPE OF ({", ".join(MEMBERS)}); END_ENTITY;
 TYPE distance = REAL; END_TYPE;
 TYPE tally = INTEGER; END_TYPE;
 TYPE colour = ENUMERATION OF (red, green); END_TYPE;
@@ -35,6 +40,12 @@ ENTITY b SUBTYPE OF (r); SELF\\r.k : REAL; END_ENTITY;
 ENTITY s SUPERTYPE OF (ONEOF (t, u)); n : INTEGER; END_ENTITY;
 ENTITY t SUBTYPE OF (s); END_ENTITY;
 ENTITY u SUBTYPE OF (s); END_ENTITY;
+ENTITY many SUBTYPE OF (wide);
+i : INTEGER; label : STRING(3); values : LIST [1:2] OF measure; mark : colour; members : SET OF point; END_ENTITY;
+ENTITY starred SUBTYPE OF (many); DERIVE SELF\\many.i : INTEGER := 0; END_ENTITY;
+ENTITY hidden ABSTRACT SUPERTYPE SUBTYPE OF (wide); END_ENTITY;
+ENTITY clashing SUBTYPE OF (wide, t, u); END_ENTITY;
+ENTITY opened SUBTYPE OF (wide, a, b); END_ENTITY;
 END_SCHEMA;
 """
 
@@ -66,8 +77,30 @@ REFERENCES = [
     ("CLOUD((#2),(TALLY(1)))", "57 WrongTarget"),
 ]
 
-# An instance of a name that stands before it.
+# The same of entities with large sets: what all records of one have in common is found once.
+LARGE_RECORDS = [
+    ("HIDDEN()", "42 Abstract"),
+    ("MANY(1,'abc',(TALLY(1)),.RED.)", "45 Count"),
+    ("MANY($,'abc',(TALLY(1)),.RED.,())", "46 Missing"),
+    ("MANY(*,'abc',(TALLY(1)),.RED.,())", "47 StarNotDerived"),
+    ("STARRED(1,'abc',(TALLY(1)),.RED.,())", "48 DerivedNotStar"),
+    ("MANY(1.,'four',(TALLY(1)),.RED.,())", "49 WrongKind"),
+    ("MANY(1,'four',(),.RED.,())", "50 Width"),
+    ("MANY(1,'abc',(),.BLUE.,())", "51 Bounds"),
+    ("STARRED(*,'abc',(TALLY(1)),.RED.,(#1,#1))", "52 NotDistinct"),
+    ("MANY(1,'abc',(TALLY(1)),.BLUE.,(#1,#1))", "53 UnknownItem"),
+    ("MANY(1,'abc',(1.),.BLUE.,())", "54 SelectType"),
+    ("OPENED()", "55 TwoRedeclarations"),
+    ("CLASHING()", "58 OneOf"),
+]
+LARGE_REFERENCES = [
+    ("MANY(1,'abc',(TALLY(1)),.RED.,(#999))", "56 Dangling"),
+    ("STARRED(*,'abc',(TALLY(1)),.RED.,(#2))", "57 WrongTarget"),
+]
+
+# An instance of a name that stands before it, whatever its record is.
 AGAIN = ("#1=POINT($,2.,2.);", "40 DuplicateName in #1")
+LARGE_AGAIN = ("#1=MANY(1);", "40 DuplicateName in #1")
 
 # Statements that end the reading.
 ENDS = [
@@ -104,12 +137,12 @@ def broken(rows, end=None):
     """A file with an instance of each of the rows, and the lines that list them."""
     statements, records, references = [], [], []
     for number, row in enumerate(rows, 101):
-        if row is AGAIN:
+        if row in (AGAIN, LARGE_AGAIN):
             statements.append(row[0])
             records.append(f"refused {row[1]}")
             continue
         statements.append(f"#{number}={row[0]};")
-        (references if row in REFERENCES else records).append(f"refused {row[1]} in #{number}")
+        (references if row in REFERENCES + LARGE_REFERENCES else records).append(f"refused {row[1]} in #{number}")
     if end:
         # The statements in front of the instances, and the two that stand.
         place = 7 + 2 + len(statements) + 1
@@ -143,11 +176,12 @@ def examples():
 
 def main():
     chance = random.Random(59)
-    rows = [*RECORDS, *REFERENCES, AGAIN]
+    small, large = [*RECORDS, *REFERENCES, AGAIN], [*LARGE_RECORDS, *LARGE_REFERENCES, LARGE_AGAIN]
+    rows = small + large
     files = 0
     with tempfile.TemporaryDirectory() as name:
         folder = pathlib.Path(name)
-        chosen = [[row] for row in rows] + [list(pair) for pair in itertools.product(rows, rows)]
+        chosen = [[row] for row in rows] + [list(pair) for some in (small, large) for pair in itertools.product(some, some)]
         chosen += [[chance.choice(rows) for _ in range(10)] for _ in range(50)] + [rows]
         for some in chosen:
             one(folder, some)

@@ -312,6 +312,25 @@ def refused_records_of_a_set_that_clashes(n, folder):
     return Input(check_all(folder, declarations, ("#%d=ZZ();\n" % (k + 1) for k in range(n))), pairs=n, used=n)
 
 
+def refused_records_of_a_set_left_open(n, folder):
+    """Two entities of the set redeclare an attribute, of which none is a subtype of the other."""
+    names = numbered("e", n)
+    lower = ("ENTITY %s SUBTYPE OF (r); SELF\\r.x : %s; END_ENTITY;\n" % pair for pair in (("a", "INTEGER"), ("b", "REAL")))
+    declarations = ["ENTITY r; x : NUMBER; END_ENTITY;\n", *lower, *entities(names), below_all("zz", [*names, "a", "b"])]
+    return Input(check_all(folder, declarations, ("#%d=ZZ(1);\n" % (k + 1) for k in range(n))), pairs=n, used=n)
+
+
+def refused_records_of_another_count(n, folder):
+    names = numbered("e", n)
+    return Input(check_all(folder, [*entities(names), below_all("zz", names)], ("#%d=ZZ(1);\n" % (k + 1) for k in range(n))), pairs=n, used=n)
+
+
+def refused_records_of_another_kind(n, folder):
+    names = numbered("e", n)
+    leaf = "ENTITY zz SUBTYPE OF (%s); x : INTEGER; END_ENTITY;\n" % ",".join(names)
+    return Input(check_all(folder, [*entities(names), leaf], ("#%d=ZZ('');\n" % (k + 1) for k in range(n))), pairs=n, used=n)
+
+
 def sets_that_take_turns(n, folder):
     """Records of 40 parts each, whose sets are 17."""
     names = numbered("e", 57)

@@ -91,6 +91,8 @@ ROWS = [
     Row("references_to_large_sets_in_turn", 200, ENTITIES // 2),
     *(Row(name, 200, ENTITIES // 2) for name in ("refused_references_to_a_large_set", "refused_references_by_a_select")),
     *(Row(name, 200, ENTITIES // 2) for name in ("refused_records_of_an_abstract_set", "refused_records_of_a_set_that_clashes")),
+    *(Row(name, 200, ENTITIES // 2) for name in ("refused_records_of_a_set_left_open", "refused_records_of_another_count")),
+    Row("refused_records_of_another_kind", 200, ENTITIES // 2),
     Row("sets_that_take_turns", 200),
     Row("sets_of_four", 1_000, 600_000),
     Row("colliding_sets", 500),

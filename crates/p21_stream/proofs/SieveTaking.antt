@@ -26,7 +26,7 @@ use Rattle.p21_stream_statements.specs.declared.refusal.Refusal.{Refusal}
 use Rattle.p21_stream.proofs.RefusedNames.{has-listed}
 use Rattle.p21_stream.proofs.Sifted.{passed-few, passed-first, passed-named, refused-named}
 use Rattle.p21_stream.specs.Sifting.{AreSifted, HasName, HaveNames, IsOfInstance, RefusesInstance, Sifts, at_instance, broken, name_again, passes, refuses}
-use Rattle.p21_stream.specs.SieveSteps.{Follows, FollowsFound, Lists, ListsOne, ListsOrEnds, StepGives}
+use Rattle.p21_stream.specs.SieveSteps.{Follows, FollowsFound, IsRefusedAlone, Lists, ListsOne, ListsOrEnds, StepGives}
 use Rattle.p21_stream.specs.declared.sieve.Sieve.{Sieve}
 
 -- ---- what is asked of what is kept
@@ -167,6 +167,12 @@ refused-gives s formed limits old kept new n r fault (Err other) same takes (inr
     offends = subst (λ (f : Fault). Offends s limits sifts.passed (old.kept.bytes + old.kept.framing) (instance n r) (fault_number f)) (sym is) (takes (λ e. not_memory (is ∙ e)) sifts.passed sifts.keeps);
   },
 )
+
+-- the same of an instance whose record is refused before it is asked for
+pub alone-gives : (s : Schema) → IsWellFormed s → (limits : Limits) (old new : Sieve) (statement : Statement) (n : ℕ) (fault : Fault) (result : Result (Unit {0}) Fault) → IsRefusedAlone s old statement n fault → ListsOrEnds old n fault result new → StepGives s limits old statement result new
+alone-gives s formed limits old new statement n fault result is lists =
+    subst (λ (st : Statement). StepGives s limits old st result new) (sym is.statement_is)
+    (refused-gives s formed limits old old.kept new n is.record_ fault result (λ other. refl) (λ other given keeps. breaks_rule n is.record_ (fault_number fault) (is.breaks other)) lists)
 
 -- ---- one more in the list
 

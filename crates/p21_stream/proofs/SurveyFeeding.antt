@@ -96,8 +96,8 @@ surveyed-more s limits start old new before after piece size count more count_is
 
 -- nothing is read
 pub surveyed-none : (s : Schema) (limits : Limits) (now : Option (List ℕ)) (walk : Walk Surveying) → statements.IsLive walk.statements nothing_read → statements.limits_of walk.statements ≡ (limits.record_source, limits.file_source) → walk.kept.sieve.kept ≡ nothing_kept → walk.kept.sieve.refusals.items ≡ []
-    → HaveNames walk.kept.sieve.names [] → IsSurveyedFrom s limits now now walk 0
-surveyed-none s limits now walk live are kept listed names =
+    → HaveNames walk.kept.sieve.names [] → walk.kept.known ≡ s → IsSurveyedFrom s limits now now walk 0
+surveyed-none s limits now walk live are kept listed names known =
     let none_listed : length walk.kept.sieve.refusals.items ≡ 0 = ap length listed in
     record {
       bytes = [];
@@ -117,6 +117,7 @@ surveyed-none s limits now walk live are kept listed names =
               names = subst (λ (rs : List Refusal). HaveNames walk.kept.sieve.names rs) (sym listed) names;
             };
             few = omega (arith, none_listed);
+            schema_is = known;
           };
         },
       );

@@ -1,12 +1,14 @@
 -- What each statement does to a sieve.
-use Rattle.std.specs.Prelude.{◌≡◌, ◌≢◌, ◌+◌, ◌≤◌, ◌<◌, ◌^◌, ◌⊎◌, ℕ, List, [], ◌∷◌, ◌++◌, length, Result, Ok, Err}
+use Rattle.std.specs.Prelude.{◌≡◌, ◌≢◌, ◌+◌, ◌≤◌, ◌<◌, ◌^◌, ◌⊎◌, ℕ, List, [], ◌∷◌, ◌++◌, length, map, Contains, Result, Ok, Err}
 use Rattle.std.specs.List.{flat_map}
 use Rattle.p21_spec_basics.specs.Limits.{Limits}
 use Rattle.p21_spec_laws.specs.Keeping.{Keeps}
 use Rattle.p21_spec_laws.specs.Offending.{Offends}
+use Rattle.p21_spec_laws.specs.Stored.{StoredEntry}
 use Rattle.p21_spec_exchange.specs.Record.{Record}
 use Rattle.p21_spec_exchange.specs.Statement.{Statement, instance, statement_tokens}
 use Rattle.p21_spec_exchange.specs.Structure.{AreFirstStatements, Structure}
+use Rattle.p21_spec_file.specs.BrokenRule.{Breaks}
 use Rattle.p21_spec_file.specs.Reference.{Need}
 use Rattle.p21_spec_schema.specs.Schema.{Schema}
 use Rattle.p21_stream_kept.specs.Found.{HasFound}
@@ -14,7 +16,7 @@ use Rattle.p21_stream_statements.specs.Fault.{fault_number}
 use Rattle.p21_stream_statements.specs.declared.fault.Fault.{Fault}
 use Rattle.p21_stream_statements.specs.declared.fault.Fault.TheVariants.{NoMemory}
 use Rattle.p21_stream_statements.specs.declared.refusal.Refusal.{Refusal}
-use Rattle.p21_stream.specs.Sifting.{AreSifted, HaveNames, IsOfInstance, Sifts, at_instance}
+use Rattle.p21_stream.specs.Sifting.{AreSifted, HasName, HaveNames, IsOfInstance, Sifts, at_instance}
 use Rattle.p21_stream.specs.declared.sieve.Sieve.{Sieve}
 
 -- The statement stands in a tree behind those that the sieve has taken, and 64 bits count the tokens of all of them
@@ -47,6 +49,20 @@ StepGives s limits old statement (Err fault) new = fault ≢ NoMemory → (new.r
 -- the same of an instance, by what is found of it
 abbrev pub FoundGives : Schema → Limits → Sieve → ℕ → List ℕ → List Need → List ℕ → Result (Unit {0}) Fault → Sieve → Type 0
 FoundGives s limits old n entities needs text result new = (record_ : Record) → HasFound s n record_ entities needs text → StepGives s limits old (instance n record_) result new
+
+-- ---- instances that are refused before they are asked for
+
+-- an instance of this name has come: it was refused, or it is kept
+abbrev pub HasCome : Sieve → ℕ → Type 0
+HasCome sieve n = HasName sieve.names n ⊎ Contains (map (λ (x : StoredEntry). x.name) sieve.kept.stored) n
+
+-- The statement is an instance whose name none has before it, and its record breaks the rule of the fault's number; want of memory says
+-- nothing of it
+pub record IsRefusedAlone (s : Schema) (sieve : Sieve) (statement : Statement) (n : ℕ) (fault : Fault) : Type 0 where
+  pub record_ : Record
+  pub statement_is : statement ≡ instance n record_
+  pub first : ¬ HasCome sieve n
+  pub breaks : fault ≢ NoMemory → Breaks s record_ (fault_number fault)
 
 -- ---- lists
 

@@ -15,10 +15,11 @@ use Rattle.p21_stream.specs.declared.keeper.Stop.{Stop}
 use Rattle.p21_stream.specs.declared.keeper.Stop.TheVariants.{Most, Refused}
 use Rattle.p21_stream.specs.declared.surveying.Surveying.{Surveying}
 
--- the sieve has taken the statements given, and lists no more refusals than were asked for
+-- the sieve has taken the statements given, and lists no more refusals than were asked for; what is known of entities is of the schema
 pub record IsKeptOf (s : Schema) (limits : Limits) (given : List Statement) (surveying : Surveying) : Type 0 where
   pub sifts : Sifts s limits given surveying.sieve
   pub few : length surveying.sieve.refusals.items ≤ surveying.most
+  pub schema_is : surveying.known ≡ s
 
 -- these are the refusals of the statements given, and something was kept of the others
 pub record IsLeftOf (s : Schema) (limits : Limits) (given : List Statement) (surveying : Surveying) : Type 0 where

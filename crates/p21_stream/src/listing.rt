@@ -84,7 +84,7 @@ pub fn survey<R: Read>(
 {
     schema.well_formed();
     let most = at_least_one(most);
-    let surveying = Surveying::new(alloc, most);
+    let surveying = Surveying::new(alloc, schema, most);
     let mut walk = Walk::new(alloc, limits, surveying);
     match read_all(&mut walk, schema, limits, reader) {
         Ok(()) => finish(walk, schema),
@@ -93,8 +93,8 @@ pub fn survey<R: Read>(
 }
 
 /// The refusals that are listed.
-fn refusals_of(walk: Walk<Surveying>) -> Vec<Refusal>
-    ensures { result ≡ walk.kept.sieve.refusals }
+fn refusals_of(walk: Walk<Surveying<'_>>) -> Vec<Refusal>
+    ensures { result ≡ walk.entry.kept.sieve.refusals }
 {
     let Walk { kept, .. } = walk;
     let Surveying { sieve, .. } = kept;
@@ -111,7 +111,7 @@ fn at_least_one(most: u64) -> u64
 
 /// Surveys all that a reader has.
 fn read_all<R: Read>(
-    walk: &mut Walk<Surveying>,
+    walk: &mut Walk<Surveying<'_>>,
     schema: &Schema,
     limits: Limits,
     reader: &mut Watched<R>,
@@ -150,7 +150,7 @@ fn read_all<R: Read>(
 /// Surveys what a reader gives at once, and says how many bytes: 0 at the end alone. Its six arguments are what `read_all` has in
 /// its loop, of which this is a round.
 fn read_more<R: Read>(
-    walk: &mut Walk<Surveying>,
+    walk: &mut Walk<Surveying<'_>>,
     schema: &Schema,
     limits: Limits,
     reader: &mut Watched<R>,
@@ -193,7 +193,7 @@ fn read_more<R: Read>(
 
 /// Surveys a piece. It stands by itself since the prover knows of a parameter, and of no part of one, that it holds bytes.
 fn take_piece(
-    walk: &mut Walk<Surveying>,
+    walk: &mut Walk<Surveying<'_>>,
     schema: &Schema,
     limits: Limits,
     piece: &[u8],
@@ -219,11 +219,11 @@ fn take_piece(
 }
 
 /// The end of the bytes.
-fn finish(walk: Walk<Surveying>, schema: &Schema) -> Result<Surveyed, NoMemory>
+fn finish(walk: Walk<Surveying<'_>>, schema: &Schema) -> Result<Surveyed, NoMemory>
     requires live { (limits : MeantLimits) × IsLiveBetween schema.now limits walk }
     requires fewer { length walk.kept.sieve.refusals.items < walk.kept.most }
-    ensures gives { IfOk result (FinishGives schema.now walk) }
-    ensures counted { IfOk result (ListsAtMost walk.kept.most) }
+    ensures gives { IfOk result (FinishGives schema.now walk.entry) }
+    ensures counted { IfOk result (ListsAtMost walk.entry.kept.most) }
     ensures unread { IfOk result (λ found. ¬ EndsByRead found) }
 {
     schema.well_formed();
@@ -233,7 +233,11 @@ fn finish(walk: Walk<Surveying>, schema: &Schema) -> Result<Surveyed, NoMemory>
         statement,
         ..
     } = walk;
-    let Surveying { mut sieve, most } = kept;
+    let Surveying {
+        mut sieve,
+        most,
+        ..
+    } = kept;
     match statements.finish() {
         Ok(()) => {}
         Err(fault) => return ended(sieve.into_refusals(), refused(fault, None, statement)),

@@ -25,7 +25,7 @@
 //! says. A statement has one refusal at most (`ListsOne`), and as many as were asked for aren't listed before each step
 //! (`is_full` of `Keeper`), or the survey stops (`StopsWithin`, `ListsAtMost`). What `check --all` prints of a list is
 //! `specs/CheckAll` of `p21_commands` (`listed_text`).
-ghost use Rattle.std.specs.Prelude.{◌≡◌, ◌≢◌, ◌≤◌, ◌∷◌, [], length, IfErr, OnOk};
+ghost use Rattle.std.specs.Prelude.{◌≡◌, ◌≢◌, ◌≤◌, ◌↔◌, ◌∷◌, [], length, IfErr, IsTrue, OnOk};
 ghost use Rattle.p21_spec_laws.specs.Keeping.{nothing_kept};
 ghost use Rattle.p21_spec_exchange.specs.Statement.{instance};
 ghost use Rattle.p21_grammar.specs.Statements.{statement_of};
@@ -34,7 +34,7 @@ ghost use Rattle.p21_mapping.specs.Checked.{needs_view};
 ghost use Rattle.p21_mapping_values.specs.TypedView.{ids_view};
 ghost use Rattle.p21_stream_statements.specs.Source.{IsOfStatement};
 ghost use Rattle.p21_stream.specs.Sifting.{HaveNames};
-ghost use Rattle.p21_stream.specs.SieveSteps.{Follows, FollowsFound, FoundGives, Lists, ListsOne, ListsOrEnds, StepGives};
+ghost use Rattle.p21_stream.specs.SieveSteps.{Follows, FollowsFound, FoundGives, HasCome, Lists, ListsOne, ListsOrEnds, StepGives};
 ghost use Rattle.p21_stream.specs.Unserved.{ListsUnserved};
 
 use crate::unserved::list_unserved;
@@ -162,8 +162,15 @@ impl Sieve {
         }
     }
 
+    /// Whether an instance of this name has come. It takes no memory.
+    pub fn has_name(&self, name: Name) -> bool
+        ensures { IsTrue result ↔ HasCome self.now name }
+    {
+        self.names.contains(&name.0) || self.kept.has_name(name)
+    }
+
     /// Lists the refusal of a record or a name. Every other one ends the reading.
-    fn list_or_end(&mut self, name: Name, fault: Fault) -> Result<(), Fault>
+    pub fn list_or_end(&mut self, name: Name, fault: Fault) -> Result<(), Fault>
         requires kind { IsOfStatement fault }
         ensures lists { ListsOrEnds self.old name fault result self.new }
         ensures kind { IfErr result (λ other. IsOfStatement other) }

@@ -1,9 +1,15 @@
 //! What a survey keeps of a file: the statements that aren't refused, and the refusals of the others.
-ghost use Rattle.std.specs.Prelude.{◌≡◌, ◌≢◌, ◌≤◌, [], IfErr, length, true, false};
+//!
+//! A survey goes on behind a refused record. So that many records of an entity with a large set don't each cost a walk over
+//! it, what is known of the entity (`KnownEntities` of p21_mapping) is asked first, and only a record that it doesn't refuse
+//! is checked the general way. A session ends with its first refusal, and has no part in it.
+ghost use Rattle.std.specs.Prelude.{◌≡◌, ◌≢◌, ◌≤◌, [], IfErr, IfSome, length, true, false};
 ghost use Rattle.p21_grammar.specs.Statements.{statement_of};
 ghost use Rattle.p21_mapping.specs.Checked.{needs_view};
 ghost use Rattle.p21_mapping_values.specs.TypedView.{ids_view};
 ghost use Rattle.p21_spec_laws.specs.Keeping.{nothing_kept};
+ghost use Rattle.p21_stream_statements.specs.Source.{IsOfStatement};
+ghost use Rattle.p21_stream.specs.SieveSteps.{IsRefusedAlone};
 ghost use Rattle.p21_stream.specs.Sifting.{HaveNames};
 ghost use Rattle.p21_stream.specs.Surveying.{IsFull, IsKeptOf, IsLeftOf};
 
@@ -11,34 +17,55 @@ use crate::keeper::Keeper;
 use crate::sieve::Sieve;
 use p21_express_tables::Schema;
 use p21_grammar::Event;
+use p21_mapping::KnownEntities;
 use p21_stream_kept::{FoundInstance, Workspace};
 use p21_stream_statements::{Fault, Refusal};
-use p21_values::Limits;
+use p21_values::{Limits, Name};
 use std::alloc::Global;
 
 /// What is kept and listed of a file, and how many refusals are asked for.
 #[derive(Drop)]
-pub(crate) struct Surveying {
+pub(crate) struct Surveying<'a> {
     pub sieve: Sieve,
     pub most: u64,
+    // What is known of the records of entities with large sets, under the schema of the survey.
+    pub known: KnownEntities<'a>,
 }
 
-impl Surveying {
-    /// A survey that has taken nothing. It takes no memory.
-    pub(crate) fn new(alloc: Global, most: u64) -> Surveying
+impl<'a> Surveying<'a> {
+    /// A survey under a schema that has taken nothing. It takes no memory.
+    pub(crate) fn new(alloc: Global, schema: &'a Schema, most: u64) -> Surveying<'a>
         ensures kept { result.sieve.kept ≡ nothing_kept }
         ensures refusals { result.sieve.refusals.items ≡ [] }
         ensures names { HaveNames result.sieve.names [] }
         ensures most { result.most ≡ most }
+        ensures known { result.known ≡ schema.now }
     {
         Surveying {
             sieve: Sieve::new(alloc),
             most,
+            known: KnownEntities::new(alloc, schema),
         }
+    }
+
+    /// Why an instance is refused whose name none has before it, where what is known of its entity says so; and its name.
+    fn refused_by(&mut self, event: &Event) -> Option<(Name, Fault)>
+        ensures refuses { IfSome result (λ found. IsRefusedAlone self.old.known self.old.sieve (statement_of event.now) found.0 found.1) }
+        ensures kind { IfSome result (λ found. IsOfStatement found.1) }
+        ensures same { self.new ≡ self.old }
+    {
+        let Event::Instance(name, record) = event else {
+            return None;
+        };
+        let fault = self.known.refusal(record)?;
+        if self.sieve.has_name(*name) {
+            return None;
+        }
+        Some((*name, Fault::from(fault)))
     }
 }
 
-impl Keeper for Surveying {
+impl<'a> Keeper for Surveying<'a> {
     ghost use Rattle.std.specs.Prelude.{◌≡◌, refl};
     ghost use Rattle.std.proofs.Common.{◌∙◌};
     ghost use Rattle.p21_stream.specs.Surveying.{IsFull, IsKeptOf, IsLeftOf};
@@ -70,6 +97,9 @@ impl Keeper for Surveying {
         workspace: &mut Workspace,
     ) -> Result<(), Fault> {
         schema.well_formed();
+        if let Some((name, fault)) = self.refused_by(&event) {
+            return self.sieve.list_or_end(name, fault);
+        }
         self.sieve.take(schema, limits, event, workspace)
     }
 

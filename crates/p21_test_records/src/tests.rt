@@ -1,6 +1,7 @@
 mod copies;
 mod demo;
 mod headers;
+mod known;
 mod long;
 mod names;
 mod needs;

@@ -19,6 +19,7 @@ read_all-requires-clause-new g c =
     let sieve = ap (λ (k : Surveying). k.sieve) c.new-walk.ensures.kept in
     surveyed-none c.args.schema.now c.args.limits (g.R.Read.remaining c.args.reader.now.inner) c.new-walk.result c.new-walk.ensures.live c.new-walk.ensures.limits (ap (λ (k : Sieve). k.kept) sieve ∙ c.new-surveying.ensures.kept) (ap (λ (k : Sieve). k.refusals.items) sieve ∙ c.new-surveying.ensures.refusals)
     (subst (λ (k : Sieve). HaveNames k.names []) (sym sieve) c.new-surveying.ensures.names)
+    (ap (λ (k : Surveying). k.known) c.new-walk.ensures.kept ∙ c.new-surveying.ensures.known)
 
 pub read_all-requires-clause-plan : goal.read_all-requires-clause-plan
 read_all-requires-clause-plan g c = c.new-walk.ensures.plan c.args.schema.now
