@@ -1,7 +1,7 @@
 -- A file that is read by itself from a reader.
 use Rattle.std.proofs.Common.{◌≡◌, ◌≢◌, ◌≤◌, ◌<◌, ◌^◌, ◌+◌, ◌-◌, ◌∙◌, ℕ, List, [], ◌++◌, length, take, drop, append_assoc, Option, None, Ok, Err, inl, inr, refl, sym, ap, subst, length-append, slice_index_or, Fits, w8, arith}
 use Rattle.std.proofs.KnownBytes.{Consumes-nil, Consumes-trans}
-use Rattle.std.proofs.lemmas.List.{take-append-drop}
+use Rattle.std.proofs.lemmas.List.{append-nil, take-append-drop}
 use Rattle.std.specs.Io.KnownBytes.{Consumes}
 use Rattle.std.specs.List.{AllByRecursion as Each}
 use Rattle.p21_spec_basics.proofs.Members.{Each-back}
@@ -9,7 +9,7 @@ use Rattle.p21_spec_basics.specs.Digits.{IsByte}
 use Rattle.p21_spec_basics.specs.Limits.{Limits}
 use Rattle.p21_spec_exchange.specs.Statement.{Statement}
 use Rattle.p21_spec_syntax.proofs.NoFiles.{ill_formed-further}
-use Rattle.p21_spec_syntax.specs.WellFormedFile.{BeginsIllFormed}
+use Rattle.p21_spec_syntax.specs.WellFormedFile.{BeginsIllFormed, IsIllFormed}
 use Rattle.p21_stream_statements.specs.Source.{IsOfBytes}
 use Rattle.p21_stream_statements.specs.declared.fault.Fault.{Fault}
 use Rattle.p21_stream_statements.specs.declared.fault.Fault.TheVariants.{Token, Grammar, Check, SchemaName, SectionTwice, DuplicateName, CanonicalTooLong, Dangling, WrongTarget, NoMemory, Read, Write}
@@ -87,13 +87,27 @@ pub read-failed : (limits : Limits) (old new : Option (List ℕ)) (walk : Walk) 
 read-failed limits old new walk refusal is start size from = subst (λ (f : Fault). RefusesSyntax limits start new f) (sym is) tt
 
 -- nothing is read
+pub nothing-taken : (limits : Limits) (walk : Walk) → statements.IsLive walk.statements nothing_read → statements.limits_of walk.statements ≡ (limits.record_source, limits.file_source) → kept_of walk.given ≡ nothing_kept → WalkHasTaken limits walk []
+nothing-taken limits walk live are kept = ([], record { reads = live; limits_are = are; keeps = subst (λ (k : Kept). Keeps [] k) (sym kept) keeps-nothing })
+
 pub nothing-read : (limits : Limits) (now : Option (List ℕ)) (walk : Walk) → statements.IsLive walk.statements nothing_read → statements.limits_of walk.statements ≡ (limits.record_source, limits.file_source) → kept_of walk.given ≡ nothing_kept → IsReadFrom limits now now walk 0
 nothing-read limits now walk live are kept = record {
   bytes = [];
   consumed = Consumes-nil now;
   size_is = refl;
-  taken = ([], record { reads = live; limits_are = are; keeps = subst (λ (k : Kept). Keeps [] k) (sym kept) keeps-nothing });
+  taken = nothing-taken limits walk live are kept;
 }
+
+-- ---- a file that is one piece
+
+pub text-taken : (limits : Limits) (before after : Walk) (file : List ℕ) → WalkHasTaken limits before [] → ReadGives limits before.statements (kept_of before.given) file (Ok tt) after.statements (kept_of after.given) → WalkHasTaken limits after file
+text-taken limits before after file taken gives = piece-whole limits before after file gives [] taken
+
+pub text-refused : (limits : Limits) (before after : Walk) (file : List ℕ) (refusal : Refusal) → ((i : ℕ) → Fits w8 (slice_index_or file i 0)) → WalkHasTaken limits before []
+    → ReadGives limits before.statements (kept_of before.given) file (Err refusal) after.statements (kept_of after.given) → refusal.fault ≢ NoMemory → IsIllFormed limits file
+text-refused limits before after file refusal fits (given, live) gives other =
+    let r = gives other (between [] given) live tt in
+    subst (IsIllFormed limits) (append-nil file) (ill_formed-piece limits [] file r.upto (each-byte file fits) r.ill_formed [] tt)
 
 -- ---- the loop
 

@@ -29,10 +29,12 @@ use Rattle.p21_stream_statements.specs.declared.fault.Fault.{Fault}
 use Rattle.p21_stream_statements.specs.declared.fault.Fault.TheVariants.{DuplicateName, SchemaName, SectionTwice}
 use Rattle.p21_stream_syntax.specs.Given.{AreInstances, AreSections, IsOfSchema, IsSchemaOf, Keeps, Kept, Takes, TakesPart, TakesSchema}
 use Rattle.p21_stream_syntax.specs.Waiting.{Adds, Drops}
+use Rattle.p21_syntax_words.proofs.Counting.{none-counted}
+use Rattle.p21_syntax_words.specs.KeywordCounts.{AreCounts, keywords_of, record_keywords}
 
 -- ---- nothing taken
 
-pub keeps-nothing : Keeps [] (record { header = []; schema = []; sections = []; names = []; targets = [] })
+pub keeps-nothing : Keeps [] (record { header = []; schema = []; sections = []; names = []; targets = []; counts = [] })
 unfolding IsDistinct
 keeps-nothing = record {
   header_is = refl;
@@ -40,6 +42,7 @@ keeps-nothing = record {
   sections_are = refl;
   sections = record { of_schema = tt; names_differ = tt };
   instances = record { names_are = λ n. (λ among. among, λ among. among); as_many = refl; names_differ = tt; are_references = tt; others_given = tt };
+  keywords = none-counted;
 }
 
 -- ---- headings among statements
@@ -94,6 +97,7 @@ keeps-section given old line sections keeps same are =
       sections_are = sym same;
       sections = subst (AreSections old.schema) (sym same) are;
       instances = subst (λ (is : List (ℕ × Record)). AreInstances is old.names old.targets) instances keeps.instances;
+      keywords = subst (λ (is : List (ℕ × Record)). AreCounts (keywords_of is) old.counts) instances keeps.keywords;
     }
 
 -- a line that begins no section
@@ -166,6 +170,7 @@ keeps-header given old part schema keeps is are =
       sections_are = keeps.sections_are ∙ headings;
       sections = subst (AreSections schema) headings are;
       instances = subst (λ (is : List (ℕ × Record)). AreInstances is old.names old.targets) instances keeps.instances;
+      keywords = subst (λ (is : List (ℕ × Record)). AreCounts (keywords_of is) old.counts) instances keeps.keywords;
     }
 
 took-header : (old : Kept) (part : Part) → ((chars : List ℕ) → IsFileSchema part chars → ⊥) → Takes old (header part) (Ok tt) (record old { header = old.header ++ part ∷ [] })
@@ -249,8 +254,9 @@ refused-part old new part schema fault gives = other-schema old new part gives.0
 abbrev Served : List (ℕ × Record) → List ℕ → ℕ → Type 0
 Served instances waiting m = Contains waiting m ⊎ Contains (names_of instances) m
 
-module _ (old : Kept) (n : ℕ) (r : Record) (names targets added : List ℕ) (names_are : (m : ℕ) → Contains names m ↔ ((n ≡ m) ⊎ Contains old.names m)) (as_many : length names ≡ length old.names + 1) (another : ¬ Contains old.names n)
-    (adds : Adds names (record_references r) old.targets added) (drops : Drops names added targets) where
+module _ (old : Kept) (n : ℕ) (r : Record) (names targets added : List ℕ) (counts : List (List ℕ × ℕ)) (names_are : (m : ℕ) → Contains names m ↔ ((n ≡ m) ⊎ Contains old.names m)) (as_many : length names ≡ length old.names + 1) (another : ¬ Contains old.names n)
+    (adds : Adds names (record_references r) old.targets added) (drops : Drops names added targets)
+    (counted : (words : List (List ℕ)) → AreCounts words old.counts → AreCounts (words ++ record_keywords r) counts) where
   module _ (instances : List (ℕ × Record)) (are : AreInstances instances old.names old.targets) where
     abbrev all : List (ℕ × Record)
     all = instances ++ (n, r) ∷ []
@@ -309,7 +315,12 @@ module _ (old : Kept) (n : ℕ) (r : Record) (names targets added : List ℕ) (n
           (Each-weaker (λ (m : ℕ). Contains adds.more m ⊎ Contains names m) (Served all targets) (λ m served. dropped m (new-served m served)) (record_references r) adds.others_given));
     }
 
-  pub took-instance : Takes old (instance n r) (Ok tt) (record old { names = names; targets = targets })
+    all-counted : AreCounts (keywords_of instances) old.counts → AreCounts (keywords_of all) counts
+    all-counted before =
+        let behind : keywords_of all ≡ keywords_of instances ++ record_keywords r = flat_map-append (λ (i : ℕ × Record). record_keywords i.1) instances ((n, r) ∷ []) ∙ ap (λ (l : List (List ℕ)). keywords_of instances ++ l) (append-nil (record_keywords r)) in
+        subst (λ (l : List (List ℕ)). AreCounts l counts) (sym behind) (counted (keywords_of instances) before)
+
+  pub took-instance : Takes old (instance n r) (Ok tt) (record old { names = names; targets = targets; counts = counts })
   took-instance given keeps =
       let parts : parts_among given ≡ parts_among (given ++ instance n r ∷ []) = sym (parts-append given (instance n r ∷ []) ∙ append-nil (parts_among given)) in
       let headings : headings_among given ≡ headings_among (given ++ instance n r ∷ []) = sym (headings-append given (instance n r ∷ []) ∙ append-nil (headings_among given)) in
@@ -320,6 +331,7 @@ module _ (old : Kept) (n : ℕ) (r : Record) (names targets added : List ℕ) (n
         sections_are = keeps.sections_are ∙ headings;
         sections = subst (AreSections old.schema) headings keeps.sections;
         instances = subst (λ (is : List (ℕ × Record)). AreInstances is names targets) instances (all-are (instances_among given) keeps.instances);
+        keywords = subst (λ (is : List (ℕ × Record)). AreCounts (keywords_of is) counts) instances (all-counted (instances_among given) keeps.instances keeps.keywords);
       }
 
 pub instance-again : (old new : Kept) (n : ℕ) (r : Record) → Contains old.names n → Takes old (instance n r) (Err DuplicateName) new

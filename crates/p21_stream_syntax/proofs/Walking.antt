@@ -30,6 +30,7 @@ use Rattle.p21_stream_syntax.proofs.Within.{given-few, source-within, statements
 use Rattle.p21_stream_syntax.specs.Given.{AreInstances, IsOfSchema, Keeps, Kept, Takes}
 use Rattle.p21_stream_syntax.specs.StatementReader as reader
 use Rattle.p21_stream_syntax.specs.Walk.{FinishGives, HasTaken, IsUnderWay, ReadGives, StepGives}
+use Rattle.p21_syntax_words.specs.KeywordCounts.{AreCounts, keywords_of}
 use Rattle.p21_stream_syntax.specs.declared.well_formed.WellFormed.{WellFormed}
 
 -- ---- a step
@@ -147,8 +148,8 @@ names-schema : (schema : List ℕ) (h : Heading) → IsOfSchema schema h → Hea
 names-schema schema unnamed of = tt
 names-schema schema (named name text) of = of.1
 
-pub found-whole : (held : Held) (kept : Kept) (found : WellFormed) → reader.FinishGives held (Ok tt) → Each (Contains kept.names) kept.targets → found.instances ≡ length kept.names → found.schema.items ≡ kept.schema → part_views found.header.items ≡ kept.header → FinishGives held kept (Ok found)
-found-whole held kept found ends given_all counted schema_is header_is limits bytes (given, live) =
+pub found-whole : (held : Held) (kept : Kept) (found : WellFormed) → reader.FinishGives held (Ok tt) → Each (Contains kept.names) kept.targets → found.instances ≡ length kept.names → found.schema.items ≡ kept.schema → part_views found.header.items ≡ kept.header → found.keywords ≡ kept.counts → FinishGives held kept (Ok found)
+found-whole held kept found ends given_all counted schema_is header_is counts_are limits bytes (given, live) =
     let w : AreWholeStatements bytes given = ends (between bytes given) live.reads refl in
     let t : Structure = w.whole.structure in
     let laid : Laid bytes (tokens_of t) = tree-laid bytes given w in
@@ -176,7 +177,13 @@ found-whole held kept found ends given_all counted schema_is header_is limits by
       references_given = Each-weaker (λ (n : ℕ). Contains kept.targets n ⊎ Contains (names_of (instances_in t.sections)) n) (Contains (names_of (instances_in t.sections)))
           (λ n served. elim served [ inl waits ↦ (are.names_are n).0 (Each-member (Contains kept.names) kept.targets n given_all waits) | inr given ↦ given ]) (references_of (instances_in t.sections)) are.others_given;
     }) in
-    record { structure = t; well_formed = own; instances_are = counted ∙ are.as_many; header_is = header_is ∙ live.keeps.header_is ∙ parts }
+    record {
+      structure = t;
+      well_formed = own;
+      instances_are = counted ∙ are.as_many;
+      header_is = header_is ∙ live.keeps.header_is ∙ parts;
+      keywords_are = subst (AreCounts (keywords_of (instances_in t.sections))) (sym counts_are) (subst (λ (is : List (ℕ × Record)). AreCounts (keywords_of is) kept.counts) instances live.keeps.keywords);
+    }
 
 pub finish-refused : (held : Held) (kept : Kept) (fault : Fault) (refusal : Refusal) → refusal.fault ≡ fault → reader.FinishGives held (Err fault) → FinishGives held kept (Err refusal)
 finish-refused held kept fault refusal is gives other limits bytes (given, live) = no_file-ill_formed limits bytes (gives (λ none. other (is ∙ none)) (between bytes given) live.reads refl)

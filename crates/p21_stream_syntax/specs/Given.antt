@@ -17,23 +17,25 @@ use Rattle.p21_stream_statements.specs.declared.fault.Fault.TheVariants.{NoMemor
 use Rattle.p21_stream_store.specs.StoredInstance.{instance_names}
 use Rattle.p21_stream_syntax.specs.Waiting.{targets_of}
 use Rattle.p21_stream_syntax.specs.declared.given.Given.{Given}
+use Rattle.p21_syntax_words.specs.KeywordCounts.{AreCounts, keywords_of}
 
 -- the header records; the name of the schema, empty in front of FILE_SCHEMA; how the data sections begin; the names of the
--- instances, in whatever order; and those that references wait for
+-- instances, in whatever order; those that references wait for; and how many records of instances have which keyword
 pub record Kept : Type 0 where
   pub header : List Part
   pub schema : List ℕ
   pub sections : List Heading
   pub names : List ℕ
   pub targets : List ℕ
+  pub counts : List (List ℕ × ℕ)
 
 -- nothing taken
 abbrev pub nothing_kept : Kept
-nothing_kept = record { header = []; schema = []; sections = []; names = []; targets = [] }
+nothing_kept = record { header = []; schema = []; sections = []; names = []; targets = []; counts = [] }
 
 -- what the fields hold
 abbrev pub kept_of : Given → Kept
-kept_of given = record { header = part_views given.header.items; schema = given.schema.name.items; sections = given.sections; names = instance_names given.names; targets = targets_of given.waiting.references.items }
+kept_of given = record { header = part_views given.header.items; schema = given.schema.name.items; sections = given.sections; names = instance_names given.names; targets = targets_of given.waiting.references.items; counts = given.keywords }
 
 -- ---- what it says of the statements
 
@@ -68,6 +70,7 @@ pub record Keeps (given : List Statement) (kept : Kept) : Type 0 where
   pub sections_are : kept.sections ≡ headings_among given
   pub sections : AreSections kept.schema (headings_among given)
   pub instances : AreInstances (instances_among given) kept.names kept.targets
+  pub keywords : AreCounts (keywords_of (instances_among given)) kept.counts
 
 -- ---- what each statement gives
 

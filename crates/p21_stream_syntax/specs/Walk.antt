@@ -12,6 +12,7 @@ use Rattle.p21_stream_statements.specs.StatementReader as statements
 use Rattle.p21_stream_statements.specs.StatementReader.{IsSeenAt, StatementHistory, limits_of}
 use Rattle.p21_stream_syntax.specs.Given.{Keeps, Kept}
 use Rattle.p21_stream_syntax.specs.declared.well_formed.WellFormed.{WellFormed}
+use Rattle.p21_syntax_words.specs.KeywordCounts.{AreCounts, keywords_of}
 
 -- the statement reader stands for a history, within the limits, and this is kept of its statements
 pub record IsLive (limits : Limits) (held : statements.Held) (kept : Kept) (reading : StatementHistory) : Type 0 where
@@ -62,12 +63,14 @@ ReadGives limits held kept piece (Err refusal) next after = refusal.fault ≢ No
 
 -- ---- the end
 
--- The bytes are a well-formed file with so many instances, whose schema has this name, and whose header these records
+-- The bytes are a well-formed file with so many instances, whose schema has this name, whose header these records, and whose
+-- instances have so many of each keyword
 pub record IsFoundOf (limits : Limits) (bytes : List ℕ) (found : WellFormed) : Type 0 where
   pub structure : Structure
   pub well_formed : IsWellFormedFile limits bytes structure found.schema.items
   pub instances_are : found.instances ≡ length (instances_in structure.sections)
   pub header_is : part_views found.header.items ≡ structure.header
+  pub keywords_are : AreCounts (keywords_of (instances_in structure.sections)) found.keywords
 
 -- what the end of the bytes gives, whatever the limits
 abbrev pub FinishGives : statements.Held → Kept → Result WellFormed Refusal → Type 0

@@ -17,10 +17,12 @@ use p21_grammar::{Event, Line};
 use p21_grammar_tree::{Part, Record};
 use p21_stream_statements::Fault;
 use p21_stream_store::NamedMemberships;
+use p21_syntax_words::KeywordCounts;
 use p21_values::Name;
 use std::alloc::Global;
 
-/// The records of the header, the schema, the data sections, the names of the instances, and the references that wait.
+/// The records of the header, the schema, the data sections, the names of the instances, the references that wait, and the
+/// keywords.
 #[derive(Drop)]
 pub(crate) struct Given {
     alloc: Global,
@@ -29,6 +31,7 @@ pub(crate) struct Given {
     pub(crate) sections: Sections,
     pub(crate) names: NamedMemberships,
     pub(crate) waiting: Waiting,
+    pub(crate) keywords: KeywordCounts,
 }
 
 impl Given {
@@ -43,6 +46,7 @@ impl Given {
             sections: Sections::new(alloc),
             names: NamedMemberships::new(alloc),
             waiting: Waiting::new(alloc),
+            keywords: KeywordCounts::new(alloc),
         }
     }
 
@@ -110,7 +114,7 @@ impl Given {
         Ok(())
     }
 
-    /// Takes an instance: its name, and the references to names that have not come.
+    /// Takes an instance: its name, the references to names that have not come, and its keywords.
     fn take_instance(&mut self, name: Name, of: &Record) -> Result<(), Fault>
         ensures gives { Takes (kept_of self.old) (instance name (record_view of.now)) result (kept_of self.new) }
         ensures kind { IfErr result (λ fault. IsOfBytes fault) }
@@ -125,6 +129,9 @@ impl Given {
             return Err(Fault::NoMemory);
         };
         self.waiting.look_again(&self.names);
+        let Ok(()) = self.keywords.add(of) else {
+            return Err(Fault::NoMemory);
+        };
         Ok(())
     }
 
@@ -141,6 +148,7 @@ impl Given {
         ensures instances { result.instances ≡ length (kept_of self).names }
         ensures schema { result.schema.items ≡ (kept_of self).schema }
         ensures header { part_views result.header.items ≡ (kept_of self).header }
+        ensures keywords { result.keywords ≡ (kept_of self).counts }
     {
         let Given {
             alloc: _,
@@ -149,11 +157,13 @@ impl Given {
             sections: _,
             names,
             waiting: _,
+            keywords,
         } = self;
         WellFormed {
             instances: names.len() as u64,
             schema: name,
             header,
+            keywords,
         }
     }
 }

@@ -1,7 +1,9 @@
 //! Whole files, read by themselves.
-ghost use Rattle.std.specs.Prelude.{◌≡◌, ◌≤◌, ◌+◌, ◌<◌, ◌^◌, ℕ, List, IfErr, IfOk, OnOk, length};
+ghost use Rattle.std.specs.Prelude.{◌≡◌, ◌≢◌, ◌≤◌, ◌+◌, ◌<◌, ◌^◌, ℕ, List, IfErr, IfOk, OnOk, length};
 ghost use Rattle.p21_spec_basics.specs.Limits.{Limits as MeantLimits};
 ghost use Rattle.p21_stream_statements.specs.Source.{IsOfBytes};
+ghost use Rattle.p21_spec_syntax.specs.WellFormedFile.{IsIllFormed};
+ghost use Rattle.p21_stream_syntax.specs.Walk.{IsFoundOf};
 ghost use Rattle.p21_stream_syntax.specs.Reading.{IsReadFrom, IsReadToEnd, IsWellFormedInput, PieceGives, ReadsMore, RefusesMore, RefusesSyntax, TakesAtMost, WalkHasTaken, read_failures};
 
 use crate::walk::{Walk, refused};
@@ -37,6 +39,27 @@ pub fn syntax<R: Read>(
 {
     let mut walk = Walk::new(alloc, limits);
     match read_all(&mut walk, limits, reader) {
+        Ok(()) => {}
+        Err(refusal) => return Err(refusal),
+    }
+    match walk.finish() {
+        Ok(found) => Ok(found),
+        Err(refusal) => Err(refusal),
+    }
+}
+
+/// Reads a file that lies in memory by itself, without a schema. It isn't copied.
+///
+/// # Errors
+///
+/// As `syntax`, but that no read fails.
+pub fn syntax_of(alloc: Global, limits: Limits, file: &[u8]) -> Result<WellFormed, Refusal>
+    ensures ok { IfOk result (λ found. IsFoundOf limits file.now found) }
+    ensures err { IfErr result (λ refusal. refusal.fault ≢ Fault.NoMemory → IsIllFormed limits file.now) }
+    ensures kind { IfErr result (λ refusal. IsOfBytes refusal.fault) }
+{
+    let mut walk = Walk::new(alloc, limits);
+    match walk.read(file) {
         Ok(()) => {}
         Err(refusal) => return Err(refusal),
     }

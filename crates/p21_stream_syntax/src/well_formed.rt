@@ -1,4 +1,5 @@
 use p21_grammar_tree::Part;
+use p21_syntax_words::KeywordCounts;
 
 /// What a well-formed file says of itself.
 #[derive(Debug, Drop)]
@@ -9,4 +10,6 @@ pub struct WellFormed {
     pub schema: Vec<u8>,
     /// The records of its header, in their order.
     pub header: Vec<Part>,
+    /// How many records of its instances have which keyword.
+    pub keywords: KeywordCounts,
 }

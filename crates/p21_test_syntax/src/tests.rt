@@ -1,7 +1,7 @@
 //! What comes of files that are read by themselves.
 use p21_stream_io::Watched;
 use p21_stream_statements::{At, Refusal};
-use p21_stream_syntax::{WellFormed, syntax};
+use p21_stream_syntax::{WellFormed, syntax, syntax_of};
 use p21_values::{Limits, Name};
 use std::alloc::Global;
 
@@ -173,25 +173,32 @@ fn refusal_line(alloc: Global, refusal: Refusal) -> Option<String> {
     }
 }
 
-/// What comes of a text.
-fn line_of(alloc: Global, text: &[u8]) -> Option<String> {
-    let mut reader = Watched::new(text);
-    match syntax(alloc, Limits::usual(), &mut reader) {
+/// What comes of a reader or of a text.
+fn line_of(alloc: Global, answer: Result<WellFormed, Refusal>) -> Option<String> {
+    match answer {
         Ok(found) => found_line(alloc, &found),
         Err(refusal) => refusal_line(alloc, refusal),
     }
 }
 
-/// Whether this comes of a file of four parts.
+/// Whether this is the line of an answer.
+fn is_line(alloc: Global, answer: Result<WellFormed, Refusal>, wanted: &str) -> bool {
+    match line_of(alloc, answer) {
+        Some(line) => line.as_str() == wanted,
+        None => false,
+    }
+}
+
+/// Whether this comes of a file of four parts, from a reader and in memory.
 fn comes_of(alloc: Global, row: Row) -> bool {
     let (schema, instances, back, wanted) = row;
     let Ok(text) = format!(in alloc; "{NAMES}{schema}{instances}{back}") else {
         return false;
     };
-    match line_of(alloc, text.as_bytes()) {
-        Some(line) => line.as_str() == wanted,
-        None => false,
-    }
+    let mut reader = Watched::new(text.as_bytes());
+    let limits = Limits::usual();
+    is_line(alloc, syntax(alloc, limits, &mut reader), wanted)
+        && is_line(alloc, syntax_of(alloc, limits, text.as_bytes()), wanted)
 }
 
 /// The number of the first row that doesn't hold.

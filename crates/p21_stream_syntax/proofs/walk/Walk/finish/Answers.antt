@@ -11,4 +11,4 @@ returns-in-Some-clause-gives c = finish-missing c.args.self.statements (kept_of 
 
 pub returns-in-None-clause-gives : goal.returns-in-None-clause-gives
 returns-in-None-clause-gives c =
-    found-whole c.args.self.statements (kept_of c.args.self.given) c.into_well_formed.result c.in-Ok.ensures.gives (c.in-None.ensures.none refl) c.into_well_formed.ensures.instances c.into_well_formed.ensures.schema c.into_well_formed.ensures.header
+    found-whole c.args.self.statements (kept_of c.args.self.given) c.into_well_formed.result c.in-Ok.ensures.gives (c.in-None.ensures.none refl) c.into_well_formed.ensures.instances c.into_well_formed.ensures.schema c.into_well_formed.ensures.header c.into_well_formed.ensures.keywords

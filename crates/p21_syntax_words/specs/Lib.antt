@@ -1,0 +1,3 @@
+-- The header in words, and the keywords counted.
+pub mod HeaderText
+pub mod KeywordCounts
