@@ -468,7 +468,7 @@ async function begin(said = "", asked = USUALLY_ASKED) {
 function heard(message, job, said) {
   const { answer, lists, places, further, report, trouble, isWhole } = message;
   if (trouble) stop();
-  else if (report || (isWhole && !(answer && job.asked.report))) rest((answer?.differences ?? lists ?? shownLists)?.isKept);
+  else if (report || (isWhole && !(answer?.differences && job.asked.report))) rest((answer?.differences ?? lists ?? shownLists)?.isKept);
   if (message.progress) progress(message.progress);
   if (trouble) say(`There is no answer: ${shown(trouble)}.`);
   if (answer?.isAlone) showAlone(answer);
