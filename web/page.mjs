@@ -1339,12 +1339,13 @@ at("module").append(
   "What runs here is WebAssembly: the same sources as the proved program’s, through LLVM’s other backend.",
 );
 
-showRemembered();
+const known = showRemembered();
 
 if (module) {
-  const asked = started({}, ({ version, trouble }) => {
+  const asked = started({}, async ({ version, trouble }) => {
     asked.terminate();
     at("version").textContent = version ?? `unknown: ${trouble}`;
+    await known;
     document.body.dataset.ready = "";
   });
 } else {
