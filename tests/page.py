@@ -354,6 +354,9 @@ def asked_otherwise_in(page, name):
     count = "[...document.querySelectorAll('.differences li')].filter((found) => found.checkVisibility()).length"
     status = "document.querySelector('.sifting [role=status]').textContent"
     every = ask(count)
+    ask("document.querySelectorAll('details').forEach((found) => { found.open = true; })" if name == "Chromium" else
+        "[...document.querySelectorAll('details')].map((found) => found.open = true).length")
+    usable(page, f"what differs in {name}")
     typed(page, "vertex_point", f"2 of {every}")
     judge(f"what is found in {name}", 2, ask(count))
     judge(f"headings of what is found in {name}", True, "In the header" not in ask(heads))
@@ -380,6 +383,7 @@ def fitted_in(page, name):
     changes = "document.querySelector('.adapted pre').textContent.split('\\n')"
     tool = lambda listing: subprocess.run([ROOT / "tools" / "p21-adapt", "-o", "copy.exp", listing], cwd=page.folder, capture_output=True, text=True, check=False).stderr.splitlines()
     chosen(page, "bounds.exp")
+    usable(page, f"a listing made fit in {name}")
     judge(f"what is changed in {name}", tool("bounds.exp"), ask(changes))
     ask("[...document.querySelectorAll('.adapted button')].find((found) => found.textContent === 'Save the copy').click()")
     judge(f"the copy in {name}", (page.folder / "copy.exp").read_text(), saved(page, "bounds.adapted.exp"))
@@ -418,6 +422,7 @@ def alone_in(page, name):
     holds = ask("[...document.querySelectorAll('.holds tr')].map((row) => [...row.children].map((cell) => cell.textContent))")
     judge(f"what it holds in {name}", (["ORIENTED_EDGE", "24"], 128), (holds[0], sum(int(count) for _, count in holds)))
     judge(f"which schema is wanted in {name}", "Now the schema is wanted: product.step names PRODUCT_MODEL.", ask(SAID))
+    usable(page, f"a file alone in {name}")
     judge(f"what a schema adds in {name}", True, "What a schema adds" in ask("document.querySelector('.wanting').textContent"))
     page.browser.choose("#second", page.folder / "BadByte.step")
     wait(f"{verdict} === 'Refused'")
@@ -907,6 +912,17 @@ def accessible(page):
     in_both(page, accessible_in)
     through_everything(page)
     on_a_phone(page)
+
+
+def usable(page, said):
+    """What is shown is large enough to be pressed, has headings in order, and is read in light and dark; nothing stands beside a narrow page."""
+    for fault, script in (("too small", SMALL), ("headings that leave out a level", LEVELS), ("hard to read", FAINT)):
+        page.tests.judge(f"{fault}, {said}", [], page.browser.ask(script))
+    if isinstance(page.browser, browser.Browser):
+        page.browser.look(width=360, height=740, dark=True)
+        page.tests.judge(f"hard to read in the dark, {said}", [], page.browser.ask(FAINT))
+        page.tests.judge(f"nothing stands beside, {said}", True, page.browser.ask("document.documentElement.scrollWidth <= innerWidth"))
+        page.browser.look()
 
 
 def accessible_in(page, name):

@@ -468,7 +468,7 @@ async function begin(said = "", asked = USUALLY_ASKED) {
 function heard(message, job, said) {
   const { answer, lists, places, further, report, trouble, isWhole } = message;
   if (trouble) stop();
-  else if (report || (isWhole && !(answer && job.asked.report))) rest((answer?.differences ?? lists ?? shownLists)?.isKept);
+  else if (report || (isWhole && !(answer?.differences && job.asked.report))) rest((answer?.differences ?? lists ?? shownLists)?.isKept);
   if (message.progress) progress(message.progress);
   if (trouble) say(`There is no answer: ${shown(trouble)}.`);
   if (answer?.isAlone) showAlone(answer);
@@ -1339,12 +1339,13 @@ at("module").append(
   "What runs here is WebAssembly: the same sources as the proved program’s, through LLVM’s other backend.",
 );
 
-showRemembered();
+const known = showRemembered();
 
 if (module) {
-  const asked = started({}, ({ version, trouble }) => {
+  const asked = started({}, async ({ version, trouble }) => {
     asked.terminate();
     at("version").textContent = version ?? `unknown: ${trouble}`;
+    await known;
     document.body.dataset.ready = "";
   });
 } else {

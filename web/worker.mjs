@@ -437,6 +437,7 @@ async function done({ module, report, asked, ...given }, say) {
   } else if (module) {
     job = new Job(new Program(module), await unpackedJob({ ...given, asked }, say), say);
     await job.run();
+    if (asked.report && job.compared) say({ report: job.report(asked.report) });
   } else {
     say({ lists: job.lists(asked), isWhole: true });
   }
