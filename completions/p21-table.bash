@@ -4,10 +4,11 @@ _p21_table() {
     local word=${COMP_WORDS[COMP_CWORD]}
     COMPREPLY=()
     case ${COMP_WORDS[COMP_CWORD - 1]}:$word in
-        *:-*) COMPREPLY=($(compgen -W '--help --schemas --data --names --schema --manifest --resume --bagit --verify --full --base --files-from --format --jobs' -- "$word")) ;;
+        *:-*) COMPREPLY=($(compgen -W '--help --schemas --data --names --schema --manifest --resume --bagit --verify --full --base --files-from --format --database --retry --jobs' -- "$word")) ;;
     esac
     case ${COMP_WORDS[COMP_CWORD - 1]} in
-        --format) COMPREPLY=($(compgen -W 'text tsv json' -- "$word")) ;;
+        --format) COMPREPLY=($(compgen -W 'text tsv csv json sqlite' -- "$word")) ;;
+        --retry) compopt +o default ;;
         -j | --jobs) compopt +o default ;;
     esac
 }

@@ -12,5 +12,7 @@ complete -c p21-table -l verify -r -F -d 'say what changed since a manifest, whi
 complete -c p21-table -l full -d 'with --verify: make each answer, number of instances and hash anew'
 complete -c p21-table -l base -r -F -d 'the folder below which the paths of a manifest lead'
 complete -c p21-table -l files-from -r -F -d 'a text with a file'\''s name in each line; - is standard input'
-complete -c p21-table -l format -x -a 'text tsv json' -d 'text, tab-separated, or a JSON object a line'
+complete -c p21-table -l format -x -a 'text tsv csv json sqlite' -d 'text, separated by tabs or commas, a JSON object a line, or a database'
+complete -c p21-table -l database -r -F -d 'with --format sqlite: the database to which the rows are added'
+complete -c p21-table -l retry -x -d 'try a file that has no answer N times more, behind the others'
 complete -c p21-table -s j -l jobs -x -d 'files checked side by side'

@@ -113,7 +113,12 @@ TOOLS_OTHERWISE = [
     "a signal, *",
     "a refusal, and a signal, *",
     "a program that ends by a signal*",
+    "killed once, without --retry",
+    "killed each time",
+    "a process that is ended *",
+    "a run that is ended",
     "no answer",
+    "no answers",
     "of the schema",
     "/dev/zero*",
 ]
@@ -548,12 +553,17 @@ def tools(made, tally, here):
         for attempt in range(ATTEMPTS):
             found = answer([sys.executable, TESTS / "platforms" / "as_windows.py", tool, *given], env=as_windows, **more)
             # Of the runs of the program one may be ended by Wine.
-            if found == wanted:
+            if timeless(found) == timeless(wanted):
                 break
         again += attempt
-        tally.check(f"{tool} {rest}", found, wanted)
+        tally.check(f"{tool} {rest}", timeless(found), timeless(wanted))
     tally.check("no copy is left", [path.name for path in copies.iterdir() if not path.name.startswith("wine")], [])
     tally.part(f"{made.name}, the tools", f": {again} command lines made again")
+
+
+def timeless(found):
+    """An answer without the seconds that stand last in the lines of a table with tabs."""
+    return tuple(re.sub(rb"\t[0-9]+\.[0-9]+(?=\r?$)", b"", part, flags=re.M) if isinstance(part, bytes) else part for part in found)
 
 
 def paths(made, tally):

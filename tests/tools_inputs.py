@@ -5,6 +5,7 @@ program than ./p21."""
 import os
 import pathlib
 import pwd
+import re
 import resource
 import subprocess
 
@@ -27,6 +28,11 @@ RUNS = [
 NOT_THERE, FOLDER = "cannot open {}: there is no such file", ("read fault: it is a folder", "cannot open {}: it is a folder")
 
 
+def timeless(text):
+    """An output without the seconds that stand last in the lines of a table."""
+    return re.sub(r"\t[0-9]+\.[0-9]+$", "", text, flags=re.M)
+
+
 def inputs(tests):
     """What is read from standard input is read as the file of that text, but for its name."""
     tests.make("pairs", "#1\t#71\n")
@@ -39,9 +45,9 @@ def inputs(tests):
             given = [*names[:at], "-", *names[at + 1 :]]
             output, error, status = tests.run([*words, *given], pathlib.Path(name).read_bytes())
             # The name stands in front of a place and in a row.
-            shown = tuple(text if name not in text else text.replace(name, "-") for text in wanted[:2])
+            shown = tuple(timeless(text).replace(name, "-") for text in wanted[:2])
             title = f"{tool} {' '.join(words)} with file {at + 1} from standard input"
-            tests.judge(title, (*shown, wanted[2]), (output, error, status))
+            tests.judge(title, (*shown, wanted[2]), (timeless(output), error, status))
 
 
 def reasons(tests):

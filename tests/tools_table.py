@@ -1,21 +1,40 @@
 #!/usr/bin/env python3
 """Runs tools/p21-table over the examples and over files that are made. P21 names another program than ./p21."""
 
+import csv
 import hashlib
+import io
 import json
 import os
+import re
 import runpy
 import shutil
+import sqlite3
 import subprocess
 import sys
 
-from tooling import AS_OTHERS, ROOT, SCHEMA, Tests, file_of
+from tooling import AS_OTHERS, MOST_SECONDS, ROOT, RUN_BY, SCHEMA, Tests, file_of
 
 sys.path.insert(0, str(ROOT / "tools"))
+import p21_plainly as plainly  # noqa: E402  pylint: disable=wrong-import-position
+
+try:
+    import pandas
+except ImportError:
+    # Where Debian keeps it for a Python that isn't Debian's.
+    sys.path.append("/usr/lib/python3/dist-packages")
+    try:
+        import pandas
+    except ImportError:
+        pandas = None
 
 BLOCK = "5d11fa2abae65fa2bff1265d357ae88c5adf85242cd77e53a1c8b9877eff411c"
 CHANGED = "2c7249104ea26fc6fa7c66495f8df8c2bf8f9ed06ab1ca0553e38d142f7e1c20"
-HEAD = "file\tanswer\tinstances\tsha256\tschema\tschema_sha256\tform"
+# The columns of a table for programs, of which the seconds come last, and what they stand in.
+COLUMNS = ["file", "answer", "instances", "sha256", "schema", "schema_sha256", "form"]
+BEHIND = ["bytes", "file_schema", "preprocessor_version", "originating_system", "seconds"]
+HEAD = "\t".join([*COLUMNS, *BEHIND])
+SECONDS = re.compile(r"[0-9]+\.[0-9]{1,3}")
 
 # Of each example the answer, how many instances it has, and its hash, as `p21 canon .. | sha256sum` has it.
 EXAMPLES = [
@@ -53,19 +72,48 @@ def by(schema, sha256):
     return schema, hashlib.sha256((ROOT / schema).read_bytes()).hexdigest(), 1 if sha256 else None
 
 
+def said(file):
+    """What a file says of itself, by hand: the schema and the programs; and its size, as the system says it."""
+    name = os.path.basename(file)
+    schema = {"SchemaName.step": "AUTOMOTIVE_DESIGN { 1 0 10303 214 1 1 1 1 }", "demo.step": "DEMO", "other.step": "OTHER"}
+    programs = ("written by hand", "") if name.startswith(("product", "a later")) else ("", "")
+    return (os.stat(file).st_size, schema.get(name, "PRODUCT_MODEL"), *programs)
+
+
 def tsv(row, schema=SCHEMA):
-    """A row as a line with tabs."""
-    return "\t".join("" if field is None else str(field) for field in (*row, *by(schema, row[3])))
+    """A row as a line with tabs, without the seconds."""
+    return "\t".join("" if field is None else str(field) for field in (*row, *by(schema, row[3]), *said(row[0])))
+
+
+def without_seconds(tests, name, output):
+    """The lines of a table with tabs without their last column, which has to be a time."""
+    lines = [line.rpartition("\t") for line in output.splitlines()]
+    tests.judge(f"{name}: seconds", [], [last for _, _, last in lines[1:] if not SECONDS.fullmatch(last)])
+    return [front for front, _, _ in lines]
+
+
+def expect_table(tests, name, arguments, status, lines, error):
+    """A run that prints a table with these lines, but for the seconds, and what it says beside it."""
+    output, said_beside, found = tests.run(arguments)
+    wanted = [HEAD.rpartition("\t")[0], *lines], error + "\n", status
+    tests.judge(name, wanted, (without_seconds(tests, name, output), said_beside, found))
 
 
 def examples(tests):
     """The folder of the examples, in each form and with several processes."""
-    lines = [HEAD, *map(tsv, EXAMPLES)]
+    lines = list(map(tsv, EXAMPLES))
     for jobs in ("1", "5"):
-        tests.expect(f"tabs, -j {jobs}", ["--format", "tsv", "-j", jobs, SCHEMA, "examples"], 1, lines, SUMMARY)
+        expect_table(tests, f"tabs, -j {jobs}", ["--format", "tsv", "-j", jobs, SCHEMA, "examples"], 1, lines, SUMMARY)
     output, error, status = tests.run(["--format", "json", SCHEMA, "examples"])
-    found = [tuple(json.loads(line).values())[:7] for line in output.splitlines()]
-    tests.judge("JSON", ([(*row, *by(SCHEMA, row[3])) for row in EXAMPLES], SUMMARY + "\n", 1), (found, error, status))
+    rows = [json.loads(line) for line in output.splitlines()]
+    found = [tuple(row[name] for name in [*COLUMNS, *BEHIND[:-1]]) for row in rows]
+    wanted = [(*row, *by(SCHEMA, row[3]), *said(row[0])) for row in EXAMPLES]
+    tests.judge("JSON", (wanted, SUMMARY + "\n", 1), (found, error, status))
+    tests.judge("JSON: seconds", True, all(isinstance(row["seconds"], float) and 0 < row["seconds"] < 300 for row in rows))
+    output, error, status = tests.run(["--format", "csv", SCHEMA, "examples"])
+    head, *rows = csv.reader(io.StringIO(output, newline=""))
+    wanted = [["" if field is None else str(field) for field in row] for row in wanted]
+    tests.judge("commas", ([*COLUMNS, *BEHIND], wanted, SUMMARY + "\n", 1), (head, [row[:-1] for row in rows], error, status))
     output, error, status = tests.run([SCHEMA, "examples"])
     wanted = [f"{file:35}  {answer:40}  {count or '-':>9}  {sha or '-'}" for file, answer, count, sha in EXAMPLES]
     tests.judge("text", (wanted, SUMMARY + "\n", 1), (output.splitlines(), error, status))
@@ -78,8 +126,7 @@ def hashes(tests):
         path = tests.make(f"{count}.step", file_of("\n".join(points)))
         written = subprocess.run([tests.program, "canon", SCHEMA, path], capture_output=True, check=True).stdout
         row = (path, "accepted", count, hashlib.sha256(written).hexdigest())
-        lines = [HEAD, tsv(row)]
-        tests.expect(f"{count} instances", ["--format", "tsv", SCHEMA, path], 0, lines, "1 file, 1 accepted, 0 not")
+        expect_table(tests, f"{count} instances", ["--format", "tsv", SCHEMA, path], 0, [tsv(row)], "1 file, 1 accepted, 0 not")
 
 
 def data(tests):
@@ -89,9 +136,9 @@ def data(tests):
     command = f"'{tests.program}' canon {SCHEMA} examples/product.step | sed '1,/^ENDSEC;$/d' | sha256sum"
     written = subprocess.run(command, shell=True, capture_output=True, check=True, text=True).stdout.split()[0]
     files = ["examples/product.step", later]
-    lines = [HEAD, *(tsv((file, "accepted", 128, written)) for file in files)]
+    lines = [tsv((file, "accepted", 128, written)) for file in files]
     summary = f"2 files, 2 accepted, 0 not\nthe same data: examples/product.step '{later}'"
-    tests.expect("the data alone", ["--data", "--format", "tsv", SCHEMA, *files], 0, lines, summary)
+    expect_table(tests, "the data alone", ["--data", "--format", "tsv", SCHEMA, *files], 0, lines, summary)
     output, error, status = tests.run([SCHEMA, *files])
     found = len(set(line.split()[-1] for line in output.splitlines())), error, status
     tests.judge("the data and the header", (2, "2 files, 2 accepted, 0 not\n", 0), found)
@@ -108,7 +155,7 @@ def schemas(tests):
     ]
     given = ["--format", "tsv", "--schema", "examples/demo.exp", "--schema", SCHEMA, SCHEMA, *(row[0] for row in rows)]
     summary = "3 files, 1 accepted, 2 not\n     1 refused 49 WrongKind\n     1 refused 31 SchemaName"
-    tests.expect("several schemas", given, 1, [HEAD, *map(tsv, rows, [SCHEMA, "examples/demo.exp", SCHEMA])], summary)
+    expect_table(tests, "several schemas", given, 1, list(map(tsv, rows, [SCHEMA, "examples/demo.exp", SCHEMA])), summary)
     given = ["--schema", "examples/product.step", SCHEMA, demo]
     refused = "p21-table: examples/product.step: schema refused S2 Syntax"
     tests.expect("a further schema that is refused", given, 2, [], refused)
@@ -168,7 +215,7 @@ def controls(tests):
 def full_disk(tests):
     """An output to which nothing can be written."""
     error = "p21-table: [Errno 28] No space left on device\n"
-    for form in ("text", "tsv", "json"):
+    for form in ("text", "tsv", "csv", "json"):
         tests.judge(f"a full disk, {form}", (error, 2), tests.full_disk(["--format", form, SCHEMA, "examples/product.step"]))
 
 
@@ -188,17 +235,20 @@ def pipes(tests):
     """The schema or a file from a pipe, and a file as standard input."""
     step = ROOT / "examples" / "product.step"
     digest = by(SCHEMA, BLOCK)[1]
-    line = f"{{}}\taccepted\t128\t{BLOCK}\t{{}}\t{digest}\t1"
+    line = f"{{}}\taccepted\t128\t{BLOCK}\t{{}}\t{digest}\t1\t{step.stat().st_size}\tPRODUCT_MODEL\twritten by hand\t"
     summary = "1 file, 1 accepted, 0 not\n"
-    output, error, status = tests.run(["--format", "tsv", "/dev/stdin", str(step)], (ROOT / SCHEMA).read_bytes())
-    tests.judge("a schema from a pipe", (f"{HEAD}\n{line.format(step, '/dev/stdin')}\n", summary, 0), (output, error, status))
-    wanted = (f"{HEAD}\n{line.format('/dev/stdin', SCHEMA)}\n", summary, 0)
+
+    def judge(name, file, schema, found):
+        output, error, status = found
+        lines = [HEAD.rpartition("\t")[0], line.format(file, schema)]
+        tests.judge(name, (lines, summary, 0), (without_seconds(tests, name, output), error, status))
+
+    judge("a schema from a pipe", step, "/dev/stdin", tests.run(["--format", "tsv", "/dev/stdin", str(step)], (ROOT / SCHEMA).read_bytes()))
     given = ["--format", "tsv", SCHEMA, "/dev/stdin"]
-    tests.judge("a file from a pipe", wanted, tests.run(given, step.read_bytes()))
+    judge("a file from a pipe", "/dev/stdin", SCHEMA, tests.run(given, step.read_bytes()))
     with step.open("rb") as file:
-        tests.judge("a file as standard input", wanted, tests.run(given, file=file))
-    wanted = (f"{HEAD}\n{line.format('-', SCHEMA)}\n", summary, 0)
-    tests.judge("standard input as -", wanted, tests.run(["--format", "tsv", SCHEMA, "-"], step.read_bytes()))
+        judge("a file as standard input", "/dev/stdin", SCHEMA, tests.run(given, file=file))
+    judge("standard input as -", "-", SCHEMA, tests.run(["--format", "tsv", SCHEMA, "-"], step.read_bytes()))
 
 
 def refusals(tests):
@@ -265,6 +315,262 @@ def unanswered(tests):
     tests.expect("no program", [SCHEMA, str(folder)], 2, [], line, program="/nowhere/p21")
     line = "p21-table: /bin/true doesn't say which canonical form it writes: it says nothing"
     tests.expect("another program", [SCHEMA, str(folder)], 2, [], line, program="/bin/true")
+
+
+# What stands in the last two parameters but one of FILE_NAME, and what that says: by the standard, by hand.
+SPELLED = [
+    (b"'ST-DEVELOPER v18','SolidWorks 2020'", "ST-DEVELOPER v18", "SolidWorks 2020"),
+    (b"/* preprocessor_version */ 'a;b' ,\n/* originating_system, ')' */ '',/**/", "a;b", ""),
+    (b"'it''s','C:\\\\tmp'", "it's", "C:\\tmp"),
+    (b"'Caf\\X2\\00E9\\X0\\','Caf\\X\\E9'", "Caf\u00e9", "Caf\u00e9"),
+    (b"'Caf\\S\\i','\\X4\\0001F600\\X0\\'", "Caf\u00e9", "\U0001f600"),
+    (b"'\\X2\\D83DDE00\\X0\\','Caf\xc3\xa9\n'", "\U0001f600", "Caf\u00e9"),
+    (b"$,'x'", None, "x"),
+    # These are refused: another page, half of a pair, no directive, no UTF-8, and no text.
+    (b"'\\PE\\\\S\\0','\\X2\\D83D\\X0\\'", "\u0410", "\ufffd"),
+    (b"'C:\\parts','M\xfcller'", "C:\\parts", "M\udcfcller"),
+    (b"5,('x')", None, None),
+]
+NO_HEADERS = [
+    (b"", None, None),
+    (b"no STEP file; 'FILE_SCHEMA(''A'')'; \x00\xff", None, None),
+    (b"ISO-10303-21;HEADER;FILE_SCHEMA(('A','B'));FILE_NAME('','',(''),(''),'p');", "A, B", "p"),
+    (b"ISO-10303-21;HEADER;FILE_SCHEMA(());FILE_NAME(('p'", None, None),
+    (b"ISO-10303-21;HEADER;ENDSEC;DATA;FILE_SCHEMA(('A'));", None, None),
+    (b"\xef\xbb\xbfISO-10303-21;HEADER;FILE_SCHEMA(('a\\X\\5F1'));FILE_NAME('','',(''),(''),'\\", "a_1", None),
+]
+
+
+def of_headers(tests):
+    """What a row says of the header, accepted or not; and the strings of which the program says that they mean the same."""
+    frame = file_of("").encode()
+    first, last = frame.split(b"(''),'','','');")
+    paths = []
+    for number, (text, _, _) in enumerate(SPELLED):
+        paths.append(tests.make(f"header{number}.step", first + b"('')," + text.rstrip(b",/*") + b",'');" + last))
+    for number, (text, _, _) in enumerate(NO_HEADERS):
+        paths.append(tests.make(f"none{number}.step", text))
+    output, _, status = tests.run(["--format", "json", SCHEMA, *paths])
+    rows = [json.loads(line) for line in output.splitlines()]
+    wanted = [("PRODUCT_MODEL", *texts) for _, *texts in SPELLED] + [(schema, program, None) for _, schema, program in NO_HEADERS]
+    tests.judge("what headers say", (wanted, 1), ([tuple(row[name] for name in BEHIND[1:4]) for row in rows], status))
+    accepted = [row["answer"] == "accepted" for row in rows]
+    tests.judge("which of them are accepted", [True] * 7 + [False] * 9, accepted)
+    for text, *texts in SPELLED[:7]:
+        for spelled, meant in zip(re.findall(rb"'(?:[^']|'')*'", re.sub(rb"/\*.*?\*/", b"", text)), filter(lambda it: it is not None, texts)):
+            done = subprocess.run([tests.program, "param", tests.make("param", spelled)], capture_output=True, check=False, text=True)
+            tests.judge(f"{spelled} by the program", meant, plainly.unescaped(done.stdout.rstrip("\n")[1:-1]))
+    long = tests.make("long.step", first + b"(''),'" + b"p" * 200_000 + b"','','');" + last)
+    row = json.loads(tests.run(["--format", "json", SCHEMA, long])[0])
+    tests.judge("a long header", ("p" * 200_000, "PRODUCT_MODEL"), (row["preprocessor_version"], row["file_schema"]))
+
+
+# Names of any bytes: no UTF-8, what isn't shown, and what means something in a table.
+NAMES = [b"\xff", b"half\xc3", "\u0085".encode(), b"\x85", "\u00a0".encode(), b"\xa0", "\u2028".encode(), "\U000e0001".encode()]
+NAMES += [b"a\tb", b"a\nb", b"a\rb", b"a\x1b[1m", b"\\xff", b"a\\\\b", b'"quoted", and', b"'", b"#1", b" NA", "\u00fc \U0001f600".encode()]
+
+
+def bytes_by_shell(text):
+    """The bytes that a text with escapes stands for, as bash says it."""
+    command = ["bash", "-c", "printf '%b' \"$1\"", "bash", text]
+    return subprocess.run(command, capture_output=True, check=True, env={**os.environ, "LC_ALL": "C.UTF-8"}).stdout
+
+
+def any_names(tests):
+    """Names of any bytes come back from each form: of tables by a shell, and from JSON as Python has them."""
+    folder = tests.here / "any"
+    folder.mkdir()
+    wanted = sorted(os.fsencode(folder) + b"/" + name + b".step" for name in NAMES)
+    for path in wanted:
+        with open(path, "wb") as file:
+            file.write(file_of("").encode())
+    database = str(tests.here / "any.db")
+    found = {}
+    for form in ("tsv", "csv", "json"):
+        output = tests.run(["--format", form, SCHEMA, str(folder)])[0]
+        tests.judge(f"{form}: a line each", len(NAMES) + (form != "json"), len(output.splitlines()))
+        if form == "json":
+            found[form] = [os.fsencode(json.loads(line)["file"]) for line in output.splitlines()]
+            continue
+        rows = [line.split("\t") for line in output.split("\n")[:-1]] if form == "tsv" else list(csv.reader(io.StringIO(output)))
+        found[form] = [bytes_by_shell(row[0]) for row in rows[1:]]
+    tests.run(["--format", "sqlite", "--database", database, SCHEMA, str(folder)])
+    found["sqlite"] = [bytes_by_shell(row[0]) for row in sqlite3.connect(database).execute("SELECT file FROM files")]
+    for form, names in found.items():
+        tests.judge(f"{form}: names of any bytes", wanted, sorted(names))
+    if pandas is None:
+        return "pandas"
+    output = tests.run(["--format", "csv", SCHEMA, str(folder)])[0]
+    table = pandas.read_csv(io.StringIO(output), keep_default_na=False, na_values=[""])
+    tests.judge("pandas: names", wanted, sorted(map(bytes_by_shell, table["file"])))
+    tests.judge("pandas: columns", ([*COLUMNS, *BEHIND], "int64", "float64"), (list(table), str(table["bytes"].dtype), str(table["seconds"].dtype)))
+    output = tests.run(["--format", "json", SCHEMA, str(folder)])[0]
+    table = pandas.DataFrame(map(json.loads, output.splitlines()))
+    tests.judge("pandas: names from JSON", wanted, sorted(map(os.fsencode, table["file"])))
+    table = pandas.read_sql("SELECT * FROM files", sqlite3.connect(database))
+    tests.judge("pandas: names from a database", wanted, sorted(map(bytes_by_shell, table["file"])))
+    return ""
+
+
+def again(tests):
+    """A file without an answer is tried again, behind the others and as often as is said; one that has an answer isn't."""
+    folder = tests.here / "again"
+    folder.mkdir()
+    for name in "abc":
+        shutil.copy(ROOT / "examples" / "product.step", folder / f"{name}.step")
+    shutil.copy(ROOT / "examples" / "refused" / "Count.step", folder / "refused.step")
+    runs, log = folder / "runs", []
+
+    def table(lines, *options):
+        runs.write_text("")
+        program = tests.rigged("rigged", f'case "$1" in canon) echo "${{4##*/}}" >> {runs} ;; esac\n{lines}')
+        output, error, status = tests.run(["--format", "json", "-j", "2", *options, SCHEMA, str(folder)], program=program)
+        log[:] = sorted(runs.read_text().split())
+        rows = [json.loads(line) for line in output.splitlines()]
+        return [(os.path.basename(row["file"])[:-5], row["answer"]) for row in rows], error.splitlines(), status
+
+    kill = 'case "$1 $*" in canon*/b.step*)'
+    once = f"{kill} [ -e {folder}/killed ] || {{ touch {folder}/killed; kill -9 $$; }} ;; esac"
+    answered = [("a", "accepted"), ("c", "accepted"), ("refused", "refused 45 Count in #3")]
+    said_again = "tried again: 1 file, of which 1 has an answer now"
+    rows, error, status = table(once, "--retry", "1")
+    tests.judge("killed once", ([*answered, ("b", "accepted")], True, 1), (rows, said_again in error, status))
+    tests.judge("the runs of one that is killed once", ["a.step", "b.step", "b.step", "c.step", "refused.step"], log)
+    (folder / "killed").unlink()
+    rows, error, status = table(once)
+    tests.judge("killed once, without --retry", (("b", "ended by signal 9"), False, 3), (rows[1], any(line.startswith("tried again") for line in error), status))
+    rows, error, status = table(f"{kill} kill -9 $$ ;; esac", "--retry", "2")
+    said_again = "tried again: 1 file, of which 0 have an answer now"
+    tests.judge("killed each time", ([*answered, ("b", "ended by signal 9")], True, 3), (rows, said_again in error, status))
+    tests.judge("the runs of one that is killed each time", ["a.step", "b.step", "b.step", "b.step", "c.step", "refused.step"], log)
+    late = folder / "late.step"
+    command = ["--retry", "1", "--format", "json", SCHEMA, str(late), str(folder / "a.step")]
+    program = tests.rigged("rigged", f'case "$1 $*" in canon*/a.step*) cp {folder}/a.step {late} ;; esac')
+    output, _, status = tests.run(command, program=program)
+    rows = [(json.loads(line)["file"], json.loads(line)["answer"]) for line in output.splitlines()]
+    tests.judge("a file that comes late", ([(str(folder / "a.step"), "accepted"), (str(late), "accepted")], 0), (rows, status))
+    late.unlink()
+    manifest = tests.here / "again.json"
+    (folder / "killed").unlink(missing_ok=True)
+    table(once, "--retry", "1", "--manifest", str(manifest))
+    paths = [json.loads(line)["path"] for line in manifest.read_text().splitlines()[1:]]
+    tests.judge("a manifest", sorted(str(folder / f"{name}.step") for name in ("a", "b", "c", "refused")), sorted(paths))
+    for number in ("x", "-1", "", "99999"):
+        _, _, status = tests.run([f"--retry={number}", SCHEMA, str(folder)])
+        tests.judge(f"--retry={number}", 2, status)
+
+
+def lost_processes(tests):
+    """With --names a process of the tool that is ended has the others begin again, and the file that ends it once more has no
+    answer."""
+    folder = tests.here / "lost"
+    folder.mkdir()
+    for name in "abcde":
+        shutil.copy(ROOT / "examples" / "product.step", folder / f"{name}.step")
+    ends = 'case "$1 $*" in canon*/c.step*) '
+    rows = [
+        ("a process that is ended each time", f"{ends} kill -9 $PPID; sleep 1 ;; esac", "the process that looked at it was ended", 3),
+        ("a process that is ended once", f"{ends} [ -e {folder}/ended ] || {{ touch {folder}/ended; kill -9 $PPID; sleep 1; }} ;; esac", "accepted", 0),
+    ]
+    for name, lines, answer, wanted in rows:
+        program = tests.rigged("rigged", lines)
+        output, _, status = tests.run(["--names", "-j", "2", "--format", "json", SCHEMA, str(folder)], program=program)
+        found = [json.loads(line) for line in output.splitlines()]
+        answers = ["accepted", "accepted", answer, "accepted", "accepted"]
+        tests.judge(name, (answers, wanted), ([row["answer"] for row in found], status))
+        tests.judge(f"{name}: hashes", [word == "accepted" for word in answers], [row["sha256"] is not None for row in found])
+
+
+def databases(tests):
+    """A database has a row for each answer, to which later runs add theirs, and what has no answer apart."""
+    database = str(tests.here / "files.db")
+    given = ["--format", "sqlite", "--database", database, SCHEMA]
+    tests.expect("a database", [*given, "examples"], 1, [], SUMMARY)
+
+    def rows(columns, table="files", order="file"):
+        with sqlite3.connect(database) as opened:
+            return opened.execute(f"SELECT {columns} FROM {table} ORDER BY {order}").fetchall()
+
+    def sha256(path):
+        return hashlib.sha256((ROOT / path).read_bytes()).hexdigest()
+
+    wanted = [(file, answer, count, found, sha256(file)) for file, answer, count, found in EXAMPLES]
+    tests.judge("its rows", wanted, rows("file, answer, instances, canonical_sha256, sha256"))
+    tests.judge("its columns", [said(row[0]) for row in EXAMPLES], rows(", ".join(BEHIND[:-1])))
+    data = "d1ef44e135ce9068e56fb79f3288b855d8667e3ab9be1ff07a71f07f7cdf80ef"
+    found = rows("number, name, statement, instance, data_sha256, form, schema, schema_sha256")
+    listing = by(SCHEMA, None)[:2]
+    wanted = [(45, "Count", None, "#3", None, None, *listing), (None, None, None, None, data, 1, *listing)]
+    tests.judge("a refusal and an answer", wanted, [found[5], found[2]])
+    opened = sqlite3.connect(database)
+    same = "SELECT group_concat(file, ' ') FROM (SELECT * FROM files ORDER BY file) WHERE canonical_sha256 IS NOT NULL"
+    found = opened.execute(f"{same} GROUP BY canonical_sha256 HAVING count(*) > 1").fetchall()
+    tests.judge("what means the same", [("examples/product-other.step examples/product.step",)], found)
+    for column, index in (("sha256", "files_by_bytes"), ("canonical_sha256", "files_by_meaning"), ("file", "files_by_name")):
+        ((*_, plan),) = opened.execute(f"EXPLAIN QUERY PLAN SELECT * FROM files WHERE {column} = ''")
+        tests.judge(f"the index of {column}", index, plan.split("INDEX ")[1].split()[0])
+    opened.close()
+    before = rows("max(checked)")
+    tests.expect("the same again", [*given, "examples"], 1, [], SUMMARY)
+    tests.judge("no row twice, and each anew", (13, True), (len(rows("file")), rows("min(checked)") > before))
+    path = tests.make("changing.step", (ROOT / "examples" / "product.step").read_text())
+    tests.run([*given, path])
+    tests.make("changing.step", (ROOT / "examples" / "product-changed.step").read_text())
+    tests.run([*given, path])
+    tests.judge("other bytes at a path", [(BLOCK,), (CHANGED,)], rows("canonical_sha256", f"files WHERE file = '{path}'", "checked"))
+    program = tests.rigged("rigged", 'case "$1 $*" in canon*/changing.step*) kill -9 $$ ;; esac')
+    _, _, status = tests.run([*given, path, "{here}/none.step"], program=program)
+    gone = (f"{tests.here}/none.step", f"cannot open {tests.here}/none.step: there is no such file")
+    tests.judge("no answers", (3, [(path, "ended by signal 9"), gone]), (status, rows("file, why", "unanswered")))
+    tests.judge("no answers are in no other table", [(path,), (path,)], rows("file", "files WHERE file LIKE '%/changing.step' OR file LIKE '%none%'"))
+    tests.judge("nothing but answers", [], rows("answer", "files WHERE answer <> 'accepted' AND answer NOT LIKE 'refused %'"))
+    tests.run([*given, path])
+    tests.judge("an answer at last", [gone], rows("file, why", "unanswered"))
+    program = tests.rigged("rigged", 'case "$1 $*" in canon*Count.step*) sleep 1; kill -9 $PPID ;; esac')
+    other = str(tests.here / "ended.db")
+    files = ["examples/product.step", "examples/refused/Count.step"]
+    _, _, status = tests.run(["--format", "sqlite", "--database", other, "-j", "1", SCHEMA, *files], program=program)
+    found = sqlite3.connect(other).execute("SELECT file FROM files").fetchall()
+    tests.judge("a run that is ended", (-9, [("examples/product.step",)]), (status, found))
+    words = [*RUN_BY, "tools/p21-table", "--format", "sqlite", "--database", f"{tests.here}/both.db", SCHEMA]
+    folders = ("examples", str(ROOT / "examples" / "refused"))
+    together = [subprocess.Popen([*words, folder], stderr=subprocess.DEVNULL) for folder in folders]
+    statuses = [run.wait() for run in together]
+    found = sqlite3.connect(tests.here / "both.db").execute("SELECT count(*) FROM files").fetchall()
+    tests.judge("two runs at once", ([1, 1], [(23,)]), (statuses, found))
+
+
+def wrong_databases(tests):
+    """What is no database, or one of somebody else, is told and stays as it is."""
+    text = tests.make("text.db", "no database, but long enough to be looked at\n" * 20)
+    other = sqlite3.connect(tests.here / "other.db")
+    other.execute("CREATE TABLE files (name TEXT)")
+    other.commit()
+    os.mkfifo(tests.here / "pipe.db")
+    rows = [
+        (text, f"cannot write {text}: file is not a database"),
+        ("{here}/other.db", "{here}/other.db has another table files"),
+        ("{here}/none/a.db", "cannot write {here}/none/a.db: unable to open database file"),
+        ("{here}/pipe.db", "cannot write {here}/pipe.db: it is no plain file"),
+        ("{here}", "cannot write {here}: it is no plain file"),
+    ]
+    for path, line in rows:
+        given = ["--format", "sqlite", "--database", path, SCHEMA, "examples/product.step"]
+        tests.expect(f"a database: {line}", given, 2, [], f"p21-table: {line}")
+    tests.judge("a table of somebody else", [("files",)], other.execute("SELECT name FROM sqlite_master").fetchall())
+    together = "--format sqlite and --database go together"
+    wrong = [
+        (["--format", "sqlite"], together),
+        (["--database", "a.db"], together),
+        (["--format", "sqlite", "--database", "a.db", "--names"], "a database has the hashes with names, with the header and without it"),
+        (["--format", "sqlite", "--database", "a.db", "--data"], "a database has the hashes with names, with the header and without it"),
+        (["--format", "sqlite", "--database", "a.db", "--manifest", "a.json"], "--format sqlite goes with no manifest"),
+        (["--format", "sqlite", "--database", "a.db", "--verify", "a.json"], "--format sqlite goes with no manifest"),
+        (["--retry", "1", "--verify", "a.json"], "--retry and --format csv don't go with --verify"),
+        (["--format", "csv", "--verify", "a.json"], "--retry and --format csv don't go with --verify"),
+    ]
+    for given, line in wrong:
+        tests.expect(" ".join(given), [*given, SCHEMA, "examples/product.step"], 2, [], f"p21-table: {line}")
 
 
 def changing(tests):
@@ -365,7 +671,12 @@ def without_room(tests):
     answers = dict(zip(files, ("accepted", "refused 45 Count in #3")))
 
     def limited(kilobytes, *words):
-        done = subprocess.run(["sh", "-c", f'ulimit -v {kilobytes}; exec "$@"', "sh", *words], capture_output=True, check=False, text=True)
+        command = ["sh", "-c", f'ulimit -v {kilobytes}; exec "$@"', "sh", *words]
+        try:
+            done = subprocess.run(command, capture_output=True, check=False, text=True, timeout=MOST_SECONDS)
+        except subprocess.TimeoutExpired as ended:
+            # Python itself may never end where it has no memory for an exception in front of the tool.
+            return (ended.stdout or b"").decode(), 2
         return done.stdout, done.returncode
 
     # With less Python doesn't come to the tool.
@@ -401,6 +712,12 @@ def main():
     pipes(tests)
     refusals(tests)
     controls(tests)
+    of_headers(tests)
+    left_out = any_names(tests)
+    again(tests)
+    lost_processes(tests)
+    databases(tests)
+    wrong_databases(tests)
     unanswered(tests)
     changing(tests)
     folders(tests)
@@ -413,7 +730,7 @@ def main():
     tests.expect("exchanged arguments", ["examples/product.step", SCHEMA], 2, [], f"p21-table: {refused}")
     tests.expect("no file", [SCHEMA], 2, [], "p21-table: no file is named")
     tests.expect("a folder without STEP files", [SCHEMA, str(ROOT / "tools")], 2, [], "p21-table: no file is named")
-    tests.end()
+    tests.end(left_out)
 
 
 if __name__ == "__main__":

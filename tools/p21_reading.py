@@ -128,6 +128,22 @@ def shown_character(character: str) -> str:
     return ESCAPES.get(character, form)
 
 
+def escaped(text: str) -> str:
+    """A text on one line from which it can be read back, whatever it is: a backslash is doubled, what isn't shown stands by its
+    number, and a byte that belongs to no character by a number from `\\x80` to `\\xff`, which no character has."""
+    if text.isprintable() and "\\" not in text:
+        return text
+    return "".join(map(escaped_character, text))
+
+
+def escaped_character(character: str) -> str:
+    """A character as it stands in such a text."""
+    code = ord(character)
+    if character == "\\":
+        return "\\\\"
+    return f"\\u{code:04x}" if 0x80 <= code < 0x100 and not character.isprintable() else shown_character(character)
+
+
 def quoted(name: str) -> str:
     """A name of a file as a word of a shell."""
     if name.isprintable():

@@ -19,7 +19,7 @@ import shutil
 import signal
 import sys
 import tempfile
-from typing import IO, Any, Callable, List, Sequence, Set
+from typing import IO, Any, Callable, Iterator, List, Sequence, Set
 
 IS_WINDOWS = os.name == "nt"
 # The program as a file.
@@ -49,6 +49,25 @@ def begin() -> None:
         if IS_WINDOWS:
             stream.reconfigure(encoding="utf-8", newline="\n")  # type: ignore[attr-defined]
         stream.reconfigure(errors="backslashreplace")  # type: ignore[attr-defined]
+
+
+@contextlib.contextmanager
+def pipes_held_back() -> Iterator[None]:
+    """Threads and processes that begin in a `with` block have an error, and no signal that ends all, where they write to a process
+    that isn't there any more."""
+    if IS_WINDOWS:
+        yield
+        return
+    before = signal.pthread_sigmask(signal.SIG_BLOCK, {signal.SIGPIPE})
+    try:
+        yield
+    finally:
+        signal.pthread_sigmask(signal.SIG_SETMASK, before)
+
+
+def let_pipes_go() -> None:
+    """Has a process that began so the signal again."""
+    signal.pthread_sigmask(signal.SIG_UNBLOCK, {signal.SIGPIPE})
 
 
 def expanded(words: Sequence[str]) -> List[str]:
