@@ -30,6 +30,7 @@ INSIDE = {
     ("Tool", "driver"): "ToolComponent",
     ("ToolComponent", "rules"): "ReportingDescriptor",
     ("ReportingDescriptor", "shortDescription"): "MultiformatMessageString",
+    ("ReportingDescriptor", "fullDescription"): "MultiformatMessageString",
     ("ReportingDescriptor", "help"): "MultiformatMessageString",
     ("ReportingDescriptor", "defaultConfiguration"): "ReportingConfiguration",
     ("Invocation", "toolExecutionNotifications"): "Notification",
@@ -66,6 +67,10 @@ def main():
         needs.skipped("there is no sarif_om, which Debian has in python3-sarif-python-om")
     tests = Tests("p21-where")
     files = ["examples/refused", "examples/product.step", f"{tests.here}/none"]
+    output, _, status = tests.run(["--most", "9", "--format", "sarif", SCHEMA, *files])
+    cut = read("SarifLog", json.loads(output)).runs[0]
+    told = [told.message.text.partition(" of ")[0] for told in cut.invocations[0].tool_execution_notifications]
+    tests.judge("a part of the refusals", (9, ["cannot open", "9"]), (len(cut.results), [text[: len("cannot open")] for text in told]))
     output, _, status = tests.run(["--format", "sarif", SCHEMA, *files])
     log = read("SarifLog", json.loads(output))
     run = log.runs[0]

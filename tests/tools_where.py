@@ -9,6 +9,7 @@ import json
 import pathlib
 import random
 import re
+import runpy
 import subprocess
 import sys
 import time
@@ -643,13 +644,24 @@ def speed(tests):
 TEXT, COUNT, BOOLEAN = str, int, bool
 SARIF = {
     "log": ({"version", "runs"}, {"$schema": TEXT, "version": TEXT, "runs": ["run"]}),
-    "run": ({"tool"}, {"tool": "tool", "columnKind": TEXT, "invocations": ["invocation"], "results": ["result"]}),
+    "run": (
+        {"tool"},
+        {"tool": "tool", "columnKind": TEXT, "invocations": ["invocation"], "results": ["result"], "properties": dict},
+    ),
     "tool": ({"driver"}, {"driver": "driver"}),
     "driver": ({"name"}, {"name": TEXT, "semanticVersion": TEXT, "rules": ["rule"]}),
     "rule": (
         {"id"},
-        {"id": TEXT, "name": TEXT, "shortDescription": "message", "help": "message", "defaultConfiguration": "configuration"},
+        {
+            "id": TEXT,
+            "name": TEXT,
+            "shortDescription": "texts",
+            "fullDescription": "texts",
+            "help": "texts",
+            "defaultConfiguration": "configuration",
+        },
     ),
+    "texts": ({"text"}, {"text": TEXT, "markdown": TEXT}),
     "configuration": (set(), {"level": TEXT}),
     "invocation": (
         {"executionSuccessful"},
@@ -733,6 +745,85 @@ def forms(tests):
     heads = [line for line in output.splitlines() if line.startswith("examples/") and ": " in line]
     wanted = ["examples/product.step: accepted, instances 128, canonical bytes 4872", "examples/refused/Missing.step: refused 46 Missing in #2"]
     tests.judge("text of several files, options among names", (wanted, "", 1), (heads, error, status))
+
+
+def helps(tests):
+    """The help of a rule is the section of docs/FAULTS.md on it, and as text what the program prints of it."""
+    page = pathlib.Path("docs/FAULTS.md").read_text()
+    sections = dict(re.findall(r"^### (S?\d+) \w+\n\n((?:(?!##).*\n)*)", page, re.M))
+    files = [tests.make("left.step", file_of("#1=!X();")), tests.make("header.step", file_of("", [("'','','');", "'','');")]))]
+    given = ["--format", "sarif", SCHEMA, "examples/refused", *files]
+    rules = json.loads(tests.run(given)[0])["runs"][0]["tool"]["driver"]["rules"]
+    tests.judge("rules with a help", 12, len(rules))
+    for rule in rules:
+        section = sections[rule["id"]].strip("\n")
+        tests.judge(f"help of {rule['id']} in Markdown", section, rule["help"]["markdown"])
+        told = subprocess.run([tests.program, "faults", rule["id"]], capture_output=True, check=True, text=True).stdout
+        tests.judge(f"help of {rule['id']} as text", told.partition("\n")[2].strip("\n"), rule["help"]["text"])
+        first = rule["fullDescription"]["text"]
+        is_first = any(paragraph.replace("`", "") == first for paragraph in section.split("\n\n"))
+        tests.judge(f"what {rule['id']} is in full", (True, True), (is_first, 40 < len(first) < 1024))
+    schema = tests.make("circular.exp", "SCHEMA s; TYPE t = u; END_TYPE; TYPE u = t; END_TYPE; END_SCHEMA;")
+    (rule,) = json.loads(tests.run(["--format", "sarif", schema])[0])["runs"][0]["tool"]["driver"]["rules"]
+    tests.judge("help on a schema", ("S5", sections["S5"].strip("\n")), (rule["id"], rule["help"]["markdown"]))
+
+
+# The instances of two files, and how many refusals of each number these have, counted by hand.
+COUNTED = ["#1=PERSON($,$,$,$);\n#2=PERSON($,$,$,$);\n#3=CARTESIAN_POINT((0.));\n#4=PERSON($,$,$,$);", "#1=CARTESIAN_POINT((0.));\n#2=VERTEX_POINT('',#9);"]
+BY_RULE, BY_FILE = {"46 Missing": 3, "45 Count": 2, "56 Dangling": 1}, [4, 2]
+# With --most, how many are listed, and what is said of all. With 3 the program looks for 4 in a file, and the first has as many.
+MOSTS = [
+    ([], 6, None),
+    (["--most", "6"], 6, None),
+    (["--most", "5"], 5, "5 of 6 refusals are listed, as --most says: 3 of 46 Missing, 2 of 45 Count, 1 of 56 Dangling"),
+    (["--most", "4"], 4, "4 of 6 refusals are listed, as --most says: 3 of 46 Missing, 2 of 45 Count, 1 of 56 Dangling"),
+    (["--most", "3"], 3, "3 of at least 6 refusals are listed, as --most says: 3 of 46 Missing, 2 of 45 Count, 1 of 56 Dangling"),
+    (["--most", "1"], 1, "1 of at least 4 refusals are listed, as --most says: 2 of 46 Missing, 1 of 45 Count, 1 of 56 Dangling"),
+]
+
+
+def counts(tests):
+    """How many refusals there are, of which a log has a part at most, with a sentence."""
+    files = [tests.make(f"counted{number}.step", file_of(text)) for number, text in enumerate(COUNTED)]
+    everything = json.loads(tests.run(["--all", "--format", "sarif", SCHEMA, *files])[0])["runs"][0]["results"]
+    uris = [f"file://{file}" for file in files]
+    for most, listed, sentence in MOSTS:
+        output, error, status = tests.run(["--all", *most, "--format", "sarif", SCHEMA, *files])
+        log = json.loads(output)
+        run = log["runs"][0]
+        said = [told["message"]["text"] for told in run["invocations"][0].get("toolExecutionNotifications", [])]
+        name = f"SARIF {' '.join(most)}"
+        wanted = [] if sentence is None else [sentence]
+        tests.judge(name, ([], listed, wanted, "".join(f"p21-where: {line}\n" for line in wanted), 1), (wrong_in(log, "log"), len(run["results"]), said, error, status))
+        tests.judge(f"{name}: it is a run that was done", True, run["invocations"][0]["executionSuccessful"])
+        if listed < 3:
+            continue
+        tests.judge(f"{name}: those in front", everything[:listed], run["results"])
+        grouped = {"found": 6, "listed": listed, "allLookedFor": listed != 3, "byRule": BY_RULE, "byFile": dict(zip(uris, BY_FILE))}
+        tests.judge(f"{name}: counts", grouped, run["properties"]["refusals"])
+        tests.judge(f"{name}: the greatest first", list(BY_RULE), list(run["properties"]["refusals"]["byRule"]))
+    output, _, _ = tests.run(["--most", "3", "--format", "lines", SCHEMA, *files])
+    tests.judge("lines: of each file", [3, 2], [sum(line.startswith(file) for line in output.splitlines()) for file in files])
+    # Where nothing else is said, the program looks for one more than 25,000, and without --all for the first alone.
+    asked = tests.here / "asked"
+    program = tests.rigged("rigged", f'case "$1" in check) echo "$*" >> {asked} ;; esac')
+    tests.run(["--all", "--format", "sarif", SCHEMA, files[0]], program=program)
+    tests.judge("what is looked for in SARIF", f"check --all --most 25001 -- {SCHEMA} {files[0]}", asked.read_text().splitlines()[0])
+    asked.unlink()
+    output, _, _ = tests.run(["--format", "sarif", SCHEMA, *files], program=program)
+    tests.judge("the first of each in SARIF", (f"check -- {SCHEMA} {files[0]}", 2), (asked.read_text().splitlines()[0], len(json.loads(output)["runs"][0]["results"])))
+    asked.unlink()
+    tests.run(["--all", "--format", "json", SCHEMA, files[0]], program=program)
+    tests.judge("what is looked for in JSON", f"check --all -- {SCHEMA} {files[0]}", asked.read_text().splitlines()[0])
+    log = runpy.run_path("tools/p21-where")
+    kept = log["Log"](None)
+    report = log["Report"]
+    for line in ["refused 46 Missing in #1"] * 25_000 + ["refused 45 Count in #3"]:
+        kept.take(report(files[0], line, 1, ""))
+    kept.take(report(files[1], "refused 45 Count in #1", 1, "", counted="refusals 1, no more were looked for"))
+    why = "the most that GitHub takes of one run; --most N lists N"
+    sentence = f"25,000 of at least 25,002 refusals are listed, {why}: 25,000 of 46 Missing, 2 of 45 Count"
+    tests.judge("more than 25,000", (25_000, sentence, 0), (len(kept.rows), kept.sentence(), kept.room))
 
 
 def seeking(tests):
@@ -1049,7 +1140,7 @@ def limits(tests):
 def main():
     tests = Tests("p21-where")
     groups = [faults, refused, values, schemas, attributes, explained, hints, kinds, others, renaming, changed]
-    groups += [expected, documented, missing, forms, several, first_of_all, many, seeking, columns, equals]
+    groups += [expected, documented, missing, forms, several, first_of_all, many, helps, counts, seeking, columns, equals]
     for group in [*groups, strings, unfinished, silent, without_proc, cut_short, references, lists, strange, controls, limits, memory, speed]:
         group(tests)
     tests.end()
