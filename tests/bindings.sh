@@ -9,8 +9,9 @@
 #   tests/bindings.sh [PREFIX]     what making/build-library has put below PREFIX is tried; without one it is built
 #
 # It wants a C compiler (CC) and, without PREFIX, `rt`. Where something else isn't here (valgrind, g++, clang++, libabigail, pkg-config, CMake, mypy, or
-# pytest for the Python of PYTHON, with numpy and distributed), what wants it is left out, the last line says so, and the status is
-# 77. All of these are packages of Debian, whose Python is /usr/bin/python3.
+# pytest for the Python of PYTHON, with numpy, pandas and distributed), what wants it is left out, the last line says so, and the status
+# is 77. All of these are packages of Debian, whose Python is /usr/bin/python3. The tasks that ask the program, P21 or that of the clone,
+# are left out where it isn't built.
 
 root=$(cd "$(dirname -- "$(readlink -f -- "$0")")/.." && pwd) || exit
 if [ $# -eq 0 ] && ! command -v rt > /dev/null; then
@@ -276,6 +277,23 @@ if command -v g++ > /dev/null; then
 else
     leave_out 'the C++ program of docs/LIBRARY.md' 'g++ is not here'
 fi
+
+# The tasks of docs/LIBRARY.md, in each language. The tools that some of them run ask the program, where there is one.
+program=${P21:-$root/crates/p21/out/p21}
+unset P21
+[ ! -x "$program" ] || export P21="$program"
+tasks() {
+    part "the tasks of docs/LIBRARY.md in $1" "$python" "$root/tests/bindings/tasks.py" "$2" "$3" "$4" "$5" -O1 -g -Wall -Wextra -Werror
+    told=$(sed -n '$s/.*left out: //p' "$here/log")
+    [ -z "$told" ] || leave_out "some tasks in $1" "$told"
+}
+tasks C c "$static" "${CC:-cc}" -std=c11
+if command -v g++ > /dev/null; then
+    tasks C++ cpp "$static" g++ -std=c++17
+else
+    leave_out 'the tasks of docs/LIBRARY.md in C++' 'g++ is not here'
+fi
+tasks Python python "$shared"
 
 # The lines of README in C, within a program that reads a schema and a file.
 {

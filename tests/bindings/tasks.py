@@ -1,0 +1,237 @@
+#!/usr/bin/env python3
+"""Runs the programs of docs/LIBRARY.md, "Tasks of everyday", in one language, over the examples and over files that are made.
+
+  tests/bindings/tasks.py c|cpp|python LIBRARY [COMPILER WORD..]
+
+LIBRARY is a static library for C and C++, and a shared one for Python. P21 in the environment names the program, which the tools
+ask; without it the rows that need one are left out, and so is what needs pandas where it isn't here. Expected are known hashes, the
+words of docs/FAULTS.md, and what other tests say of the same files. The last line says how many rows passed, and what was left out.
+"""
+
+import csv
+import hashlib
+import io
+import os
+import pathlib
+import re
+import shutil
+import socket
+import struct
+import subprocess
+import sys
+import tempfile
+import threading
+
+ROOT = pathlib.Path(__file__).resolve().parents[2]
+EXAMPLES = ROOT / "examples"
+SCHEMA = EXAMPLES / "product.exp"
+BLOCK = "5d11fa2abae65fa2bff1265d357ae88c5adf85242cd77e53a1c8b9877eff411c"
+CHANGED = "2c7249104ea26fc6fa7c66495f8df8c2bf8f9ed06ab1ca0553e38d142f7e1c20"
+COUNT = "The record has another number of values than the entity."
+ENDINGS = {"python": "py", "c": "c", "cpp": "cpp"}
+# Where C and C++ answer by a status that there is no answer, Python raises, which ends a program with this one.
+NO_ANSWER = {"python": 1, "c": 3, "cpp": 3}
+
+
+class Tasks:
+    """The programs of one language."""
+
+    def __init__(self, language, library, command):
+        self.language = language
+        self.library = library
+        self.command = command
+        self.folder = tempfile.TemporaryDirectory()
+        self.here = pathlib.Path(self.folder.name)
+        self.passed = self.failed = 0
+        self.left_out = []
+        self.environment = dict(os.environ, PATH=f"{ROOT / 'tools'}:{os.environ['PATH']}", PYTHONDONTWRITEBYTECODE="1")
+        self.environment.update(PYTHONPATH=str(ROOT / "python"), P21_LIBRARY=os.path.abspath(library))
+        self.has_program = bool(os.environ.get("P21"))
+
+    def words(self, title):
+        """The words that run the program below a title, which is compiled first."""
+        page = (ROOT / "docs" / "LIBRARY.md").read_text()
+        part = page.split(f"\n#### {title}\n")[1].split("\n#### ")[0].split("\n## ")[0]
+        source = self.here / f"{re.sub('[^a-z]+', '_', title.lower())}.{ENDINGS[self.language]}"
+        source.write_text(re.search(rf"^```{self.language}\n(.*?)^```$", part, re.M | re.S)[1])
+        if self.language == "python":
+            return [sys.executable, str(source)]
+        program = source.with_suffix("")
+        subprocess.run([*self.command, f"-I{ROOT / 'include'}", "-o", program, source, self.library], check=True)
+        return [str(program)]
+
+    def run(self, words, *given):
+        """What a program writes to each stream, and its status."""
+        done = subprocess.run([*words, *given], capture_output=True, check=False, timeout=300, env=self.environment, cwd=ROOT)
+        return done.stdout, done.stderr.decode(errors="replace"), done.returncode
+
+    def judge(self, name, wanted, found):
+        """One row: what is found is what is wanted."""
+        if wanted == found:
+            self.passed += 1
+        else:
+            self.failed += 1
+            print(f"{self.language}, {name}:\n  wanted {wanted}\n  found  {found}")
+
+    def unanswered(self, name, output, error, status):
+        """One row: the program has no answer, and says none."""
+        self.judge(name, (NO_ANSWER[self.language], False), (status, b"refused" in output or b"accepted" in output))
+        self.judge(f"{name}: something is said", True, bool(error))
+
+
+def catch(tasks):
+    """A refusal with its place."""
+    words = tasks.words("Catch a refusal with its place")
+    tasks.judge("accepted", (b"accepted, instances 128\n", "", 0), tasks.run(words, SCHEMA, EXAMPLES / "product.step"))
+    of_schema = ["refused 31 SchemaName at statement 5", "The file is of another schema than the one given."]
+    further = {"cpp": {"Count": ["the instance is #3"], "SchemaName": ["the statement is number 5"]}}
+    for name, lines in (("Count", ["refused 45 Count in #3", COUNT]), ("SchemaName", of_schema)):
+        path = EXAMPLES / "refused" / f"{name}.step"
+        if tasks.language == "python":
+            if not tasks.has_program:
+                continue
+            # The lines and columns are those of tests/tools_where.py.
+            lines = [*lines, f"{path}:{ {'Count': '11:31', 'SchemaName': '6:14'}[name] }"]
+        lines = [*lines, *further.get(tasks.language, {}).get(name, [])]
+        output, error, status = tasks.run(words, SCHEMA, path)
+        tasks.judge(f"refused, {name}", (lines, "", 1), (output.decode().splitlines(), error, status))
+    output, _, status = tasks.run(words, EXAMPLES / "product.step", SCHEMA)
+    wanted = ["schema refused S2 Syntax", "No declaration goes on so."]
+    tasks.judge("a schema that is none", (wanted, 1), (output.decode().splitlines(), status))
+    tasks.unanswered("a folder", *tasks.run(words, SCHEMA, EXAMPLES))
+
+
+def canonical(tasks):
+    """The canonical file is written, or nothing."""
+    words = tasks.words("Write the canonical file")
+    written = tasks.here / "canonical.step"
+    tasks.judge("canonical", (b"", "", 0), tasks.run(words, SCHEMA, EXAMPLES / "product-other.step", written))
+    tasks.judge("its bytes", BLOCK, hashlib.sha256(written.read_bytes()).hexdigest())
+    none = tasks.here / "none.step"
+    _, error, status = tasks.run(words, SCHEMA, EXAMPLES / "refused" / "Count.step", none)
+    tasks.judge("refused", (True, 1, False), ("refused 45" in error, status, none.exists()))
+    tasks.unanswered("a full disk", *tasks.run(words, SCHEMA, EXAMPLES / "product.step", "/dev/full"))
+
+
+def compare(tasks):
+    """Two files are the same, the same up to names, or different."""
+    words = tasks.words("Compare, but for numbering")
+    renumbered = tasks.here / "renumbered.step"
+    renumbered.write_text(re.sub("#0*", "#7", (EXAMPLES / "product-other.step").read_text()))
+    rows = [("product-other.step", b"same\n"), (renumbered, b"same up to names\n"), ("product-changed.step", b"different\n")]
+    for second, wanted in rows if tasks.has_program else rows[:1]:
+        tasks.judge(f"compared with {second}", (wanted, 0), tasks.run(words, SCHEMA, EXAMPLES / "product.step", EXAMPLES / second)[::2])
+    output, error, status = tasks.run(words, SCHEMA, EXAMPLES / "product.step", EXAMPLES / "refused" / "Count.step")
+    tasks.judge("the second is refused", (True, 1), ("second: refused 45" in output.decode() + error, status))
+
+
+def sent(text, how):
+    """The port at which a text is sent to whoever comes, in pieces of 1,000 bytes. The connection is ended, or is broken."""
+    server = socket.create_server(("127.0.0.1", 0))
+
+    def serve():
+        connection, _ = server.accept()
+        with server, connection:
+            try:
+                for at in range(0, len(text), 1000):
+                    connection.sendall(text[at : at + 1000])
+            except OSError:
+                # The other side has heard enough.
+                return
+            if how == "broken":
+                connection.setsockopt(socket.SOL_SOCKET, socket.SO_LINGER, struct.pack("ii", 1, 0))
+
+    threading.Thread(target=serve, daemon=True).start()
+    return str(server.getsockname()[1])
+
+
+def receive(tasks):
+    """A file that comes over a connection."""
+    words = tasks.words("Read from a socket in pieces")
+    text = (EXAMPLES / "product.step").read_bytes()
+    found = tasks.run(words, SCHEMA, "127.0.0.1", sent(text, "whole"))
+    tasks.judge("received", (b"accepted, instances 128\n", "", 0), found)
+    for name, what in (("Count", (EXAMPLES / "refused/Count.step").read_bytes()), ("EndsEarly", text[:3000])):
+        output, error, status = tasks.run(words, SCHEMA, "127.0.0.1", sent(what, "whole"))
+        number = {"Count": "refused 45", "EndsEarly": "refused 24"}[name]
+        tasks.judge(f"received, {name}", (b"", True, 1), (output, number in error, status))
+    output, error, status = tasks.run(words, SCHEMA, "127.0.0.1", sent(text[:3000], "broken"))
+    tasks.unanswered("a connection that breaks", output + error.encode(), error, status)
+
+
+def hashes(tasks):
+    """The hashes of a folder, of which no file is left out and none has two."""
+    words = tasks.words("Hash a folder in four processes")
+    folder = tasks.here / "hashed"
+    folder.mkdir()
+    wanted = []
+    for number in range(11):
+        source, found = [("product.step", BLOCK), ("product-other.step", BLOCK), ("product-changed.step", CHANGED)][number % 3]
+        shutil.copy(EXAMPLES / source, folder / f"{number}.step")
+        wanted.append(f"{found}  {folder}/{number}.step")
+    (folder / "notes.txt").write_text("no STEP file\n")
+    output, error, status = tasks.run(words, SCHEMA, folder)
+    tasks.judge("hashes", (sorted(wanted), "", 0), (sorted(output.decode().splitlines()), error, status))
+    shutil.copy(EXAMPLES / "refused" / "Count.step", folder / "refused.step")
+    output, error, status = tasks.run(words, SCHEMA, folder)
+    of_refused = [line for line in output.decode().splitlines() if "refused.step" in line]
+    is_told = len(of_refused) == 1 and of_refused[0].startswith("refused 45 Count") and BLOCK not in of_refused[0]
+    tasks.judge("hashes, and a refusal", (12, True, 0 if tasks.language == "python" else 1), (output.count(b"\n"), is_told, status))
+    (folder / "dangling.step").symlink_to("nowhere.step")
+    output, error, status = tasks.run(words, SCHEMA, folder)
+    tasks.judge("a file that isn't there", NO_ANSWER[tasks.language], status)
+    lines = [line for line in output.decode().splitlines() if "dangling" in line]
+    tasks.judge("its line", [], [line for line in lines if not line.startswith("no answer")])
+
+
+def table(tasks):
+    """A table of names of any bytes, as pandas reads it."""
+    try:
+        import pandas
+    except ImportError:
+        tasks.left_out.append("pandas")
+        return
+    words = tasks.words("A table for pandas")
+    folder = tasks.here / "table"
+    folder.mkdir()
+    names = [b"a.step", b'b "c", d.step', b"e\xff.step", "f ü.step".encode()]
+    for name in names:
+        shutil.copy(EXAMPLES / "product.step", os.fsencode(folder) + b"/" + name)
+    shutil.copy(EXAMPLES / "refused" / "Count.step", folder / "g.step")
+    paths = [os.fsdecode(os.fsencode(folder) + b"/" + name) for name in [*names, b"g.step"]]
+    if tasks.language == "python":
+        written = folder / "table.csv"
+        output, error, status = tasks.run(words, SCHEMA, folder, written)
+        counts = [line.split() for line in output.decode().splitlines()[:2]]
+        tasks.judge("counts", ([["accepted", "4"], ["refused", "45", "Count", "in", "#3", "1"]], "", 0), (counts, error, status))
+        text = written.read_bytes()
+    else:
+        text, error, status = tasks.run(words, SCHEMA, *paths)
+        tasks.judge("the table", ("", 1), (error, status))
+    read = pandas.read_csv(io.BytesIO(text), encoding_errors="surrogateescape")
+    tasks.judge("names", paths, list(read["file"]))
+    tasks.judge("answers", ["accepted"] * 4 + ["refused 45 Count"], [answer.partition(" in ")[0] for answer in read["answer"]])
+    tasks.judge("instances", [128] * 4, [int(count) for count in read["instances"][:4]])
+    tasks.judge("no instances", True, bool(pandas.isna(read["instances"][4])))
+    if tasks.language == "python":
+        tasks.judge("hashes of the table", [BLOCK] * 4, list(read["sha256"][:4]))
+    else:
+        text, _, status = tasks.run(words, SCHEMA, paths[0], folder / "none.step")
+        rows = list(csv.reader(io.StringIO(text.decode())))
+        tasks.judge("a file that isn't there", ([str(folder / "none.step"), "no answer", ""], 3), (rows[2], status))
+
+
+def main():
+    language, library, *command = sys.argv[1:]
+    tasks = Tasks(language, library, command)
+    for task in (catch, canonical, compare, receive, hashes, table):
+        task(tasks)
+    if not tasks.has_program:
+        tasks.left_out.append("what asks the program")
+    left_out = f"; left out: {', '.join(tasks.left_out)}" if tasks.left_out else ""
+    print(f"{tasks.passed} passed, {tasks.failed} failed{left_out}")
+    sys.exit(1 if tasks.failed else 0)
+
+
+if __name__ == "__main__":
+    main()
