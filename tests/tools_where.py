@@ -201,9 +201,9 @@ def unmarked(text):
 
 
 def program_line(tests, schema, path):
-    """The line of the program, and its status."""
+    """The line of the program without its notes, and its status."""
     done = subprocess.run([tests.program, "check", schema, path], capture_output=True, check=False)
-    return (done.stdout + done.stderr).decode().rstrip("\n"), done.returncode
+    return texts.without_notes((done.stdout + done.stderr).decode().rstrip("\n")), done.returncode
 
 
 def faults(tests):
