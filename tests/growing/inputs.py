@@ -331,6 +331,21 @@ def refused_records_of_another_kind(n, folder):
     return Input(check_all(folder, [*entities(names), leaf], ("#%d=ZZ('');\n" % (k + 1) for k in range(n))), pairs=n, used=n)
 
 
+def many_attributes(name, count, above=""):
+    return "ENTITY %s %s; %s : NUMBER; END_ENTITY;\n" % (name, above, ",".join("x%d" % k for k in range(count)))
+
+
+def refused_records_without_many_values(n, folder):
+    return check_all(folder, [many_attributes("z", n)], ("#%d=Z();\n" % (k + 1) for k in range(n)))
+
+
+def refused_records_left_open_at_the_last_place(n, folder):
+    """The attributes before it are redeclared once."""
+    once = "ENTITY a SUBTYPE OF (r); " + "".join("SELF\\r.x%d : INTEGER; " % k for k in range(n)) + "END_ENTITY;\n"
+    again = "ENTITY b SUBTYPE OF (r); SELF\\r.x%d : REAL; END_ENTITY;\n" % (n - 1)
+    return check_all(folder, [many_attributes("r", n), once, again, below_all("z", ["a", "b"])], ("#%d=Z();\n" % (k + 1) for k in range(n)))
+
+
 def sets_that_take_turns(n, folder):
     """Records of 40 parts each, whose sets are 17."""
     names = numbered("e", 57)

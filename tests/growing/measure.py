@@ -93,6 +93,7 @@ ROWS = [
     *(Row(name, 200, ENTITIES // 2) for name in ("refused_records_of_an_abstract_set", "refused_records_of_a_set_that_clashes")),
     *(Row(name, 200, ENTITIES // 2) for name in ("refused_records_of_a_set_left_open", "refused_records_of_another_count")),
     Row("refused_records_of_another_kind", 200, ENTITIES // 2),
+    *(Row(name, 200, 400_000) for name in ("refused_records_without_many_values", "refused_records_left_open_at_the_last_place")),
     Row("sets_that_take_turns", 200),
     Row("sets_of_four", 1_000, 600_000),
     Row("colliding_sets", 500),

@@ -1,5 +1,5 @@
 -- What is known of the records of internal form of an entity.
-use Rattle.std.specs.Prelude.{◌≢◌, ℕ, List, map, Contains}
+use Rattle.std.specs.Prelude.{◌≡◌, ◌≢◌, ℕ, List, length, map, Contains}
 use Rattle.std.specs.List.{AllByRecursion as Each, AllZip, zip}
 use Rattle.p21_express_graph.specs.Meaning.{place_type}
 use Rattle.p21_grammar_tree.specs.Fault.{fault_number}
@@ -7,7 +7,7 @@ use Rattle.p21_grammar_tree.specs.declared.fault.CheckFault.{CheckFault}
 use Rattle.p21_grammar_tree.specs.declared.fault.CheckFault.TheVariants.{NoMemory}
 use Rattle.p21_mapping.specs.Shape.{PassesOwnSet, RefusesOwnSet}
 use Rattle.p21_mapping.specs.declared.known.Known.{Known}
-use Rattle.p21_mapping.specs.declared.known.Known.TheVariants.{Places, Refused}
+use Rattle.p21_mapping.specs.declared.known.Known.TheVariants.{Counted, Places, Refused}
 use Rattle.p21_mapping.specs.declared.known.KnownEntity.{KnownEntity}
 use Rattle.p21_spec_exchange.specs.Parameter.{Param}
 use Rattle.p21_spec_file.specs.BrokenValue.{BreaksAtPlace}
@@ -19,9 +19,10 @@ use Rattle.p21_spec_schema.specs.Schema.{Schema}
 abbrev pub AreOwnTypes : Schema → ℕ → List PlaceType → Type 0
 AreOwnTypes s e types = AllZip (TypeAt s (order s e)) (places s e) types
 
--- its records are refused by this fault; or it may have instances, and these may stand at the places of one
+-- its records are refused by this fault; or it may have instances, with so many places, or these may stand at the places of one
 abbrev pub IsKnown : Schema → ℕ → Known → Type 0
 IsKnown s e (Refused fault) = RefusesOwnSet s e fault
+IsKnown s e (Counted count) = count ≡ length (places s e)
 IsKnown s e (Places types) = PassesOwnSet s e × AreOwnTypes s e (map place_type types.items)
 
 -- all that is known is right

@@ -1,10 +1,12 @@
-//! Records of internal form whose entity has a large set, refused at the cost of the record.
+//! Records of internal form whose entity has a large set, or many places, refused at the cost of the record.
 //!
-//! `check_owned_record` walks the set of an entity for each of its records, and makes a row for each entity of it. Where
-//! records are refused and the reading goes on, that would cost as much as records times entities. So what all records
-//! of an entity have in common is found once (`Known`): why they are refused, or what may stand at each place, so that
-//! the entities that declare no place aren't walked either. What is known borrows of the schema and stays with it: the
-//! model of `KnownEntities` is that schema, and that all is right for it is its invariant. So no caller owes a clause.
+//! `check_owned_record` walks the set of an entity for each of its records and looks at its places, and makes a row for
+//! each entity of it. Where records are refused and the reading goes on, that would cost as much as records times
+//! entities, or times places: a record may have fewer values than that. So what all records of an entity have in common
+//! is found once (`Known`): why they are refused, or how many places there are, and behind the first record of as many
+//! values what may stand at each, so that the entities that declare no place aren't walked either. So no more is kept
+//! than records have values. What is known borrows of the schema and stays with it: the model of `KnownEntities` is that
+//! schema, and that all is right for it is its invariant. So no caller owes a clause.
 //!
 //! A record is refused here as by `check_owned_record`, in the same order; one that isn't refused, one of external form
 //! and one whose set is small are left to it.
@@ -16,7 +18,7 @@ ghost use Rattle.p21_grammar_tree.specs.View.{part_view, record_view};
 ghost use Rattle.p21_mapping.specs.Known.{AreOwnTypes, IsKnown, RefusesParams};
 ghost use Rattle.p21_mapping.specs.Outcome.{IsStoredIn};
 ghost use Rattle.p21_mapping.specs.Rows.{param_views};
-ghost use Rattle.p21_mapping.specs.Shape.{Refuses};
+ghost use Rattle.p21_mapping.specs.Shape.{PassesOwnSet, Refuses};
 ghost use Rattle.p21_spec_exchange.specs.Record.{simple};
 ghost use Rattle.p21_spec_file.specs.Meaning.{NamesEntity};
 
@@ -33,8 +35,9 @@ use std::alloc::Global;
 use std::collections::BTreeMap;
 use std::marker::Model;
 
-/// A set of so many entities is walked for each of its records.
-const MOST_WALKED: usize = 64;
+/// A set is walked for each of its records where that takes at most so many steps: one for each entity, and at each place as
+/// many as there are entities.
+const MOST_STEPS: usize = 256;
 
 /// What is known of the records of internal form of entities with large sets, under one schema.
 pub struct KnownEntities<'a> {
@@ -57,6 +60,8 @@ struct KnownEntity<'a> {
 enum Known<'a> {
     /// They are refused.
     Refused(CheckFault),
+    /// So many places, with whatever may stand there.
+    Counted(usize),
     /// What may stand at their places, in the order of internal mapping.
     Places(Vec<PlaceType<'a>>),
 }
@@ -120,10 +125,10 @@ impl<'a> KnownEntities<'a> {
     {
         let schema = self.schema();
         let entity = named(schema, &part.key)?;
-        if schema.order_of(entity).len() <= MOST_WALKED {
+        if is_small(schema, entity) {
             return None;
         }
-        let Ok(()) = self.learn(entity) else {
+        let Ok(()) = self.learn(entity, part.params.items().len()) else {
             return Some(CheckFault::NoMemory);
         };
         let known = self.find(entity)?;
@@ -149,15 +154,17 @@ impl<'a> KnownEntities<'a> {
         Some(&found.known)
     }
 
-    /// Has it known what the records of an entity have in common.
-    fn learn(&mut self, entity: EntityId) -> Result<(), NoMemory>
+    /// Has it known what the records of an entity with so many parameters have in common.
+    fn learn(&mut self, entity: EntityId, params: usize) -> Result<(), NoMemory>
         requires { IsEntity self.old entity.0 }
         ensures { self.new ≡ self.old }
     {
-        if self.find(entity).is_some() {
-            return Ok(());
+        if let Some(known) = self.find(entity) {
+            if known.is_enough(params) {
+                return Ok(());
+            }
         }
-        let known = find_known(self.alloc, self.schema, entity)?;
+        let known = find_known(self.alloc, self.schema, entity, params)?;
         let Ok(_) = self.numbers.insert(entity.0, self.all.len()) else {
             return Err(NoMemory);
         };
@@ -166,22 +173,68 @@ impl<'a> KnownEntities<'a> {
     }
 }
 
-/// What the records of internal form of an entity have in common.
+impl<'a> Known<'a> {
+    /// Whether no more needs to be known of a record with so many parameters. Nothing is claimed of it.
+    fn is_enough(&self, params: usize) -> bool {
+        match self {
+            Known::Refused(_) => true,
+            Known::Counted(places) => *places != params,
+            Known::Places(_) => true,
+        }
+    }
+}
+
+/// Whether the set of an entity and its supertypes is small enough to be walked for each of its records. Nothing is claimed
+/// of it.
+fn is_small(schema: &Schema, entity: EntityId) -> bool
+    requires { IsEntity schema.now entity.0 }
+{
+    schema.holds_together();
+    let order = schema.order_of(entity);
+    if order.len() > MOST_STEPS {
+        return false;
+    }
+    let mut places: usize = 0;
+    for owner in order {
+        places = places.saturating_add(schema.attribute_count(*owner) as usize);
+    }
+    order.len().saturating_mul(places.saturating_add(1)) <= MOST_STEPS
+}
+
+/// What the records of internal form of an entity with so many parameters have in common.
 fn find_known<'a>(
     alloc: Global,
     schema: &'a Schema,
     entity: EntityId,
+    params: usize,
 ) -> Result<Known<'a>, NoMemory>
     requires { IsEntity schema.now entity.0 }
     ensures { IfOk result (IsKnown schema.now entity.0) }
 {
     match check_own_set(schema, entity) {
-        Ok(()) => {
-            let types = own_types(alloc, schema, entity)?;
-            Ok(Known::Places(types))
-        }
+        Ok(()) => find_places(alloc, schema, entity, params),
         Err(fault) => Ok(Known::Refused(fault)),
     }
+}
+
+/// How many places there are in an instance whose set is an entity and its supertypes; and where they are so many, what may
+/// stand there.
+fn find_places<'a>(
+    alloc: Global,
+    schema: &'a Schema,
+    entity: EntityId,
+    params: usize,
+) -> Result<Known<'a>, NoMemory>
+    requires entity { IsEntity schema.now entity.0 }
+    requires passes { PassesOwnSet schema.now entity.0 }
+    ensures { IfOk result (IsKnown schema.now entity.0) }
+{
+    let places = schema.places(entity)?;
+    if places.len() != params {
+        return Ok(Known::Counted(places.len()));
+    }
+    let types = own_types(alloc, schema, entity)?;
+    Ok(Known::Places(types))
 }
 
 /// What may stand at the places of an instance whose set is an entity and its supertypes, in the order of internal mapping.
@@ -216,6 +269,12 @@ fn refusal_by(
     schema.holds_together();
     match known {
         Known::Refused(fault) => Some(*fault),
+        Known::Counted(places) => {
+            if *places == part.params.items().len() {
+                return None;
+            }
+            Some(CheckFault::Count)
+        }
         Known::Places(types) => {
             let params = part.params.items();
             if types.len() != params.len() {

@@ -8,7 +8,7 @@ use Rattle.p21_grammar_tree.specs.View.{part_view}
 use Rattle.p21_mapping.proofs.Here.{part-params}
 use Rattle.p21_mapping.proofs.OwnRecords.{params-break, types-miscount, types-stored}
 use Rattle.p21_mapping.proofs.OwnSets.{own-refuses}
-use Rattle.p21_mapping.proofs.Shapes.{part-length}
+use Rattle.p21_mapping.proofs.Shapes.{part-length, simple-miscount}
 use Rattle.p21_mapping.specs.Known.{BreaksParams, IsKnown}
 use Rattle.p21_mapping.specs.Outcome.{IsStoredIn}
 use Rattle.p21_mapping.specs.Rows.{param_views}
@@ -19,6 +19,12 @@ pub returns-in-Refused : goal.returns-in-Refused
 returns-in-Refused c =
     let known = subst (IsKnown c.args.schema.now c.args.entity.0) c.in-Refused.is c.requires.known in
     own-refuses c.args.schema.now c.args.entity.0 c.holds_together.ensures c.holds_together.ensures.entities_distinct (part_view c.args.part.now) c.requires.named c.in-Refused.fault known
+
+pub returns-else-places-items : goal.returns-else-places-items
+returns-else-places-items c = λ _.
+    let known = subst (IsKnown c.args.schema.now c.args.entity.0) c.in-Counted.is c.requires.known in
+    let params = ap length c.items.ensures in
+    simple-miscount c.args.schema.now (part_view c.args.part.now) c.args.entity.0 c.requires.named (λ same. c.if-places-items.false (omega (arith, known, same, part-length c.args.part.now, params)))
 
 pub returns-then-len-params : goal.returns-then-len-params
 returns-then-len-params c = λ _.
