@@ -17,3 +17,9 @@ pub mod Terminated
 pub mod FileGraphs
 pub mod Renamings
 pub mod LabelRows
+pub mod Joined
+pub mod SaidTexts
+pub mod Decisions
+pub mod SortedCopies
+pub mod FoundPairs
+pub mod Answered

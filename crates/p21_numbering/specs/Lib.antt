@@ -6,3 +6,7 @@ pub mod Nodes
 pub mod Edges
 pub mod NodesOf
 pub mod NewNames
+pub mod Joining
+pub mod Said
+pub mod Ranked
+pub mod Ordering

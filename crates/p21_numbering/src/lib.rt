@@ -14,15 +14,25 @@
 //! `proofs/Telling` that rounds over arrays are those of the definition. A round costs a sort of all rows, so r rounds
 //! over n instances cost r n log n, and a path of n equal instances has n / 2 rounds. No call above the crate ranks a
 //! file yet, so nothing was measured.
+//!
+//! `order` puts instances in an order by rank that counts copies in one sequence, or answers `Alike` where the model
+//! isn't decided. It takes instances by their ranks (`src/ranked`; `specs/Ranked` says which are those of a file,
+//! `AreRanked`); no call makes them from typed records yet. Instances that refer to one another and share their ranks
+//! are joined into parts, the smaller into the larger (`src/joining`). Sorted by rank and part, neighbours of one rank
+//! have to be in two parts and to say the same (`src/orders`), which `proofs/SaidTexts` shows to be told by the texts
+//! of `specs/Said`. `proofs/Decisions` has why this decides it.
 #![tactic(auto)]
 
 mod adjacency;
 mod edges;
 mod ending;
 mod graph;
+mod joining;
 mod key_rows;
 mod labels;
+mod orders;
 mod parts;
+mod ranked;
 mod renaming;
 mod rounds;
 mod rows;
@@ -30,4 +40,6 @@ mod uses;
 
 pub use graph::{Node, ranks};
 pub use labels::node;
+pub use orders::{Unordered, order};
+pub use ranked::RankedInstance;
 pub use uses::{PlacedUse, uses_in};

@@ -1,5 +1,5 @@
 -- Copies of files that are the same but for names.
-use Rattle.std.specs.Prelude.{◌≡◌, ℕ, suc, List, map, Contains, refl}
+use Rattle.std.specs.Prelude.{◌≡◌, ℕ, suc, List, map, Contains, refl, nat_eq}
 use Rattle.std.proofs.Common.{ap, sym, subst, ◌∙◌}
 use Rattle.p21_spec_basics.proofs.Members.{Contains-mapped, Contains-unmapped}
 use Rattle.p21_spec_basics.proofs.Shuffles.{distinct-none_twice, none_twice-distinct}
@@ -11,11 +11,12 @@ use Rattle.p21_spec_file.specs.Value.{Values}
 use Rattle.p21_spec_file.proofs.SameFiles.{SameFileMeaning-transitive, SameTyped-symmetric, SameTyped-transitive}
 use Rattle.p21_spec_numbering.proofs.OwnOrders.{ascends-kept}
 use Rattle.p21_spec_numbering.proofs.Copies.{copy-mapped, aligned-same}
-use Rattle.p21_spec_numbering.proofs.Moved.{rows-targets_renamed, none_twice-mapped}
+use Rattle.p21_spec_numbering.proofs.Moved.{rows-targets_renamed, none_twice-mapped, names-moved}
 use Rattle.p21_spec_numbering.proofs.Orders.{number-injective, position-mapped}
+use Rattle.p21_spec_numbering.proofs.Ranks.{many-moved}
 use Rattle.p21_spec_numbering.proofs.Renaming.{rows-twice, SameTyped-renamed, numbered-same, same-numbered, undo, undo-is, old-name, new-name}
 use Rattle.p21_spec_numbering.proofs.Targets.{typed_targets, targets-same}
-use Rattle.p21_spec_numbering.specs.Copies.{Shares, RefersTo, copy, IsAligned, IsExchange, NoChoiceCounts}
+use Rattle.p21_spec_numbering.specs.Copies.{Shares, many, RefersTo, copy, IsAligned, IsExchange, NoChoiceCounts}
 use Rattle.p21_spec_numbering.specs.Laws.{IsProper, AlignedOrdersAreSame, SameHaveAsFewChoices, AlignedOrdersTellSameness}
 use Rattle.p21_spec_numbering.specs.Ordered.{Ranking, IsOrder, number_in, ordered}
 use Rattle.p21_spec_numbering.specs.Renamed.{renamed_typed, renamed_instance, renamed_section, renamed, names, IsInjectiveOn, SameButForNames}
@@ -168,6 +169,25 @@ module _ (ranking : Ranking) (f : ℕ → ℕ) (a b : FileMeaning) (proper : IsP
           let Q : Typed → Type 0 = λ z. SameTyped z F in
           let middle : SameTyped (renamed_typed e F) F = subst Q (first ∙ sym second) (SameTyped-renamed f (renamed_typed d w.x) w.x own) in
           SameTyped-transitive (renamed_typed e y) (renamed_typed e F) y (SameTyped-renamed e y F w.likeness) (SameTyped-transitive (renamed_typed e F) F y middle (SameTyped-symmetric y F w.likeness))
+
+  many-is : (n : ℕ) → Contains (names a) n → many ranking b (f n) ≡ many ranking a n
+  many-is n among =
+      many-moved f (names a) (names b) (names-moved f a b proper.0 proper_.0 injective same) (λ j. nat_eq (ranking a j) (ranking a n)) (λ j. nat_eq (ranking b j) (ranking b (f n)))
+      (λ j at. ap (λ r. nat_eq r (ranking b (f n))) (agree j at) ∙ ap (nat_eq (ranking a j)) (agree n among))
+
+  pub as_many-moved : ((n t : ℕ) → RefersTo a n t → Shares ranking a n → Shares ranking a t → many ranking a n ≡ many ranking a t)
+      → (k u : ℕ) → RefersTo b k u → Shares ranking b k → Shares ranking b u → many ranking b k ≡ many ranking b u
+  as_many-moved as_many k u (y, at, target) shares shares_u =
+      let w = was k y at in
+      let (t, target_, is_u) = target-was k y w u target in
+      let among : Contains (names a) w.n = name-of w.n w.x w.at in
+      let among_ : Contains (names a) t = proper.0.closed w.n w.x w.at t target_ in
+      let P : ℕ → Type 0 = λ j. Shares ranking b j in
+      ap (many ranking b) (sym w.name)
+      ∙ many-is w.n among
+      ∙ as_many w.n t (w.x, w.at, target_) (shares-was w.n among (subst P (sym w.name) shares)) (shares-was t among_ (subst P (sym is_u) shares_u))
+      ∙ sym (many-is t among_)
+      ∙ ap (many ranking b) is_u
 
 -- ---- the laws
 

@@ -10,12 +10,12 @@ use Rattle.p21_spec_file.specs.SameFile.{SameFileMeaning, SameTyped}
 use Rattle.p21_spec_file.specs.SameValue.{Same, same_wholes, same_reals, same_numbers, same_texts, same_bits, same_items, same_references, both_derived, both_missing, same_lists, same_arrays, same_sets, same_bags, same_typed, SameInOrder, both_end, both_next, Among, here, there, EachAmong, none_left, each_next, SamePaired, both_empty, paired, Without, without_first, without_later}
 use Rattle.p21_spec_file.specs.Value.{Value, whole, real, number, text, bits, item, reference, derived, missing, list, array, set, bag, typed, Values, no_values, value}
 use Rattle.p21_spec_file.proofs.SameFiles.{SameTyped-symmetric}
-use Rattle.p21_spec_numbering.proofs.CopiesMoved.{shares-was, shares-is, decided-moved}
+use Rattle.p21_spec_numbering.proofs.CopiesMoved.{shares-was, shares-is, as_many-moved, decided-moved}
 use Rattle.p21_spec_numbering.proofs.CopiesRules.{spread-is_kept}
 use Rattle.p21_spec_numbering.proofs.Renaming.{Among-renamed, old-name}
 use Rattle.p21_spec_numbering.proofs.Settled.{among-same}
 use Rattle.p21_spec_numbering.proofs.Targets.{one-typed}
-use Rattle.p21_spec_numbering.specs.Copies.{Shares, NoChoiceCounts, IsOfWholeRank, Spreads, AllSpread, SpreadAmong}
+use Rattle.p21_spec_numbering.specs.Copies.{Shares, many, RefersTo, NoChoiceCounts, IsOfWholeRank, Spreads, AllSpread, SpreadAmong}
 use Rattle.p21_spec_numbering.specs.Laws.{IsProper, NoChoiceOfDecidedCounts, SameAreDecidedAlike}
 use Rattle.p21_spec_numbering.specs.Ordered.{Ranking}
 use Rattle.p21_spec_numbering.specs.Renamed.{renamed_value, renamed_values, renamed_typed, renamed_instance, renamed, names, IsInjectiveOn, targets, targets_in}
@@ -161,13 +161,16 @@ decided-no_choice ranking m proper plain = record {
 
 pub decided-alike : SameAreDecidedAlike
 decided-alike ranking invariant a b proper proper_ (f, injective, same) plain =
-    record { alike = other.alike; one_section = other.one_section; spread = spread; order = other.order; aligned = other.aligned }
+    record { alike = other.alike; one_section = other.one_section; spread = spread; as_many = as_many; order = other.order; aligned = other.aligned }
   where
     agree : (n : ℕ) → Contains (names a) n → ranking b (f n) ≡ ranking a n
     agree = invariant f a b proper proper_ injective same
 
     other : NoChoiceCounts ranking b
     other = decided-moved ranking f a b proper proper_ injective same agree (decided-no_choice ranking a proper plain)
+
+    as_many : (k u : ℕ) → RefersTo b k u → Shares ranking b k → Shares ranking b u → many ranking b k ≡ many ranking b u
+    as_many = as_many-moved ranking f a b proper proper_ injective same agree plain.as_many
 
     spread : (k : ℕ) (y : Typed) → Contains b.instances (k, y) → ¬ Shares ranking b k → Each (AllSpread ranking b) y.values
     spread k y at alone =

@@ -82,7 +82,7 @@ module _ (P : Token → Type 0) (f : ℕ → ℕ) (named : (k : ℕ) → P (toke
       Each-append P (part_tokens (renamed_part f part)) (flat_map part_tokens (map (renamed_part f) parts)) (part-each part (Each-front P (part_tokens part) (flat_map part_tokens parts) each))
       (parts-each parts (Each-back P (part_tokens part) (flat_map part_tokens parts) each))
 
-  record-each : (r : Record) → Each P (record_tokens r) → Each P (record_tokens (renamed_record f r))
+  pub record-each : (r : Record) → Each P (record_tokens r) → Each P (record_tokens (renamed_record f r))
   record-each (simple part) each = part-each part each
   record-each (complex parts) each = (
     each.0,

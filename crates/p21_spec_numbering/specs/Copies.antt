@@ -7,12 +7,17 @@ use Rattle.p21_spec_file.specs.Meaning.{Typed}
 use Rattle.p21_spec_file.specs.SameFile.{SameTyped}
 use Rattle.p21_spec_file.specs.SameValue.{Among}
 use Rattle.p21_spec_file.specs.Value.{Value, reference, list, array, set, bag, typed, Values, no_values, value}
+use Rattle.p21_spec_numbering.specs.Graph.{how_many}
 use Rattle.p21_spec_numbering.specs.Ordered.{Ranking, IsOrder}
 use Rattle.p21_spec_numbering.specs.Renamed.{renamed_typed, names, IsInjectiveOn, targets_in}
 
 -- another instance has the rank of this one
 abbrev pub Shares : Ranking → FileMeaning → ℕ → Type 0
 Shares ranking m n = (k : ℕ) × Contains (names m) k × (k ≢ n) × (ranking m k ≡ ranking m n)
+
+-- how many instances have the rank of this one
+abbrev pub many : Ranking → FileMeaning → ℕ → ℕ
+many ranking m n = how_many (λ k. nat_eq (ranking m k) (ranking m n)) (names m)
 
 -- the instance of this name refers to that one
 abbrev pub RefersTo : FileMeaning → ℕ → ℕ → Type 0
@@ -94,12 +99,14 @@ abbrev mutual
   SpreadAmong ranking m all no_values = Unit {0}
   SpreadAmong ranking m all (value v vs) = (Spreads ranking m v ⊎ IsOfWholeRank ranking m all v) × SpreadAmong ranking m all vs
 
--- as code decides it: an instance that shares its rank with no other has values that spread
+-- as code decides it: an instance that shares its rank with no other has values that spread, and ranks that are shared and refer
+-- to one another have equally many instances
 pub record IsDecided (ranking : Ranking) (m : FileMeaning) : Type 0 where
   pub alike : (j k : ℕ) (x y : Typed) → Contains m.instances (j, x) → Contains m.instances (k, y) → ranking m j ≡ ranking m k
       → SameTyped (renamed_typed (ranking m) x) (renamed_typed (ranking m) y)
   pub one_section : (j k : ℕ) (g h : Heading) → Contains m.instance_sections (j, g) → Contains m.instance_sections (k, h)
       → ranking m j ≡ ranking m k → g ≡ h
   pub spread : (n : ℕ) (x : Typed) → Contains m.instances (n, x) → ¬ Shares ranking m n → Each (AllSpread ranking m) x.values
+  pub as_many : (n t : ℕ) → RefersTo m n t → Shares ranking m n → Shares ranking m t → many ranking m n ≡ many ranking m t
   pub order : List ℕ
   pub aligned : IsAligned ranking m order

@@ -1,14 +1,14 @@
 -- The laws of ranks and numbers.
-use Rattle.std.specs.Prelude.{◌≡◌, ◌↔◌, ◌+◌, ℕ, true, List, Contains, nat_eq}
+use Rattle.std.specs.Prelude.{◌≡◌, ◌↔◌, ◌+◌, ℕ, true, List, Contains}
 use Rattle.std.specs.List.{AllByRecursion as Each}
 use Rattle.p21_spec_file.specs.File.{FileMeaning, Reads}
 use Rattle.p21_spec_file.specs.Meaning.{Typed}
 use Rattle.p21_spec_file.specs.SameFile.{SameFileMeaning, SameTyped}
 use Rattle.p21_spec_schema.specs.Schema.{Schema}
 use Rattle.p21_spec_schema.specs.WellFormed.{IsWellFormed}
-use Rattle.p21_spec_numbering.specs.Copies.{Shares, RefersTo, HangTogether, RisesByPart, AreParts, IsAligned, IsExchange, NoChoiceCounts, AllSpread, IsDecided}
+use Rattle.p21_spec_numbering.specs.Copies.{Shares, many, RefersTo, HangTogether, RisesByPart, AreParts, IsAligned, IsExchange, NoChoiceCounts, AllSpread, IsDecided}
 use Rattle.p21_spec_numbering.specs.Fresh.{is_told, told, final_rank}
-use Rattle.p21_spec_numbering.specs.Graph.{Graph, how_many}
+use Rattle.p21_spec_numbering.specs.Graph.{Graph}
 use Rattle.p21_spec_numbering.specs.Numbered.{graph_of}
 use Rattle.p21_spec_numbering.specs.Ordered.{Ranking, IsOrder, ordered}
 use Rattle.p21_spec_numbering.specs.Renamed.{renamed_typed, renamed, names, IsInjectiveOn, SameButForNames, IsWhole}
@@ -105,5 +105,5 @@ AlikeGivesParts = (ranking : Ranking) (m : FileMeaning) → IsProper m
     → ((j k : ℕ) (x y : Typed) → Contains m.instances (j, x) → Contains m.instances (k, y) → ranking m j ≡ ranking m k → SameTyped (renamed_typed (ranking m) x) (renamed_typed (ranking m) y))
     → (part : ℕ → ℕ) → ((j k : ℕ) → Contains (names m) j → Contains (names m) k → ranking m j ≡ ranking m k → part j ≡ part k → j ≡ k)
     → ((n t : ℕ) → RefersTo m n t → Shares ranking m n → Shares ranking m t → part n ≡ part t)
-    → ((n t : ℕ) → RefersTo m n t → Shares ranking m n → Shares ranking m t → how_many (λ j. nat_eq (ranking m j) (ranking m n)) (names m) ≡ how_many (λ j. nat_eq (ranking m j) (ranking m t)) (names m))
+    → ((n t : ℕ) → RefersTo m n t → Shares ranking m n → Shares ranking m t → many ranking m n ≡ many ranking m t)
     → AreParts ranking m part
