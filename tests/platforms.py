@@ -87,7 +87,7 @@ LESS_STACK = STACK // 8
 # What is tried with less and less memory, and the memory, in bytes: with the least the program can say its version, and with the
 # most it has enough.
 LETTERS = 16_000_000
-LIMITS = range(32 << 20, 256 << 20, 12 << 20)
+LIMITS = range(64 << 20, 256 << 20, 12 << 20)
 # What a tool prints is the same where it runs as on Windows.
 PRODUCT = "examples/product.exp"
 TOOLS = [
