@@ -184,6 +184,31 @@ const NAMES: Marked = &[
     ),
 ];
 
+const RECORDS: Marked = &[
+    (49, b"#1=CLOUD((),((1.),(2.,^3,4.)),(TALLY(1)));"),
+    (49, b"#1=POINT(^5,1.,2.);"),
+    (49, b"#1=CLOUD((),(),(DISTANCE(1.),TALLY(^1.)));"),
+    (54, b"#1=CLOUD((),(),(DISTANCE(1.),^LENGTH(1.)));"),
+    (
+        51,
+        b"#1=CLOUD((),(),^(TALLY(1),TALLY(2),TALLY(3),TALLY(4)));",
+    ),
+    (52, b"#1=CLOUD((),(),(DISTANCE(1.),^DISTANCE(10.E-1)));"),
+    (46, b"#1=CLOUD((),((1.,^$)),(TALLY(1)));"),
+    (47, b"#1=CLOUD((),((1.,^*)),(TALLY(1)));"),
+    (53, b"#1=MARKED($,^.BLUE.);"),
+    (49, b"#1=(MARKED(.RED.)POINT(1.,^2)SHAPE($));"),
+    (48, b"#1=(ORIGIN()POINT(^0.,2.)SHAPE($));"),
+    (45, b"#1=POINT($,1.,2.,^3.,4.);"),
+    (45, b"#1 = POINT($,/* ) */1. ^);"),
+    (45, b"#1=(POINT(1.^)SHAPE('a'));"),
+    (41, b"#1=^SPHERE();"),
+    (42, b"#1=^SHAPE($);"),
+    (43, b"#1=(^POINT(1.,2.));"),
+    (44, b"#1=(POINT(1.,2.)SHAPE($)^SHAPE($));"),
+    (41, b"#1=(SHAPE($)^SPHERE());"),
+];
+
 #[test]
 fn says_where_bytes_are_refused(rt: HostRuntime) {
     check(&rt, rt.alloc(), SHAPES, Rows::Places(OPEN, BYTES));
@@ -205,4 +230,5 @@ fn says_where_headers_are_refused(rt: HostRuntime) {
 fn says_where_statements_are_refused(rt: HostRuntime) {
     check(&rt, rt.alloc(), SHAPES, Rows::Places(SECTIONS, STATEMENTS));
     check(&rt, rt.alloc(), SHAPES, Rows::Places(DEMO, NAMES));
+    check(&rt, rt.alloc(), SHAPES, Rows::Places(DEMO, RECORDS));
 }
