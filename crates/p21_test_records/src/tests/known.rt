@@ -114,7 +114,6 @@ const OF_LARGE_SETS: Rows = &[
     ("#1=HIDDEN(1);", "42 Abstract"),
     ("#1=MANY(1,'four',.RED.);", "50 Width"),
     ("#1=FOO();", "nothing"),
-    ("#1=!WIDE(1);", "nothing"),
     ("#1=(WIDE());", "nothing"),
     ("#1=S();", "nothing"),
     ("#1=A(1.);", "nothing"),
