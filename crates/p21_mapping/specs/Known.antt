@@ -19,7 +19,7 @@ use Rattle.p21_spec_schema.specs.Schema.{Schema}
 abbrev pub AreOwnTypes : Schema → ℕ → List PlaceType → Type 0
 AreOwnTypes s e types = AllZip (TypeAt s (order s e)) (places s e) types
 
--- its records are refused by this fault; or it may have instances, with so many places, or these may stand at the places of one
+-- its records are refused by this fault; or they have so many places; or it may have instances, and these may stand at the places of one
 abbrev pub IsKnown : Schema → ℕ → Known → Type 0
 IsKnown s e (Refused fault) = RefusesOwnSet s e fault
 IsKnown s e (Counted count) = count ≡ length (places s e)

@@ -2,9 +2,6 @@
 //!
 //! The program has its own loops to read and write, since those of std assume short reads and retry an interrupted call
 //! without an end that can be proved.
-//!
-//! The program has its own loops to read and write, since those of std assume short reads and retry an interrupted call
-//! without an end that can be proved.
 ghost use Rattle.std.specs.Prelude.{◌≡◌, ◌+◌, ◌<◌, ◌≤◌, length, IfOk, OnErr, OnOk};
 ghost use Rattle.std.specs.Io.KnownBytes.{Appends, ReadConsumes};
 ghost use Rattle.p21_stream_io.specs.Transfer.{AppendsPartOf};

@@ -5,9 +5,10 @@
 //! says both, and `Place::of` (p21_stream_statements) which of them a fault has. Of a byte that no token goes on with
 //! it is proved that it is the refused one (`RefusesByteAt`, carried through the walk by `StepPlaces` and `places` of
 //! `IsRest`); the other places are held against `FAULTS` of `tests/tools_where.py` by rows in any cut (`places` of
-//! `p21_test_stream`). What stands inside a header record or the line of a section is found by reading that statement
-//! alone once more, from its bytes: of a statement that is open at the end of a piece these are kept (`Source`), and
-//! given up with its `;`. An instance that is taken straight from its bytes notes where it begins only where it is
+//! `p21_test_stream`). What stands inside a header record, the line of a section or the record of an instance is found
+//! by reading that statement alone once more, from its bytes: of a statement that is open at the end of a piece these are
+//! kept (`Source`), of an instance 65,536 at most, and given up with its `;`. Where in a record it is, the check of the
+//! record says (`Trail`, p21_mapping), and no clause speaks of it. An instance that is taken straight from its bytes notes where it begins only where it is
 //! refused (`note_statement`).
 #![tactic(auto)]
 
