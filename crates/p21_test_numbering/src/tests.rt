@@ -1,3 +1,4 @@
 mod graphs;
 mod labels;
+mod orders;
 mod references;
