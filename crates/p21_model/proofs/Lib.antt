@@ -6,3 +6,7 @@ pub mod Keywords
 pub mod Handing
 pub mod Finding
 pub mod EntitySets
+pub mod UseOrder
+pub mod UseRanges
+pub mod UseNames
+pub mod UsesFound

@@ -5,3 +5,5 @@ pub mod Found
 pub mod Told
 pub mod Kept
 pub mod EntitiesLeft
+pub mod UseRows
+pub mod Uses

@@ -2,9 +2,10 @@
 ghost use Rattle.p21_express_graph.specs.Meaning.{place as place_of};
 ghost use Rattle.p21_spec_exchange.specs.Record.{Record};
 ghost use Rattle.p21_spec_file.specs.CanonicalTexts.{IsInstanceText};
-ghost use Rattle.std.specs.Prelude.{◌≡◌};
+ghost use Rattle.std.specs.Prelude.{◌≡◌, List};
 ghost use Rattle.p21_model.specs.EntitiesLeft.{TellsSet, set_schema};
-ghost use Rattle.p21_model.specs.Left.{schema_of};
+ghost use Rattle.p21_model.specs.Left.{TellsRows, schema_of};
+ghost use Rattle.p21_model.specs.Rows.{AreRowsOf, Row};
 ghost use Rattle.p21_model.specs.Told.{TellsInstance, TellsValue};
 
 use crate::attributes::Attributes;
@@ -27,6 +28,7 @@ impl<'a> Instance<'a> {
     /// The attributes with their values. It takes no memory.
     pub fn attributes(&self) -> Attributes<'a>
         ensures told { (record_ : Record) (stated : IsInstanceText self.now.schema.now self.now.name record_ self.now.line.now) → TellsInstance stated result }
+        ensures any { (record_ : Record) (stated : IsInstanceText self.now.schema.now self.now.name record_ self.now.line.now) (rows : List Row) → AreRowsOf self.now.schema.now stated.canonical rows → TellsRows result rows }
         ensures schema { schema_of result ≡ self.now.schema.now }
     {
         Attributes::of_record(self.schema, record_of(self.line))

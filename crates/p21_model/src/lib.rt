@@ -11,6 +11,10 @@
 //! says which are left, `proofs/RowsLeft` cuts the first one off, and `proofs/PlacesLeft` does the same for places.
 //! `proofs/Lines` leads from a line to its record, and `proofs/Meanings` from its meaning to the rows.
 //! `Entities` hands out the entity set in the same way, keyword by keyword (`specs/EntitiesLeft`, `proofs/EntitySets`).
+//!
+//! `Users` turns the references round. `IsUse` (`specs/Uses`) says what a use of a name is; `proofs/UseNames` and
+//! `proofs/UsesFound` follow the walk that finds all, value by value and instance by instance, `proofs/UseOrder` shows that they
+//! stand in order, each once, and `proofs/UseRanges` that those of one name stand in one range.
 #![tactic(auto)]
 
 mod attributes;
@@ -20,9 +24,11 @@ mod model;
 mod part;
 mod places;
 mod record;
+mod users;
 
 pub use attributes::{Attribute, Attributes};
 pub use entities::Entities;
 pub use instance::Instance;
 pub use model::AcceptedModel;
 pub use p21_model_values::{Characters, Digits, Elements, Kind, References, Value};
+pub use users::{Use, Users, UsersOf};

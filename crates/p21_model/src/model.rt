@@ -19,6 +19,7 @@ impl<'a> AcceptedModel<'a> {
     /// The instance of this name, if there is one. It takes no memory, and doesn't walk.
     pub fn instance(self, name: Name) -> Option<Instance<'a>>
         ensures name { IfSome result (λ found. found.name ≡ name) }
+        ensures schema { IfSome result (λ found. found.schema.now ≡ self.entry.schema.now) }
         ensures some { IfSome result (λ found. IsKeptLine self.entry.accepted.now.kept found.name found.line.now) }
         ensures stated { AreStated self.entry.schema.now self.entry.accepted.now.kept → IfSome result IsStated }
         ensures none { IsNone result → Contains (instance_names self.entry.accepted.now.kept) name → ⊥ }
@@ -34,6 +35,7 @@ impl<'a> AcceptedModel<'a> {
     /// The first instance whose name is this one or above it, if there is one. It takes no memory.
     pub fn first_from(self, least: Name) -> Option<Instance<'a>>
         ensures from { IfSome result (λ found. least ≤ found.name) }
+        ensures schema { IfSome result (λ found. found.schema.now ≡ self.entry.schema.now) }
         ensures some { IfSome result (λ found. IsKeptLine self.entry.accepted.now.kept found.name found.line.now) }
         ensures stated { AreStated self.entry.schema.now self.entry.accepted.now.kept → IfSome result IsStated }
         ensures between { IfSome result (λ found. (other : ℕ) → least ≤ other → other < found.name → Contains (instance_names self.entry.accepted.now.kept) other → ⊥) }
