@@ -3,7 +3,8 @@
 bug by hand (tests/bugs/CRATE): its crate is there, each text behind `old: ` stands once in the file that `file: ` names, where a
 further pair is looked for in what the earlier ones made, something is changed, and no name of a crate stands in two places. Of
 each bug tests/bugs/CRATE.tsv says by what it is found, and docs/CONTRACTS.md has the table that counts these lines; with --table
-that table is printed. The status is 1 where that isn't so. It says nothing of whether the prover refuses them.
+that table is printed. The old text of each edit of hostile/wrong_programs.py stands once in its file too. The status is 1 where
+that isn't so. It says nothing of whether the prover refuses the bodies.
 """
 
 import collections
@@ -11,6 +12,9 @@ import pathlib
 import sys
 
 ROOT = pathlib.Path(__file__).resolve().parent.parent
+sys.path.append(str(ROOT / "tests" / "hostile"))
+from wrong_programs import EDITS  # noqa: E402
+
 FOLDERS = ("src", "specs", "proofs")
 # By what a bug is found, as the lists and as the table have it.
 FOUND_BY = {
@@ -80,6 +84,14 @@ def wrong_with_bugs():
         yield f"tests/bugs/{crate}.tsv: there is no {name}"
 
 
+def wrong_with_programs():
+    """Which edits of hostile/wrong_programs.py can't be made, a line each."""
+    for edit in EDITS:
+        count = (ROOT / edit.file).read_text().count(edit.old)
+        if count != 1:
+            yield f"tests/hostile/wrong_programs.py: {edit.title}: the old text stands {count} times in {edit.file}"
+
+
 def table_of_bugs():
     """The table that docs/CONTRACTS.md has of the bugs: for each crate, in the order of crates.txt, by what how many are found."""
     columns = list(dict.fromkeys(FOUND_BY.values()))
@@ -109,7 +121,7 @@ def main():
     if "\n".join(table_of_bugs()) not in (ROOT / "docs" / "CONTRACTS.md").read_text():
         failed += 1
         print("docs/CONTRACTS.md: its table of bugs isn't what tests/edits.py --table prints")
-    for line in wrong_with_bugs():
+    for line in (*wrong_with_bugs(), *wrong_with_programs()):
         failed += 1
         print(line)
     for crate, name, path in edits():

@@ -27,6 +27,12 @@ def refused(text):
     return Answer(1, b"", text.encode())
 
 
+def too_large(rigged, name):
+    """A schema over a limit, with what is said behind the line."""
+    path = rigged.folder / name
+    return refused(f"schema refused S9 TooLarge\nnote: {path}: p21-adapt may make a copy of it that fits; p21-adapt {path} -o COPY\n")
+
+
 def points(names):
     return file_of("".join(f"#{name}=POINT($,1.,1.);\n" for name in names))
 
@@ -88,10 +94,7 @@ def large_texts(rigged, tally):
         rigged.write("text", "1".rjust(size))
         tally.check(f"a parameter of {size} bytes", rigged.answer(["param", "text"]), wanted)
     schema = "SCHEMA s; END_SCHEMA;"
-    for size, wanted in (
-        (LARGEST_TEXT, answered("SCHEMA S\n")),
-        (LARGEST_TEXT + 1, refused("schema refused S9 TooLarge\n")),
-    ):
+    for size, wanted in ((LARGEST_TEXT, answered("SCHEMA S\n")), (LARGEST_TEXT + 1, too_large(rigged, "s.exp"))):
         rigged.write("s.exp", schema.rjust(size))
         tally.check(f"a schema of {size} bytes", rigged.answer(["schema", "s.exp"]), wanted)
     tally.part("the largest texts")
@@ -103,7 +106,7 @@ def large_schemas(rigged, tally):
     found = rigged.answer(["schema", "s.exp"])
     tally.check("5,000 entities", (found.status, found.output.count(b"\n"), found.error), (0, 5_001, b""))
     for count in (MOST_DECLARATIONS, MOST_DECLARATIONS + 1):
-        wanted = answered("SCHEMA S\n") if count == MOST_DECLARATIONS else refused("schema refused S9 TooLarge\n")
+        wanted = answered("SCHEMA S\n") if count == MOST_DECLARATIONS else too_large(rigged, "s.exp")
         types = "".join(f"TYPE t{k} = REAL; END_TYPE;" for k in range(count))
         rigged.write("s.exp", f"SCHEMA s;{types}END_SCHEMA;")
         tally.check(f"{count} types", rigged.answer(["schema", "s.exp"]), wanted)
