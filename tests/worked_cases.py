@@ -261,6 +261,7 @@ TYPE metre = REAL; END_TYPE;
 TYPE tally = INTEGER; END_TYPE;
 TYPE inner = SELECT (metre, hue); END_TYPE;
 TYPE outer = SELECT (inner, base); END_TYPE;
+TYPE tone = SELECT (colour); END_TYPE;
 ENTITY base; k : NUMBER; END_ENTITY;
 ENTITY narrow SUBTYPE OF (base); SELF\base.k : OPTIONAL INTEGER; END_ENTITY;
 ENTITY broad SUBTYPE OF (base); SELF\base.k : OPTIONAL REAL; END_ENTITY;
@@ -272,6 +273,7 @@ ENTITY places; v : ARRAY [0:2] OF OPTIONAL UNIQUE NUMBER; END_ENTITY;
 ENTITY words; v : LIST [2:3] OF UNIQUE STRING; END_ENTITY;
 ENTITY six; v : BINARY(6) FIXED; END_ENTITY;
 ENTITY chosen; v : outer; END_ENTITY;
+ENTITY toned; v : tone; END_ENTITY;
 ENTITY tones; v : SET OF SET OF colour; END_ENTITY;
 ENTITY only; v : inner; END_ENTITY;
 ENTITY full; v : ARRAY [1:2] OF INTEGER; END_ENTITY;
@@ -562,6 +564,12 @@ INSTANCES = {
         ("#1=CHOSEN('a');", "refused 54 SelectType in #1"),
         ("#1=CHOSEN(.RED.);", "refused 54 SelectType in #1"),
         ("#1=ONLY(#1);", "refused 54 SelectType in #1"),
+        ("#1=CHOSEN(HUE($));", "refused 46 Missing in #1"),
+        ("#1=CHOSEN(METRE(*));", "refused 47 StarNotDerived in #1"),
+        ("#1=TONED(COLOUR(.RED.));", "#1=TONED(COLOUR(.RED.));"),
+        ("#1=TONED(COLOUR($));", "refused 46 Missing in #1"),
+        ("#1=TONED(COLOUR(*));", "refused 47 StarNotDerived in #1"),
+        ("#1=TONED(COLOUR(1));", "refused 49 WrongKind in #1"),
     ],
     "SEVERAL": [
         ("#1=(A()B()C()R(1));", "refused 42 Abstract in #1"),

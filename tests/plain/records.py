@@ -133,7 +133,7 @@ class Check:
                 self.needs.append(Need(target, wanted))
                 return parameter
             case ("typed", (_, key), within_it) if key in offered - wanted:
-                return ("typed", key, self.of_name(key, within_it))
+                return ("typed", key, self.of_type(("name", key), within_it))
         raise Refused(54)
 
     def aggregate(self, written, parameter):
