@@ -28,7 +28,8 @@ impl<'a> Instance<'a> {
     /// The attributes with their values. It takes no memory.
     pub fn attributes(&self) -> Attributes<'a>
         ensures told { (record_ : Record) (stated : IsInstanceText self.now.schema.now self.now.name record_ self.now.line.now) → TellsInstance stated result }
-        ensures any { (record_ : Record) (stated : IsInstanceText self.now.schema.now self.now.name record_ self.now.line.now) (rows : List Row) → AreRowsOf self.now.schema.now stated.canonical rows → TellsRows result rows }
+        ensures any { (record_ : Record) (stated : IsInstanceText self.now.schema.now self.now.name record_ self.now.line.now)
+            (rows : List Row) → AreRowsOf self.now.schema.now stated.canonical rows → TellsRows result rows }
         ensures schema { schema_of result ≡ self.now.schema.now }
     {
         Attributes::of_record(self.schema, record_of(self.line))

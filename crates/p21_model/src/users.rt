@@ -58,7 +58,8 @@ impl Users {
     ///
     /// `NoMemory`.
     pub fn new(alloc: Global, model: AcceptedModel<'_>) -> Result<Users, NoMemory>
-        ensures uses { IfOk result (λ users. AreStated model.entry.schema.now model.entry.accepted.now.kept → HaveOneLine model.entry.accepted.now.kept → AreUsesIn model.entry.schema.now model.entry.accepted.now.kept users) }
+        ensures uses { IfOk result (λ users. AreStated model.entry.schema.now model.entry.accepted.now.kept →
+            HaveOneLine model.entry.accepted.now.kept → AreUsesIn model.entry.schema.now model.entry.accepted.now.kept users) }
         ensures order { IfOk result (λ users. AreInOrder users) }
     {
         let rows = all_uses(alloc, model)?;
@@ -122,7 +123,8 @@ impl<'a> UsersOf<'a> {
 
 /// All uses in the file, by rising names of the instances that use, in the order of their lines.
 fn all_uses(alloc: Global, model: AcceptedModel<'_>) -> Result<Vec<UseRow>, NoMemory>
-    ensures { IfOk result (λ rows. AreStated model.entry.schema.now model.entry.accepted.now.kept → HaveOneLine model.entry.accepted.now.kept → AreUsesIn model.entry.schema.now model.entry.accepted.now.kept rows.items) }
+    ensures { IfOk result (λ rows. AreStated model.entry.schema.now model.entry.accepted.now.kept →
+        HaveOneLine model.entry.accepted.now.kept → AreUsesIn model.entry.schema.now model.entry.accepted.now.kept rows.items) }
 {
     let mut rows = Vec::new(alloc);
     let mut least = 0;
@@ -145,8 +147,9 @@ fn with_instance(
     user: u64,
     instance: &Instance<'_>,
 ) -> Result<Vec<UseRow>, NoMemory>
-    ensures { IfOk result (λ more. (record_ : Record) (stated : IsInstanceText instance.now.schema.now instance.now.name record_ instance.now.line.now) (found : List Row) → AreRowsOf instance.now.schema.now stated.canonical found
-        → more.items ≡ rows.items ++ uses_by user found) }
+    ensures { IfOk result (λ more. (record_ : Record)
+        (stated : IsInstanceText instance.now.schema.now instance.now.name record_ instance.now.line.now) (found : List Row) →
+        AreRowsOf instance.now.schema.now stated.canonical found → more.items ≡ rows.items ++ uses_by user found) }
 {
     let mut more = rows;
     let mut attributes = instance.attributes();
@@ -162,7 +165,8 @@ fn with_attribute(
     user: u64,
     attribute: &Attribute<'_>,
 ) -> Result<Vec<UseRow>, NoMemory>
-    ensures { IfOk result (λ more. (p : Param) → IsTextOf attribute.now.value.text.now p → more.items ≡ rows.items ++ uses_at user (place_of attribute.now.place, p)) }
+    ensures { IfOk result (λ more. (p : Param) → IsTextOf attribute.now.value.text.now p →
+        more.items ≡ rows.items ++ uses_at user (place_of attribute.now.place, p)) }
 {
     let place = attribute.place;
     let mut more = rows;

@@ -1,5 +1,7 @@
 use p21_express_graph::Place;
-use p21_model::{AcceptedModel, Characters, Entities, Instance, Kind, References, Value};
+use p21_model::{
+    AcceptedModel, Characters, Entities, Instance, Kind, References, Use, Users, UsersOf, Value,
+};
 use p21_stream::{Accepted, Limits, Name, Schema, Session, read_schema};
 use std::alloc::Global;
 use std::process::Abort;
@@ -89,6 +91,57 @@ const NAMED: &[(&str, &[u64])] = &[
     ("#12", &[12]),
     ("((#20,#1),LABEL('#5,(#6'),NODE(#7),$)", &[20, 1, 7]),
     ("'#1'", &[]),
+];
+
+const REFERRING_SCHEMA: &str =
+    "SCHEMA uses; TYPE things = LIST [1:?] OF thing; END_TYPE; TYPE measure = REAL; END_TYPE; \
+TYPE any = SELECT (things, measure, thing); END_TYPE; ENTITY thing; END_ENTITY; ENTITY pair; first, second : thing; END_ENTITY; \
+ENTITY row; cells : LIST [0:?] OF LIST [1:?] OF thing; END_ENTITY; ENTITY holder; value : any; more : SET [0:?] OF thing; END_ENTITY; \
+ENTITY node SUBTYPE OF (thing); next : OPTIONAL node; END_ENTITY; ENTITY tagged SUBTYPE OF (thing); tag : thing; END_ENTITY; END_SCHEMA;";
+
+const REFERRING_FILE: &str =
+    "ISO-10303-21;HEADER;FILE_DESCRIPTION((''),'2;1');FILE_NAME('','',(''),(''),'','','');FILE_SCHEMA(('USES'));ENDSEC;DATA;\
+#18446744073709551615=NODE(#7);#9=HOLDER(#5,());#8=(NODE(#7)TAGGED(#1)THING());#7=NODE(#7);#6=NODE($);#5=THING();\
+#4=HOLDER(THINGS((#6,#1)),(#5,#1));#3=ROW(((#1,#5,#1),(#6)));#2=PAIR(#1,#1);#1=THING();ENDSEC;END-ISO-10303-21;";
+
+/// A name, and each instance that refers to it, with the entity and the name of the attribute that does.
+const USERS: &[(u64, &[(u64, &str, &str)])] = &[
+    // Two attributes of one instance, one attribute that has it twice, in lists of lists, in a value with its keyword, in a
+    // set, and in a record of external mapping.
+    (
+        1,
+        &[
+            (2, "PAIR", "FIRST"),
+            (2, "PAIR", "SECOND"),
+            (3, "ROW", "CELLS"),
+            (4, "HOLDER", "VALUE"),
+            (4, "HOLDER", "MORE"),
+            (8, "TAGGED", "TAG"),
+        ],
+    ),
+    (
+        5,
+        &[
+            (3, "ROW", "CELLS"),
+            (4, "HOLDER", "MORE"),
+            (9, "HOLDER", "VALUE"),
+        ],
+    ),
+    (6, &[(3, "ROW", "CELLS"), (4, "HOLDER", "VALUE")]),
+    // By itself, and by the last name.
+    (
+        7,
+        &[
+            (7, "NODE", "NEXT"),
+            (8, "NODE", "NEXT"),
+            (18446744073709551615, "NODE", "NEXT"),
+        ],
+    ),
+    // Nothing refers to these, the third of which isn't there.
+    (2, &[]),
+    (18446744073709551615, &[]),
+    (10, &[]),
+    (0, &[]),
 ];
 
 fn kind_name(kind: Kind) -> &'static str {
@@ -375,6 +428,76 @@ fn first_wrong_value() -> &'static str {
     first_other_names()
 }
 
+fn is_use(schema: &Schema, found: Use, user: u64, entity: &str, attribute: &str) -> bool {
+    let place = found.place;
+    if place.entity.0 as usize >= schema.entities() {
+        return false;
+    }
+    if place.index >= schema.attribute_count(place.entity) {
+        return false;
+    }
+    found.user.0 == user
+        && schema.entity_name(place.entity) == entity.as_bytes()
+        && schema.place_name(place) == attribute.as_bytes()
+}
+
+fn has_next(
+    schema: &Schema,
+    users: &mut UsersOf<'_>,
+    user: u64,
+    entity: &str,
+    attribute: &str,
+) -> bool {
+    match users.next() {
+        Some(found) => is_use(schema, found, user, entity, attribute),
+        None => false,
+    }
+}
+
+fn has_users(schema: &Schema, users: &Users, name: u64, wanted: &[(u64, &str, &str)]) -> bool {
+    let mut found = users.of(Name(name));
+    if found.len() != wanted.len() {
+        return false;
+    }
+    for (user, entity, attribute) in wanted {
+        if !has_next(schema, &mut found, *user, entity, attribute) {
+            return false;
+        }
+    }
+    found.next().is_none()
+}
+
+/// The first name that has other users than it is to have, or 99 where there is none.
+fn first_otherwise_used(schema: &Schema, users: &Users) -> u64 {
+    for (name, wanted) in USERS {
+        if !has_users(schema, users, *name, wanted) {
+            return *name;
+        }
+    }
+    99
+}
+
+fn first_wrong_users(alloc: Global) -> u64 {
+    let Ok(schema) = read_schema(alloc, REFERRING_SCHEMA.as_bytes()) else {
+        return 101;
+    };
+    let mut session = Session::new(alloc, &schema, Limits::usual());
+    let Ok(()) = session.feed(REFERRING_FILE.as_bytes()) else {
+        return 102;
+    };
+    let Ok(accepted) = session.finish() else {
+        return 103;
+    };
+    let model = AcceptedModel {
+        schema: &schema,
+        accepted: &accepted,
+    };
+    match Users::new(alloc, model) {
+        Ok(users) => first_otherwise_used(&schema, &users),
+        Err(_) => 104,
+    }
+}
+
 fn first_wrong(alloc: Global) -> &'static str {
     let Ok(schema) = read_schema(alloc, SCHEMA.as_bytes()) else {
         return "the schema";
@@ -400,4 +523,9 @@ fn hands_out_attributes_and_values(rt: HostRuntime) {
 #[test]
 fn hands_out_digits_characters_and_names(rt: HostRuntime) {
     assert_eq!(rt; first_wrong_value(), "none");
+}
+
+#[test]
+fn hands_out_what_refers(rt: HostRuntime) {
+    assert_eq!(rt; first_wrong_users(rt.alloc()), 99);
 }
