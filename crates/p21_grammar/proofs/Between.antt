@@ -19,6 +19,7 @@ use Rattle.p21_grammar.proofs.Walks.{unnamed-walk, named-walk, instances-sound}
 use Rattle.p21_grammar.specs.Between.{IsBetweenInstances, instances_of, StandsForMore}
 use Rattle.p21_grammar.specs.Held.{Held}
 use Rattle.p21_grammar.specs.Histories.{Stands}
+use Rattle.p21_grammar.specs.Reopening.{IsBetweenStatements}
 use Rattle.p21_grammar.specs.Runs.{ready_tokens, head_tokens, opening_tokens, stack_tokens, row_tokens, pending}
 use Rattle.p21_grammar.specs.Sound.{IsSound}
 use Rattle.p21_grammar.specs.Machine.{Opening, part_row, list_row, typed_row, Open, open_at, Spot, idle, line, named as name_taken, equal, inside, keyed, next, word, behind, record_end, instance_end, depth_of}
@@ -136,3 +137,9 @@ module _ (p : Stage) (sp : Spot) (depth : ℕ) (refused : Option GrammarFault) (
       let none = none-is refused open_ in
       let here = decides.0 e in
       stands-for-more held (is-between none here.0 here.1) (ap (λ (v : Held). v.depth) (sym same) ∙ flat none ∙ ap depth_of here.1)
+
+  pub open-between : (answer : Bool) → false ≡ is_some refused → (IsTrue answer ↔ ((is_in_data p ≡ true) × (sp ≡ idle))) → (refused ≡ None → depth ≡ depth_of sp) → answer ≡ true → IsBetweenStatements held
+  open-between answer open_ decides flat e =
+      let none = none-is refused open_ in
+      let here = decides.0 e in
+      subst IsBetweenStatements same (record { refused = none; pending = ap pending here.1; depth = flat none ∙ ap depth_of here.1 })

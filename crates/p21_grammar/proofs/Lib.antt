@@ -10,3 +10,4 @@ pub mod Depths
 pub mod Theorems
 pub mod Holding
 pub mod Between
+pub mod Reopening

@@ -20,7 +20,8 @@
 //! `RunsStatements`); the tests decide the definitions (`Shapes`); what was taken is the statements given and what is
 //! held (`Follows`, `Led`); a file leads to its end, and what leads somewhere begins a file (`Walks`). From these,
 //! `Theorems` and `Holding` give the clauses of `Parser`. `Between` shows that a parser passes over whole instances
-//! without a change: behind one it holds what it held before.
+//! without a change: behind one it holds what it held before. `Reopening` shows that a parser that is taken back to its
+//! last statement holds what it held there, which the stage says.
 #![tactic(auto)]
 
 mod event;

@@ -188,4 +188,25 @@ impl Machine {
             _ => 0,
         }
     }
+
+    /// How far the statements of the file have come.
+    pub fn stage(&self) -> Stage
+        ensures { result ≡ self.now.stage }
+    {
+        self.stage
+    }
+
+    /// Stands at a stage where no statement is open.
+    pub fn reopen(&mut self, stage: Stage)
+        ensures stage { self.new.stage ≡ stage }
+        ensures spot { spot_of self.new ≡ idle }
+    {
+        self.stage = stage;
+        self.at = At::Idle;
+        self.row = Row {
+            opening: Opening::List,
+            params: Vec::new(self.alloc),
+        };
+        self.frames.clear();
+    }
 }

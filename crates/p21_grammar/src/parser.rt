@@ -1,9 +1,13 @@
-//! A refused parser keeps its depth, and nothing else: `depth` answers that of the tokens taken.
+//! A refused parser keeps its depth and its stage, and nothing else: `depth` answers that of the tokens taken, and `reopen` goes on
+//! behind the last statement that was given. At that stage there is one value of a parser between two statements, so a parser that is
+//! taken back to it stands for what it stood for then.
 ghost use Rattle.std.specs.Prelude.{◌≡◌, ◌≤◌, ◌↔◌, IsTrue, true, Some, None, Err, IfErr, IfOk};
 ghost use Rattle.p21_spec_basics.specs.History.{StandsForEmptyHistory};
 ghost use Rattle.p21_spec_exchange.specs.OpenNesting.{IsDepth};
 ghost use Rattle.p21_grammar.specs.Between.{IsBetweenInstances, StandsForMore};
 ghost use Rattle.p21_grammar.specs.Histories.{GrammarHistory, Stands, TakeGives, FinishGives, HasHeadingForm, RefusalIsKnown, RefusesAgain};
+ghost use Rattle.p21_grammar.specs.Reopening.{HoldsAsBetween, IsBetweenStatements, StaysOrEnds, between_statements};
+ghost use Rattle.p21_grammar.specs.Stage.{is_in_data};
 ghost use Rattle.p21_grammar.specs.declared.fault.GrammarFault.{GrammarFault};
 ghost use Rattle.p21_tokens.specs.Token.{meant};
 
@@ -57,6 +61,7 @@ impl Parser {
     pub fn new(alloc: Global) -> Parser
         ensures stands { StandsForEmptyHistory Stands result }
         ensures goes_on { result.refused ≡ None }
+        ensures between { IsBetweenStatements result }
     {
         Parser {
             machine: Machine::new(alloc),
@@ -81,16 +86,19 @@ impl Parser {
         ensures refused { IfErr result (λ fault. self.new.refused ≡ Some fault) }
         ensures known { RefusalIsKnown self.new }
         ensures within { self.new.depth ≤ 64 }
+        ensures stage { StaysOrEnds self.old (meant token) result self.new }
     {
         if let Some(fault) = self.refused {
             return Err(fault);
         }
+        let stage = self.machine.stage();
         match self.machine.step(token) {
             Ok(event) => {
                 self.depth = self.machine.depth();
                 Ok(event)
             }
             Err(fault) => {
+                self.machine.reopen(stage);
                 self.refused = Some(fault);
                 Err(fault)
             }
@@ -130,10 +138,30 @@ impl Parser {
     pub fn is_between_instances(&self) -> bool
         ensures value { IsTrue result ↔ IsBetweenInstances self.now }
         ensures stands { result ≡ true → StandsForMore self.now }
+        ensures between { result ≡ true → IsBetweenStatements self.now }
     {
         if self.refused.is_some() {
             return false;
         }
         self.machine.is_between_instances()
+    }
+
+    /// Whether its last statement left it in a data section. It takes no memory.
+    pub fn is_in_data(&self) -> bool
+        ensures { result ≡ is_in_data self.now.stage }
+    {
+        self.machine.stage().is_in_data()
+    }
+
+    /// Stands where its last statement ended, with no statement open: the tokens behind it and a refusal are forgotten. It takes no
+    /// memory.
+    pub fn reopen(&mut self)
+        ensures held { self.new ≡ between_statements self.old.stage }
+        ensures as_then { HoldsAsBetween self.old.stage self.new }
+    {
+        let stage = self.machine.stage();
+        self.machine.reopen(stage);
+        self.depth = 0;
+        self.refused = None;
     }
 }

@@ -1,5 +1,6 @@
 mod files;
 mod places;
+mod reopened;
 mod spelled;
 
 use p21_grammar::{

@@ -4,6 +4,7 @@ mod file;
 mod limits;
 mod param;
 mod places;
+mod reopened;
 mod runs;
 mod texts;
 mod transcribed;

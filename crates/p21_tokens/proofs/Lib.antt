@@ -8,4 +8,5 @@ pub mod Extending
 pub mod Finishing
 pub mod OneScalar
 pub mod Passing
+pub mod Reopening
 pub mod WholeWords

@@ -148,9 +148,9 @@ unseen-on seen (b ∷ bytes) e = refl
 abbrev passed : Held → ℕ → Held
 passed v count = record v { file = v.file + count }
 
-live-passed : (v : Held) (h : TokenHistory) (bytes : List ℕ) (tokens : List Token) → IsLive v h → IsResting v → Laid bytes tokens → EndsWithSemicolon tokens → length bytes ≤ v.statement_limit
+live-passed : (v : Held) (h : TokenHistory) (bytes : List ℕ) (tokens : List Token) → IsLive v h → IsResting v → (laid : Laid bytes tokens) → EndsWithSemicolon tokens → AreStatementsWithin v.statement_limit 0 laid.lexemes
     → IsLive (passed v (length bytes)) (extended h (passing_call bytes tokens))
-live-passed v h bytes tokens live is laid ends room =
+live-passed v h bytes tokens live is laid ends within =
     let run = reads-whole laid.lexemes bytes laid.laid (subst EndsWithSemicolon (sym laid.tokens_are) ends) in
     let closed_token : open_bytes 0 live.lexemes ≡ 0 = sym live.statement_is ∙ is.statement_is in
     let unseen = resting-unseen v h live is in
@@ -163,7 +163,7 @@ live-passed v h bytes tokens live is laid ends room =
       statement_is =
           is.statement_is ∙ sym (open-append 0 live.lexemes laid.lexemes ∙ (ap (λ (n : ℕ). open_bytes n laid.lexemes) closed_token ∙ none-open laid.lexemes (subst EndsWithSemicolon (sym laid.tokens_are) ends)));
       statements_within = within-append v.statement_limit 0 live.lexemes laid.lexemes live.statements_within
-          (subst (λ (n : ℕ). AreStatementsWithin v.statement_limit n laid.lexemes) (sym closed_token) (laid-within v.statement_limit 0 laid.lexemes bytes laid.laid (omega arith)));
+          (subst (λ (n : ℕ). AreStatementsWithin v.statement_limit n laid.lexemes) (sym closed_token) within);
       reads = λ rest _.
           ap (λ (x : List ℕ). lex start x) (append_assoc h.taken bytes rest)
           ∙ (live.reads (bytes ++ rest) (subst (λ (o : Option ℕ). BeginsWithSeen o (bytes ++ rest)) (sym unseen) tt)
@@ -173,12 +173,12 @@ live-passed v h bytes tokens live is laid ends room =
       seen_is = inl (unseen-on h.seen bytes unseen);
     }
 
-answers-passed : (v : Held) (h : TokenHistory) (bytes : List ℕ) (tokens : List Token) → IsResting v → v.file ≤ v.file_limit → length bytes ≤ room_of v → Stands v h → Laid bytes tokens → EndsWithSemicolon tokens
+pub answers-passed : (v : Held) (h : TokenHistory) (bytes : List ℕ) (tokens : List Token) → IsResting v → v.file + length bytes ≤ v.file_limit → Stands v h → (laid : Laid bytes tokens) → EndsWithSemicolon tokens → AreStatementsWithin v.statement_limit 0 laid.lexemes
     → Answers (passed v (length bytes)) (extended h (passing_call bytes tokens))
 unfolding Stands
-answers-passed v h bytes tokens is file room stands laid ends =
+answers-passed v h bytes tokens is file stands laid ends within =
     let now = stands-live v h stands is.refused in
-    let live = live-passed v h bytes tokens now.1 is laid ends (omega arith) in
+    let live = live-passed v h bytes tokens now.1 is laid ends within in
     let alive = ap (λ (x : Option TokenFault). first_refusal x None) now.0 in
     let none = resting-pending v is in
     answers-live _ _ (is.refused ∙ sym alive, λ _. live, live-pending _ _ live) alive live (omega arith) (omega arith)
@@ -186,4 +186,4 @@ answers-passed v h bytes tokens is file room stands laid ends =
 pub gives-passed : (v w : Held) (count : ℕ) → IsResting v → v.file ≤ v.file_limit → count ≤ room_of v → w ≡ passed v count → GivesPassed v count w
 gives-passed v w count is file room same history bytes tokens stands counted laid ends =
     let long : length bytes ≤ room_of v = subst (λ (n : ℕ). n ≤ room_of v) (sym counted) room in
-    subst (λ (x : Held). Answers x (extended history (passing_call bytes tokens))) (ap (λ (n : ℕ). passed v n) counted ∙ sym same) (answers-passed v history bytes tokens is file long stands laid ends)
+    subst (λ (x : Held). Answers x (extended history (passing_call bytes tokens))) (ap (λ (n : ℕ). passed v n) counted ∙ sym same) (answers-passed v history bytes tokens is (omega arith) stands laid ends (laid-within v.statement_limit 0 laid.lexemes bytes laid.laid (omega arith)))

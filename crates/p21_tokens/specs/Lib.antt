@@ -7,6 +7,7 @@ pub mod Parameter
 pub mod Finding
 pub mod Prefix
 pub mod Passing
+pub mod Reopening
 -- What the clauses of its calls cite, for callers who name this crate alone
 pub use Rattle.p21_spec_basics.specs as p21_spec_basics
 pub use Rattle.p21_spec_exchange.specs as p21_spec_exchange

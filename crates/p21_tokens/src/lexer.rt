@@ -24,10 +24,13 @@ ghost use Rattle.p21_tokens_automaton.specs.Step.{advance};
 ghost use Rattle.p21_spec_basics.specs.History.{empty};
 ghost use Rattle.p21_tokens.specs.declared.fault.TokenFault.{TokenFault};
 ghost use Rattle.p21_tokens.specs.Histories.{FinishGives, FinishNamesFault, IsPendingBehind, KeepsLimits, NeedsNoMemory, NextGives, RefusesAgain, Stands, TakesNoMore, TakesWithinPiece, TokenHistory};
+ghost use Rattle.p21_tokens.specs.Passing.{IsResting};
+ghost use Rattle.p21_tokens.specs.Reopening.{RestsBehindSemicolon};
 ghost use Rattle.p21_tokens.specs.Steps.{ClosesToken, EndsToken, LacksMemory, Runs, Scans, Steps, Walks, behind_token, is_token_byte, with_characters, with_pending_bytes};
 ghost use Rattle.p21_tokens.specs.Token.{meant};
 
 mod passing;
+mod reopening;
 
 use crate::fault::{TokenFault, fault_of};
 use crate::places::{Places, Starts, bytes_of_character};
@@ -504,6 +507,7 @@ impl Lexer {
         ensures stands { Stands result empty }
         ensures statement_limit { record_limit_of result ≡ limits.record_source }
         ensures file_limit { file_limit_of result ≡ limits.file_source }
+        ensures rests { IsResting result }
     {
         Lexer {
             alloc,
@@ -537,6 +541,7 @@ impl Lexer {
         ensures kind { IfErr result IsOfTokens }
         ensures no_memory { NeedsNoMemory self.old piece.now result }
         ensures limits { KeepsLimits self.old self.new }
+        ensures rests { RestsBehindSemicolon result self.new }
     {
         if let Some(fault) = self.refused {
             return Err(fault);

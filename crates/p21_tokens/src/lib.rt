@@ -12,7 +12,8 @@
 //! 4. At the end of a token `read_token` has `p21_values` read the pending bytes, and a `Token` comes out.
 //!
 //! Where whole statements are read elsewhere, `lexer/passing` passes over their bytes (`specs/Passing`): behind a `;`
-//! the lexer holds what it holds at the start of a statement, and only the count of the file's bytes grows.
+//! the lexer holds what it holds at the start of a statement, and only the count of the file's bytes grows. Since all that
+//! it holds there is this count, it can be taken back to there (`lexer/reopening`, `specs/Reopening`).
 #![tactic(auto)]
 
 mod fault;

@@ -1,4 +1,4 @@
-use Rattle.p21_grammar.proofs.Between.{refused-value, open-value, open-stands}
+use Rattle.p21_grammar.proofs.Between.{refused-value, open-value, open-stands, open-between}
 use Rattle.p21_grammar.specs.Machine.{spot_of}
 use Rattle.p21_grammar.proofs.parser.Parser.is_between_instances.Goals as goal
 
@@ -14,4 +14,9 @@ returns-clause-value c =
 pub returns-clause-stands : goal.returns-clause-stands
 returns-clause-stands c =
     open-stands c.self.inside.machine.stage (spot_of c.self.inside.machine) c.self.inside.depth c.self.inside.refused c.args.self.now c.self.view_is
+    c.is_between_instances.result c.if-is_some.ensures c.is_between_instances.ensures (λ none. (c.self.invariant.0 none).depth_is)
+
+pub returns-clause-between : goal.returns-clause-between
+returns-clause-between c =
+    open-between c.self.inside.machine.stage (spot_of c.self.inside.machine) c.self.inside.depth c.self.inside.refused c.args.self.now c.self.view_is
     c.is_between_instances.result c.if-is_some.ensures c.is_between_instances.ensures (λ none. (c.self.invariant.0 none).depth_is)

@@ -1,5 +1,7 @@
-use Rattle.std.proofs.Common.{◌≤◌, sym, subst}
+use Rattle.std.proofs.Common.{◌≤◌, ap, sym, subst, ◌∙◌}
 use Rattle.p21_grammar.proofs.Holding.{answers_with, refuses, not_refused, was_refused, reached-on, reaches-within, refusal-known, shaped-event}
+use Rattle.p21_grammar.proofs.Reopening.{stays-or-ends}
+use Rattle.p21_grammar.specs.Held.{Held}
 use Rattle.p21_grammar.specs.Machine.{spot_of}
 use Rattle.p21_tokens.specs.Token.{meant}
 use Rattle.p21_grammar.proofs.parser.Parser.take.Goals as goal
@@ -29,7 +31,7 @@ returns-in-Ok-clause-within c =
 
 pub returns-in-Err-clause-gives : goal.returns-in-Err-clause-gives
 returns-in-Err-clause-gives c = λ history stands open_.
-    refuses c.self.inside.machine.stage (spot_of c.self.inside.machine) c.self.inside.depth (meant c.args.token) c.in-Err.fault c.step.new.self.stage (spot_of c.step.new.self)
+    refuses c.self.inside.machine.stage (spot_of c.self.inside.machine) c.self.inside.depth (meant c.args.token) c.in-Err.fault c.reopen.new.self.stage (spot_of c.reopen.new.self)
     (c.self.invariant.0 c.in_default.is).ran c.in-Err.ensures.err history
     (not_refused c.self.inside.machine.stage (spot_of c.self.inside.machine) c.self.inside.depth c.self.inside.refused c.args.self.now c.self.view_is c.in_default.is history stands) open_
 
@@ -41,3 +43,11 @@ returns-in-Ok-clause-known c = refusal-known _
 
 pub returns-in-Err-clause-known : goal.returns-in-Err-clause-known
 returns-in-Err-clause-known c = refusal-known _
+
+pub returns-in-Ok-clause-stage : goal.returns-in-Ok-clause-stage
+returns-in-Ok-clause-stage c =
+    stays-or-ends c.self.inside.machine.stage (spot_of c.self.inside.machine) c.self.inside.depth (meant c.args.token) c.step.new.self c.in-Ok.event c.depth-self-inside.result c.self.inside.refused c.self.inside.refused c.args.self.now c.self.view_is
+    (c.self.invariant.0 c.in_default.is).ran c.in-Ok.ensures.ok c.depth-self-inside.ensures c.in_default.is
+
+pub returns-in-Err-clause-stage : goal.returns-in-Err-clause-stage
+returns-in-Err-clause-stage c = c.reopen.ensures.stage ∙ (c.stage-stage.ensures ∙ ap (λ (v : Held). v.stage) c.self.view_is)

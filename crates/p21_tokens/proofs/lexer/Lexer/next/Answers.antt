@@ -5,6 +5,7 @@ use Rattle.p21_tokens.specs.Steps.{Scans}
 use Rattle.p21_tokens.specs.declared.token.Token.{Token}
 use Rattle.p21_tokens.proofs.Extending.{next-answers, next-refuses, next-takes_no_more}
 use Rattle.p21_tokens.proofs.Finishing.{next-refused, refused-none, no-memory-asked, fault-of-err}
+use Rattle.p21_tokens.proofs.Reopening.{rests-behind}
 use Rattle.p21_tokens.proofs.lexer.Lexer.next.Goals as goal
 
 pub returns-in-Some-clause-history : goal.returns-in-Some-clause-history
@@ -38,3 +39,6 @@ returns-in-Ok-clause-at_once c = by_answer c.in-Ok.answer (c.in-Ok.ensures {u = 
     by_answer : (answer : ℕ × Option Token) → Scans c.args.self.now c.args.piece.now (Ok answer) c.scan.new.self → TakesNoMore c.args.self.now c.args.piece.now (Ok answer)
     by_answer (count, None) s = tt
     by_answer (count, Some token) s = next-takes_no_more c.args.self.now c.scan.new.self c.args.piece.now count token (ap (λ (h : Held). h.refused) (sym c.self.view_is) ∙ c.in_default.is) s
+
+pub returns-in-Ok-clause-rests : goal.returns-in-Ok-clause-rests
+returns-in-Ok-clause-rests c = rests-behind c.args.self.now c.scan.new.self c.args.piece.now c.in-Ok.answer (ap (λ (h : Held). h.refused) (sym c.self.view_is) ∙ c.in_default.is) (c.in-Ok.ensures {u = tt})
