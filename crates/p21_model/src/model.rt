@@ -1,6 +1,7 @@
 //! The instances of an accepted file.
 ghost use Rattle.std.specs.Prelude.{◌≡◌, ◌≤◌, ◌<◌, ℕ, Contains, IfSome, IsNone};
 ghost use Rattle.p21_model.specs.Kept.{AreStated, IsKeptLine, IsStated};
+ghost use Rattle.p21_stream_output.specs.Output.{IsSectionLine};
 ghost use Rattle.p21_stream_store.specs.StoredInstance.{instance_names};
 
 use crate::instance::Instance;
@@ -49,5 +50,14 @@ impl<'a> AcceptedModel<'a> {
             name: found.0,
             line: found.1,
         })
+    }
+
+    /// The line in the canonical file with which the data section begins that the instance of this name stands in, without its line
+    /// feed: `DATA;`, or `DATA('NAME',('SCHEMA'));`. Nothing where there is no such instance. It takes no memory.
+    pub fn section_line(self, name: Name) -> Option<&'a [u8]>
+        ensures some { IfSome result (λ line. IsSectionLine self.entry.accepted.now name line.now) }
+        ensures none { IsNone result → Contains (instance_names self.entry.accepted.now.kept) name → ⊥ }
+    {
+        self.accepted.section_line(name)
     }
 }

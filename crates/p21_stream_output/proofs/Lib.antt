@@ -12,3 +12,4 @@ pub mod Zipped
 pub mod Whole
 pub mod Written
 pub mod Reading
+pub mod Searching

@@ -1,5 +1,5 @@
 -- What is written of sorted sections is the file of what is kept.
-use Rattle.std.proofs.Common.{◌≡◌, ◌+◌, ◌<◌, ℕ, suc, List, [], ◌∷◌, length, map, nat_eq, Some, slice_get, refl, sym, ap, subst, ◌∙◌, arith}
+use Rattle.std.proofs.Common.{◌≡◌, ◌+◌, ◌<◌, ℕ, suc, Bool, List, [], ◌∷◌, length, map, nat_eq, Some, slice_get, refl, sym, ap, subst, ◌∙◌, arith}
 use Rattle.std.proofs.lemmas.List.FromFn.{get_or-range_with_len, length-range_with_len}
 use Rattle.std.proofs.lemmas.List.Sorted.{Contains-permutation, IsPermutation-map, IsPermutation-sym}
 use Rattle.std.specs.Char.{IsScalar}
@@ -43,24 +43,32 @@ below-range n p (k, within, is) =
     let same = get_or-range_with_len 0 n k p low in
     omega (arith, low, is, same)
 
-sections-placed : (instances : List store.StoredInstance) (sections : List Section) (parts : List NamedSection) → sections_bodies sections ≡ bodies_of parts → Each (λ (x : NamedSection). ArePositions instances x.instance_positions) parts → HavePositions instances sections
-sections-placed instances [] parts same all = tt
-sections-placed instances (x ∷ sections) [] same all = cc
-sections-placed instances (x ∷ sections) (part ∷ parts) same all =
+-- what is so of the positions of each part is so of those of each section
+sections-each : (P : List ℕ → Type 0) (sections : List Section) (parts : List NamedSection) → sections_bodies sections ≡ bodies_of parts → Each (λ (x : NamedSection). P x.instance_positions) parts
+    → Each (λ (x : Section). P x.instance_positions) sections
+sections-each P [] parts same all = tt
+sections-each P (x ∷ sections) [] same all = cc
+sections-each P (x ∷ sections) (part ∷ parts) same all =
     let pair : (x.line.items, x.instance_positions) ≡ (part.line.items, part.instance_positions) = cc in
     let rest : sections_bodies sections ≡ bodies_of parts = cc in
-    (subst (ArePositions instances) (sym (ap (λ (p : List ℕ × List ℕ). p.1) pair)) all.0, sections-placed instances sections parts rest all.1)
+    (subst P (sym (ap (λ (p : List ℕ × List ℕ). p.1) pair)) all.0, sections-each P sections parts rest all.1)
 
-pub placed : (memberships : List Membership) (instances : List store.StoredInstance) (old filed sorted : List NamedSection) (sections : List Section) → AreEmpty old → IsFiling memberships instances (section_positions old) (section_positions filed) → IsPermutation filed sorted → sections_bodies sections ≡ bodies_of sorted → HavePositions instances sections
-placed memberships instances old filed sorted sections none filing are same = sections-placed instances sections sorted same (Each-of_members (λ (x : NamedSection). ArePositions instances x.instance_positions) sorted each)
+-- so is what is so of each part of their order
+pub filed-each : (P : List ℕ → Type 0) (memberships : List Membership) (instances : List store.StoredInstance) (old filed sorted : List NamedSection) (sections : List Section) → AreEmpty old
+    → (filing : IsFiling memberships instances (section_positions old) (section_positions filed)) → IsPermutation filed sorted → sections_bodies sections ≡ bodies_of sorted
+    → ((test : ℕ → Bool) → P (filter test filing.order)) → Each (λ (x : Section). P x.instance_positions) sections
+filed-each P memberships instances old filed sorted sections none filing are same holds = sections-each P sections sorted same (Each-of_members (λ (x : NamedSection). P x.instance_positions) sorted each)
   where
-    each : (x : NamedSection) → Contains sorted x → ArePositions instances x.instance_positions
+    each : (x : NamedSection) → Contains sorted x → P x.instance_positions
     each x among =
         let (i, at) = Contains-at filed x (Contains-permutation sorted filed x (IsPermutation-sym filed sorted are) among) in
-        subst (ArePositions instances) (sym (part-filed (section_at memberships instances) filing.order old filed none filing.filed_ i x at))
-        (Each-of_members (λ (p : ℕ). p < length instances) (filter (λ (p : ℕ). nat_eq (section_at memberships instances p) i) filing.order)
-        (λ p found. below-range (length instances) p (Contains-permutation filing.order (range_with_len 0 (length instances)) p (IsPermutation-sym (range_with_len 0 (length instances)) filing.order filing.instance_positions)
-        (Contains-unfiltered (λ (q : ℕ). nat_eq (section_at memberships instances q) i) filing.order p found))))
+        subst P (sym (part-filed (section_at memberships instances) filing.order old filed none filing.filed_ i x at)) (holds (λ (p : ℕ). nat_eq (section_at memberships instances p) i))
+
+pub placed : (memberships : List Membership) (instances : List store.StoredInstance) (old filed sorted : List NamedSection) (sections : List Section) → AreEmpty old → IsFiling memberships instances (section_positions old) (section_positions filed) → IsPermutation filed sorted → sections_bodies sections ≡ bodies_of sorted → HavePositions instances sections
+placed memberships instances old filed sorted sections none filing are same = filed-each (ArePositions instances) memberships instances old filed sorted sections none filing are same
+    (λ test. Each-of_members (λ (p : ℕ). p < length instances) (filter test filing.order)
+    (λ p found. below-range (length instances) p (Contains-permutation filing.order (range_with_len 0 (length instances)) p (IsPermutation-sym (range_with_len 0 (length instances)) filing.order filing.instance_positions)
+    (Contains-unfiltered test filing.order p found))))
 
 -- ---- a block for each section
 

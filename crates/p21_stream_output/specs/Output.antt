@@ -1,5 +1,5 @@
 -- The bytes of a canonical file from its lines.
-use Rattle.std.specs.Prelude.{◌≡◌, ℕ, List, [], ◌∷◌, ◌++◌, codes}
+use Rattle.std.specs.Prelude.{◌≡◌, ℕ, List, [], ◌∷◌, ◌++◌, codes, Contains}
 use Rattle.std.specs.List.{flat_map, AllByRecursion as Each}
 use Rattle.p21_spec_exchange.specs.Spelling.{name_spelling}
 use Rattle.p21_spec_exchange.specs.Text.{IsGraphic}
@@ -61,3 +61,12 @@ pub record IsLineOf (name : ℕ) (text file : List ℕ) : Type 0 where
 -- each instance has its line in the file
 abbrev pub HasLines : Output → Type 0
 HasLines o = Each (λ (x : StoredInstance). IsLineOf x.name x.text (output_text o)) o.kept
+
+-- the line of the instance of this name stands in a data section that begins with this line
+pub record IsSectionLine (o : Output) (name : ℕ) (line : List ℕ) : Type 0 where
+  pub section : WrittenSection
+  pub among : Contains o.sections section
+  pub line_is : section.line ≡ line
+  pub text : List ℕ
+  pub stands : Contains section.texts text
+  pub named : IsNamed name text

@@ -4,9 +4,9 @@
 //! numbers and names are those of the fault that a caller makes of them: 90, 91 and 92.
 ghost use Rattle.std.specs.Prelude.{◌≡◌, ◌≤◌, ◌<◌, ◌↔◌, ℕ, length, Contains, IfErr, IfSome, IsNone, IsTrue, OnErr, OnOk};
 ghost use Rattle.std.specs.Io.KnownBytes.{Appends};
-ghost use Rattle.p21_stream_output.specs.Output.{HasLines, IsLineOf, output_text};
+ghost use Rattle.p21_stream_output.specs.Output.{HasLines, IsLineOf, IsSectionLine, output_text};
 ghost use Rattle.p21_stream_output.specs.Reading.{Takes, rest_at, start};
-ghost use Rattle.p21_stream_output.specs.Stored.{HavePositions, output_of};
+ghost use Rattle.p21_stream_output.specs.Stored.{AreFiled, HavePositions, output_of};
 ghost use Rattle.p21_stream_io.specs.Transfer.{AppendsPartOf};
 ghost use Rattle.p21_stream_io.specs.Watch.{one_call_more};
 ghost use Rattle.p21_stream_statements.specs.declared.fault.Fault.TheVariants as fault;
@@ -16,6 +16,7 @@ ghost use Rattle.p21_stream_store.specs.StoredInstance.{StoredInstance, instance
 use crate::compare::is_file;
 use crate::cursor::{Cursor, Parts};
 use crate::output::write_file;
+use crate::search::section_line;
 use p21_stream_io::Watched;
 use p21_stream_statements::{At, Fault, Refusal};
 use p21_stream_store::{Instances, Numbers};
@@ -66,13 +67,13 @@ impl fmt::Debug for Accepted {
 impl Model for Accepted {
     ghost use Rattle.std.specs.Prelude.{◌≡◌, length};
     ghost use Rattle.p21_stream_output.specs.Output.{HasLines, Output, output_text};
-    ghost use Rattle.p21_stream_output.specs.Stored.{HavePositions, output_of};
+    ghost use Rattle.p21_stream_output.specs.Stored.{AreFiled, HavePositions, output_of};
 
     ghost Value = { Output };
 
     ghost view = { λ a. output_of a.header.items a.sections.items a.instances a.statement };
 
-    ghost invariant = { λ a. HavePositions a.instances a.sections.items × (a.len ≡ length (output_text (output_of a.header.items a.sections.items a.instances a.statement))) × HasLines (output_of a.header.items a.sections.items a.instances a.statement) };
+    ghost invariant = { λ a. HavePositions a.instances a.sections.items × (a.len ≡ length (output_text (output_of a.header.items a.sections.items a.instances a.statement))) × HasLines (output_of a.header.items a.sections.items a.instances a.statement) × AreFiled a.instances a.sections.items };
 }
 
 impl Accepted {
@@ -89,6 +90,7 @@ impl Accepted {
         requires placed { HavePositions instances sections.items }
         requires len { len ≡ length (output_text (output_of header.items sections.items instances statement)) }
         requires lines { HasLines (output_of header.items sections.items instances statement) }
+        requires filed { AreFiled instances sections.items }
         ensures { result ≡ output_of header.items sections.items instances statement }
     {
         Accepted {
@@ -141,6 +143,15 @@ impl Accepted {
             return None;
         };
         Some((Name(name), line))
+    }
+
+    /// The line in the canonical file with which the data section begins that the instance of this name stands in, without its
+    /// line feed, if there is such an instance. It takes no memory, and a search by halves in each section.
+    pub fn section_line(&self, name: Name) -> Option<&[u8]>
+        ensures some { IfSome result (λ line. IsSectionLine self.now name line.now) }
+        ensures none { IsNone result → Contains (instance_names self.now.kept) name → ⊥ }
+    {
+        section_line(&self.sections, &self.instances, name.0)
     }
 
     /// Writes the canonical file, and nothing else. What was written is the beginning of it, also where a write fails; no

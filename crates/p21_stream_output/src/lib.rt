@@ -1,5 +1,5 @@
 //! An accepted file: how it is made of what a session keeps, its canonical lines in their order, how they are written
-//! and read piece by piece, and whether a text is theirs.
+//! and read piece by piece, whether a text is theirs, and in which section an instance stands.
 #![tactic(auto)]
 
 mod accepted;
@@ -9,6 +9,7 @@ mod ending;
 mod filing;
 mod named_sections;
 mod output;
+mod search;
 
 pub use accepted::Accepted;
 pub use cursor::Cursor;

@@ -1,5 +1,5 @@
-use Rattle.std.proofs.Common.{ap, sym, subst, ◌≤◌}
-use Rattle.std.specs.Prelude.{Contains, List, ℕ}
+use Rattle.std.proofs.Common.{sym, subst, ◌≤◌}
+use Rattle.std.specs.Prelude.{Contains, ℕ}
 use Rattle.p21_stream_output.specs.Output.{Output}
 use Rattle.p21_stream_store.specs.StoredInstance.{instance_names}
 use Rattle.p21_stream_output.proofs.accepted.Accepted.first_from.Goals as goal
