@@ -23,3 +23,10 @@ pub mod Decisions
 pub mod SortedCopies
 pub mod FoundPairs
 pub mod Answered
+pub mod RenamedTexts
+pub mod LooseNames
+pub mod GivenNames
+pub mod StandingsOf
+pub mod RankedOf
+pub mod FirstFound
+pub mod FileOrders

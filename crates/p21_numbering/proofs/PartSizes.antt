@@ -22,7 +22,7 @@ count-joined p (x ∷ xs) ys = let rest = count-joined p xs ys in omega (arith, 
 count-more : (p : ℕ → Bool) (n : ℕ) → how_many p (range_with_len 0 (n + 1)) ≡ how_many p (range_with_len 0 n) + cond (p n) 1 0
 count-more p n = let joined = ap (how_many p) (range-more n) ∙ count-joined p (range_with_len 0 n) (n ∷ []) in omega (arith, joined)
 
-count-bound : {X : Type 0} (p : X → Bool) (xs : List X) → how_many p xs ≤ length xs
+pub count-bound : {X : Type 0} (p : X → Bool) (xs : List X) → how_many p xs ≤ length xs
 count-bound p [] = omega arith
 count-bound p (x ∷ xs) = by_test (p x) (count-bound p xs)
   where

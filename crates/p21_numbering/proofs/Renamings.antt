@@ -5,9 +5,7 @@ use Rattle.std.proofs.lemmas.List.{append-nil, map-append, reverse-append, rever
 use denote.Param.Weighed.{at_most, most}
 use Rattle.p21_mapping_values.specs.declared.value.Value.{Value}
 use Rattle.p21_mapping_values.specs.View.{row_of_values, view, views}
-use Rattle.p21_mapping_values.specs.KnownTypes.{HasKnownTypes, HaveKnownTypes}
 use Rattle.p21_spec_file.specs.Value as meant
-use Rattle.p21_spec_schema.specs.Schema.{Schema}
 use Rattle.p21_spec_numbering.specs.Renamed.{renamed_value, renamed_values}
 
 -- some were taken and seen by two functions alike, and those that are left stand in the other order
@@ -56,29 +54,6 @@ renamed-row f (x ∷ xs) = ap (meant.value (renamed_value f (view x))) (renamed-
 
 pub views-renamed : (f : ℕ → ℕ) (new all : List Value) → map view new ≡ map (λ v. renamed_value f (view v)) all → views new ≡ renamed_values f (views all)
 views-renamed f new all same = ap row_of_values same ∙ renamed-row f all
-
--- ---- other names leave types known
-
-mutual
-  known-renamed_value : (s : Schema) (f : ℕ → ℕ) (v : meant.Value) → HasKnownTypes s v → HasKnownTypes s (renamed_value f v)
-  known-renamed_value s f (meant.whole z) known = tt
-  known-renamed_value s f (meant.real d) known = tt
-  known-renamed_value s f (meant.number d) known = tt
-  known-renamed_value s f (meant.text chars) known = tt
-  known-renamed_value s f (meant.bits bs) known = tt
-  known-renamed_value s f (meant.item word) known = tt
-  known-renamed_value s f (meant.reference n) known = tt
-  known-renamed_value s f meant.derived known = tt
-  known-renamed_value s f meant.missing known = tt
-  known-renamed_value s f (meant.list vs) known = known-renamed s f vs known
-  known-renamed_value s f (meant.array vs) known = known-renamed s f vs known
-  known-renamed_value s f (meant.set vs) known = known-renamed s f vs known
-  known-renamed_value s f (meant.bag vs) known = known-renamed s f vs known
-  known-renamed_value s f (meant.typed t v) known = (known.0, known-renamed_value s f v known.1)
-
-  pub known-renamed : (s : Schema) (f : ℕ → ℕ) (vs : meant.Values) → HaveKnownTypes s vs → HaveKnownTypes s (renamed_values f vs)
-  known-renamed s f meant.no_values known = tt
-  known-renamed s f (meant.value v vs) known = (known-renamed_value s f v known.0, known-renamed s f vs known.1)
 
 -- ---- names that agree
 

@@ -10,3 +10,6 @@ pub mod Joining
 pub mod Said
 pub mod Ranked
 pub mod Ordering
+pub mod Instances
+pub mod Standing
+pub mod RankedBy

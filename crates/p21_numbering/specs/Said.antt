@@ -8,5 +8,8 @@ use Rattle.p21_spec_schema.specs.Schema.{Schema}
 use Rattle.p21_spec_numbering.specs.Numbered.{heading_label}
 
 -- the numbers of its entities, the text of each value, and the texts of the heading
+abbrev pub said_in : Schema → List (List ℕ) → Typed → List (List ℕ)
+said_in s heading x = x.entities ∷ (flat_map (value_texts s) x.values ++ heading)
+
 abbrev pub said : Schema → Heading → Typed → List (List ℕ)
-said s h x = x.entities ∷ (flat_map (value_texts s) x.values ++ heading_label (Some h))
+said s h x = said_in s (heading_label (Some h)) x

@@ -1,11 +1,12 @@
 //! The graph of instances, and the ranks of its nodes.
-ghost use Rattle.std.specs.Prelude.{◌≡◌, length, map, IfOk};
+ghost use Rattle.std.specs.Prelude.{◌≡◌, ◌<◌, ℕ, length, map, IfOk};
 ghost use Rattle.p21_spec_file.specs.File.{FileMeaning};
 ghost use Rattle.p21_spec_numbering.specs.Fresh.{final_rank};
 ghost use Rattle.p21_spec_numbering.specs.Graph.{Graph};
 ghost use Rattle.p21_spec_numbering.specs.Laws.{ranking_of};
 ghost use Rattle.p21_spec_numbering.specs.Renamed.{IsWhole};
 ghost use Rattle.p21_spec_schema.specs.Schema.{Schema as SchemaOf};
+ghost use Rattle.p21_numbering.specs.Arrays.{rank_at};
 ghost use Rattle.p21_numbering.specs.Nodes.{HaveRanks, IsGraph, Node as NodeOf, held_nodes};
 ghost use Rattle.p21_numbering.specs.NodesOf.{AreNodesOf};
 ghost use Rattle.p21_numbering.specs.Rows.{lent_rows};
@@ -32,6 +33,7 @@ pub struct Node {
 /// Where memory runs out.
 pub fn ranks(alloc: Global, nodes: &[Node]) -> Result<Vec<usize>, AllocError>
     ensures size { IfOk result (λ ranks. length ranks.items ≡ length nodes.now) }
+    ensures within { IfOk result (λ ranks. (k : ℕ) → k < length ranks.items → rank_at ranks.items k < length ranks.items) }
     ensures ranking { IfOk result (λ ranks. (s : SchemaOf) (m : FileMeaning) → IsWhole m → AreNodesOf s m (held_nodes nodes.now) → HaveRanks (ranking_of s m) (held_nodes nodes.now) ranks.items) }
     ensures ranks { IfOk result (λ ranks. (g : Graph) → IsGraph g (held_nodes nodes.now) → HaveRanks (final_rank g) (held_nodes nodes.now) ranks.items) }
 {

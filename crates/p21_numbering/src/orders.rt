@@ -14,6 +14,7 @@ ghost use Rattle.p21_numbering.specs.Ranked.{AreRanked, held_instance, held_inst
 
 use crate::joining::joined_parts;
 use crate::ranked::RankedInstance;
+use p21_values::NoMemory;
 use std::alloc::{AllocError, Global};
 use std::collections::BTreeMap;
 
@@ -33,6 +34,17 @@ impl From<AllocError> for Unordered {
     ghost from_gives = { λ _ fault. fault ≡ NoMemory };
 
     fn from(_error: AllocError) -> Unordered {
+        Unordered::NoMemory
+    }
+}
+
+impl From<NoMemory> for Unordered {
+    ghost use Rattle.std.specs.Prelude.{◌≡◌};
+    ghost use Rattle.p21_numbering.specs.declared.orders.Unordered.TheVariants.{NoMemory};
+
+    ghost from_gives = { λ _ fault. fault ≡ NoMemory };
+
+    fn from(_error: NoMemory) -> Unordered {
         Unordered::NoMemory
     }
 }

@@ -34,7 +34,7 @@ fn is_other(best: usize, part: usize) -> bool
 }
 
 /// How many nodes have each rank.
-fn sizes(alloc: Global, rank: &[usize]) -> Result<Vec<usize>, AllocError>
+pub fn sizes(alloc: Global, rank: &[usize]) -> Result<Vec<usize>, AllocError>
     requires { (n : ℕ) → n < length rank.now → rank_at rank.now n < length rank.now }
     ensures { IfOk result (λ sizes. AreSizes (length rank.now) (length rank.now) rank.now sizes.items) }
 {

@@ -1,22 +1,51 @@
-//! Values whose references lead to other names.
+//! Records whose references lead to other names.
 ghost use Rattle.std.specs.Prelude.{◌≡◌, map, IfOk};
-ghost use Rattle.p21_spec_numbering.specs.Renamed.{renamed_value, renamed_values};
+ghost use Rattle.p21_spec_numbering.specs.Renamed.{renamed_typed, renamed_value, renamed_values};
+ghost use Rattle.p21_mapping_values.specs.TypedView.{rows_view, typed_view};
 ghost use Rattle.p21_mapping_values.specs.View.{list_of, view, views};
 ghost use Rattle.p21_numbering.specs.NewNames.{new_name};
 
-use p21_mapping_values::{Value, Values};
-use p21_values::Name;
+use crate::renamed_text::new_name;
+use p21_mapping_values::{Rows, Typed, Value, Values};
 use std::alloc::{AllocError, Global};
 use std::collections::BTreeMap;
 
-/// The new name for a name, by a map from old ones to new ones; 0 where it has none.
-fn new_name(names: &BTreeMap<u64, u64>, name: Name) -> Name
-    ensures { result ≡ new_name names.now name }
+/// The record where each reference leads to the new name, by a map from old names to new ones; to 0 where it has none.
+///
+/// # Errors
+///
+/// Where memory runs out.
+pub fn renamed_record<'a>(
+    alloc: Global,
+    typed: Typed<'a>,
+    names: &BTreeMap<u64, u64>,
+) -> Result<Typed<'a>, AllocError>
+    ensures { IfOk result (λ renamed. typed_view renamed ≡ renamed_typed (new_name names.now) (typed_view typed.entry)) }
 {
-    match names.get(&name.0) {
-        Some(new) => Name(*new),
-        None => Name(0),
+    let Typed { parts, values } = typed;
+    let rows = renamed_rows(alloc, values.into_items(), names)?;
+    Ok(Typed {
+        parts,
+        values: Rows::from_vec(rows),
+    })
+}
+
+/// The rows with the new names.
+fn renamed_rows(
+    alloc: Global,
+    rows: Vec<Values>,
+    names: &BTreeMap<u64, u64>,
+) -> Result<Vec<Values>, AllocError>
+    ensures { IfOk result (λ renamed. rows_view renamed.items ≡ map (renamed_values (new_name names.now)) (rows_view rows.items)) }
+{
+    let mut all = Vec::with_capacity(alloc, rows.len())?;
+    let mut left = rows;
+    left.reverse();
+    while let Some(row) = left.pop() {
+        let row = renamed_all(alloc, row, names)?;
+        all.push(row)?;
     }
+    Ok(all)
 }
 
 /// The value with the new names.
@@ -47,7 +76,7 @@ fn renamed(alloc: Global, value: Value, names: &BTreeMap<u64, u64>) -> Result<Va
 
 /// The values with the new names.
 #[cycle(rename)]
-pub fn renamed_all(
+fn renamed_all(
     alloc: Global,
     values: Values,
     names: &BTreeMap<u64, u64>,

@@ -16,7 +16,7 @@ use Rattle.p21_spec_numbering.specs.Uses.{Use, within, value_uses, uses_from, us
 
 -- ---- targets have uses
 
-abbrev HasUse : List Use → ℕ → Type 0
+abbrev pub HasUse : List Use → ℕ → Type 0
 HasUse us t = (p : List ℕ) × Contains us (p, t)
 
 within-use : (k : ℕ) (us : List Use) (t : ℕ) → HasUse us t → HasUse (map (within k) us) t
@@ -57,7 +57,7 @@ mutual
   among-use no_values t among = absurd (Contains-none t among)
   among-use (value v vs) t among = joined-use (map (within 0) (value_uses v)) (uses_among vs) (targets v) (targets_in vs) t (λ at. within-use 0 (value_uses v) t (target-use v t at)) (among-use vs t) among
 
-rows-use : (k : ℕ) (rows : List Values) (t : ℕ) → Contains (flat_map targets_in rows) t → HasUse (rows_uses k rows) t
+pub rows-use : (k : ℕ) (rows : List Values) (t : ℕ) → Contains (flat_map targets_in rows) t → HasUse (rows_uses k rows) t
 rows-use k [] t among = absurd (Contains-none t among)
 rows-use k (vs ∷ rows) t among = joined-use (map (within k) (uses_from 0 vs)) (rows_uses (k + 1) rows) (targets_in vs) (flat_map targets_in rows) t (λ at. within-use k (uses_from 0 vs) t (from-use 0 vs t at)) (rows-use (k + 1) rows t) among
 

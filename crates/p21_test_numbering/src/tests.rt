@@ -2,3 +2,4 @@ mod graphs;
 mod labels;
 mod orders;
 mod references;
+mod renaming;

@@ -15,7 +15,7 @@ fn has_label(alloc: Global, schema: &Schema) -> bool {
         parts: Ids::from_vec(Vec::new(alloc)),
         values: Rows::from_vec(Vec::new(alloc)),
     };
-    match node(alloc, schema, 5, HEADING, typed) {
+    match node(alloc, schema, 5, HEADING, &typed) {
         Ok(node) => node.name == 5 && node.label.as_slice() == LABEL && node.uses.is_empty(),
         Err(_) => false,
     }

@@ -55,3 +55,15 @@ loop-round-preserved c =
           let waiting : is_told g now ≡ false = search (rules, done_) in
           rounds-more g count stands.nodes c.loop-round.round now next (c.loop-round.invariant.1 g place stands labels) waiting after,
     )
+
+pub returns-then-not-is_any_fresh-clause-within : goal.returns-then-not-is_any_fresh-clause-within
+returns-then-not-is_any_fresh-clause-within c n low =
+    let whole : c.len-count.result ≡ length c.args.labelled.items = omega (arith, c.len-count.ensures, c.args.labelled.ok.0) in
+    let K : ℕ → Type 0 = λ k. AreRanks k c.loop-round.ranks.rank.items c.loop-round.ranks.fresh.items in
+    (subst K whole c.loop-round.invariant.0).within n low
+
+pub returns-clause-within : goal.returns-clause-within
+returns-clause-within c n low =
+    let whole : c.len-count.result ≡ length c.args.labelled.items = omega (arith, c.len-count.ensures, c.args.labelled.ok.0) in
+    let K : ℕ → Type 0 = λ k. AreRanks k c.loop-round.ranks.rank.items c.loop-round.ranks.fresh.items in
+    (subst K whole c.loop-round.invariant.0).within n low

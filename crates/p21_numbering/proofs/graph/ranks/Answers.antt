@@ -1,9 +1,9 @@
-use Rattle.std.specs.Prelude.{◌≡◌, ◌↔◌, ◌<◌, ℕ, List, Contains, filter, length, map, nat_eq}
+use Rattle.std.specs.Prelude.{◌≡◌, ◌↔◌, ◌<◌, ℕ, List, Contains, Result, Ok, Err, IfOk, filter, length, map, nat_eq}
 use Rattle.std.proofs.Common.{arith, ap, sym, subst, ◌∙◌}
 use Rattle.std.proofs.lemmas.List.{length-map}
 use Rattle.std.proofs.lemmas.Result.{IfOk-weaker}
 use Rattle.p21_spec_basics.proofs.Members.{Contains-unmapped}
-use Rattle.p21_numbering.specs.Arrays.{Edge, Represents, other_end, uses_of}
+use Rattle.p21_numbering.specs.Arrays.{Edge, Represents, other_end, rank_at, uses_of}
 use Rattle.p21_numbering.specs.Edges.{turned_edge}
 use Rattle.p21_numbering.specs.Nodes.{Node, held_node, held_nodes}
 use Rattle.p21_numbering.specs.Rows.{lent_rows, rank_among}
@@ -61,3 +61,13 @@ returns-clause-ranks c =
 pub returns-clause-ranking : goal.returns-clause-ranking
 returns-clause-ranking c =
     IfOk-weaker c.final_ranks.result _ _ (λ found each s m whole_ are k low. each (graph_of s m) (file-graph s m whole_ (held_nodes c.args.nodes.now) are) k low) (returns-clause-ranks c)
+
+both-ok : {X Y : Type 0} (r : Result X Y) (P Q : X → Type 0) → IfOk r P → IfOk r Q → IfOk r (λ x. P x × Q x)
+both-ok (Ok x) P Q first second = (first, second)
+both-ok (Err e) P Q first second = tt
+
+pub returns-clause-within : goal.returns-clause-within
+returns-clause-within c =
+    let all : List ℕ = c.in_ok-labelled.labelled.items in
+    IfOk-weaker c.final_ranks.result _ _ (λ found (size, within) k low. (let below = within k (omega (arith, low, size)) in omega (arith, below, size)))
+    (both-ok c.final_ranks.result (λ found. length found.items ≡ length all) (λ found. (k : ℕ) → k < length all → rank_at found.items k < length all) c.final_ranks.ensures.size c.final_ranks.ensures.within)

@@ -1,7 +1,0 @@
-use Rattle.std.specs.Prelude.{◌≡◌, take}
-use Rattle.p21_numbering.specs.NodesOf.{row_of_texts}
-use Rattle.p21_numbering.specs.Rows.{lent_rows}
-use Rattle.p21_numbering.proofs.labels.label.Given as goal
-
-abbrev pub invariant-loop-one : goal.invariant-loop-one
-invariant-loop-one l = l.row.items ≡ row_of_texts (lent_rows (take l.one-index l.heading))
