@@ -6,3 +6,4 @@ pub mod Opening
 pub mod Quiet
 pub mod PassedOver
 pub mod Placing
+pub mod Reopening

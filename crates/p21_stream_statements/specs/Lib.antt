@@ -4,3 +4,4 @@ pub mod Source
 pub mod StatementReader
 pub mod PassingOver
 pub mod Place
+pub mod Reopening

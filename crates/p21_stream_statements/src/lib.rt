@@ -10,6 +10,11 @@
 //! kept (`Source`), of an instance 65,536 at most, and given up with its `;`. Where in a record it is, the check of the
 //! record says (`Trail`, p21_mapping), and no clause speaks of it. An instance that is taken straight from its bytes notes where it begins only where it is
 //! refused (`note_statement`).
+//!
+//! Behind a statement that is passed over the reading goes on where `StatementReader::reopen` says (`specs/Reopening`). What is
+//! held at the beginning of a statement follows from the stage of the file, the limits and the place, so nothing is kept for it:
+//! the bytes that are passed over become separators in the history, which count for places and for the limit of the file, and
+//! are of no statement.
 #![tactic(auto)]
 
 mod fault;

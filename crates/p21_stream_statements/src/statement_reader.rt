@@ -1,10 +1,12 @@
 ghost use Rattle.std.specs.Prelude.{◌≡◌, ◌≤◌, ◌↔◌, ◌+◌, [], length, IfErr, IsTrue, None, true, false};
 ghost use Rattle.p21_spec_exchange.specs.OpenNesting.{IsDepth};
 ghost use Rattle.p21_grammar.specs.Between.{StandsForMore};
+ghost use Rattle.p21_grammar.specs.Stage.{is_in_data};
 ghost use Rattle.p21_stream_statements.specs.Source.{IsOfBytes};
 ghost use Rattle.p21_stream_statements.specs.StatementReader.{FinishGives, HasOpenStatement, IsLive, NeedsNoMemory, StatementHistory, StepGives, TakesWithinPiece, limits_of, nothing_read};
 ghost use Rattle.p21_stream_statements.specs.Place.{StepPlaces, place_behind};
 ghost use Rattle.p21_stream_statements.specs.PassingOver.{GivesPassed, IsAtRest, IsBetweenInstances, held_behind, room_of};
+ghost use Rattle.p21_stream_statements.specs.Reopening.{GivesReopened, IsBetweenStatements, StepBegins};
 
 use crate::fault::Fault;
 use p21_grammar::{Event, GrammarFault, Line, Parser};
@@ -45,6 +47,7 @@ impl StatementReader {
     pub fn new(alloc: Global, limits: Limits) -> StatementReader
         ensures live { IsLive result nothing_read }
         ensures limits { limits_of result ≡ (limits.record_source, limits.file_source) }
+        ensures between { IsBetweenStatements result }
     {
         StatementReader {
             lexer: Lexer::new(alloc, limits),
@@ -66,6 +69,7 @@ impl StatementReader {
         ensures no_memory { NeedsNoMemory self.old piece.now result }
         ensures kind { IfErr result (λ fault. IsOfBytes fault) }
         ensures place { StepPlaces self.old piece.now result self.new }
+        ensures begins { StepBegins self.old result self.new }
     {
         let (count, token) = match self.lexer.next(piece) {
             Ok(answer) => answer,
@@ -146,6 +150,7 @@ impl StatementReader {
         ensures value { IsTrue result ↔ IsBetweenInstances self.now }
         ensures rests { result ≡ true → (reading : StatementHistory) → IsLive self.now reading → IsAtRest reading }
         ensures stands { result ≡ true → StandsForMore self.now.parser }
+        ensures between { result ≡ true → IsBetweenStatements self.now }
     {
         if !self.lexer.is_resting() {
             return false;
@@ -170,11 +175,38 @@ impl StatementReader {
         ensures gives { result ≡ true → GivesPassed self.old count self.new }
         ensures limits { limits_of self.new ≡ limits_of self.old }
         ensures depth { self.new.parser.depth ≡ self.old.parser.depth }
+        ensures between { result ≡ true → IsBetweenStatements self.new }
     {
         if !self.is_between_instances() {
             return false;
         }
         self.lexer.pass_over(count)
+    }
+
+    /// Whether the last statement left it in a data section, also where something is refused. It takes no memory.
+    pub fn is_in_data(&self) -> bool
+        ensures { result ≡ is_in_data self.now.parser.stage }
+    {
+        self.parser.is_in_data()
+    }
+
+    /// Stands in front of this byte of the file with no statement open, as if separators stood there from the end of the last statement
+    /// on; says whether it does. It does where the file may have as many bytes. A refusal is forgotten. So the reading goes on behind a
+    /// statement that is passed over. It takes no memory.
+    pub fn reopen(&mut self, place: u64) -> bool
+        ensures reopens { IsTrue result ↔ (place ≤ (limits_of self.old).1) }
+        ensures gives { result ≡ true → GivesReopened self.old place self.new }
+        ensures place { result ≡ true → place_behind self.new ≡ place }
+        ensures between { result ≡ true → IsBetweenStatements self.new }
+        ensures stage { self.new.parser.stage ≡ self.old.parser.stage }
+        ensures limits { limits_of self.new ≡ limits_of self.old }
+        ensures left { result ≡ false → self.new ≡ self.old }
+    {
+        if !self.lexer.reopen(place) {
+            return false;
+        }
+        self.parser.reopen();
+        true
     }
 }
 

@@ -3,5 +3,6 @@ mod faults;
 mod front;
 mod kinds;
 mod refusals;
+mod reopened;
 mod schema_names;
 mod stored;

@@ -4,7 +4,7 @@ use p21_stream_statements::StatementReader;
 use std::alloc::Global;
 
 /// The statements of a header.
-const BEGUN: &[u8] =
+pub(super) const BEGUN: &[u8] =
     b"ISO-10303-21;HEADER;FILE_DESCRIPTION((''),'2;1');FILE_NAME('','',(''),(''),'','','');FILE_SCHEMA(('DEMO'));ENDSEC;";
 
 /// A data section, and the end.
@@ -26,7 +26,7 @@ fn take_front<'a>(
 }
 
 /// How many statements end in a piece; the number of a fault.
-fn statements(reader: &mut StatementReader, piece: &[u8]) -> Result<usize, u8> {
+pub(super) fn statements(reader: &mut StatementReader, piece: &[u8]) -> Result<usize, u8> {
     let mut left = piece;
     let mut count: usize = 0;
     for _ in 0..1_000 {

@@ -1,12 +1,15 @@
-use Rattle.std.proofs.Common.{sym, subst, Ok, Err, Some}
+use Rattle.std.proofs.Common.{refl, sym, subst, Ok, Err, Some}
 use Rattle.p21_stream_statements.proofs.Sources.{grammar-of_bytes, token-of_bytes}
 use Rattle.p21_stream_statements.specs.Source.{IsOfBytes}
 use Rattle.p21_stream_statements.proofs.Stepping.{Owes, parse-refused, token-refused, went-on}
 use Rattle.p21_stream_statements.proofs.Placing.{grammar-placed, token-placed}
+use Rattle.p21_stream_statements.proofs.Reopening.{stays, step-begins}
 use Rattle.p21_stream_statements.proofs.Quiet.{quiet-refused, quiet-token}
 use Rattle.p21_stream_statements.specs.Place.{HasPlace}
 use Rattle.p21_stream_statements.specs.StatementReader.{Held, IsLive, IsSeenAt, NeedsNoMemory, StatementHistory, StepGives, limits_of}
+use Rattle.p21_stream_statements.specs.Reopening.{StaysInStatement, StepBegins}
 use Rattle.p21_tokens.specs.Histories.{NextGives}
+use Rattle.p21_tokens.specs.Reopening.{RestsBehindSemicolon}
 use Rattle.p21_stream_statements.proofs.statement_reader.StatementReader.step.Goals as goal
 
 pub returns-in-Err-clause-gives : goal.returns-in-Err-clause-gives
@@ -69,3 +72,29 @@ pub returns-in-Err-take-clause-place : goal.returns-in-Err-take-clause-place
 returns-in-Err-take-clause-place c reading live at =
     subst (λ f. HasPlace (limits_of c.args.self.now) reading.taken c.args.piece.now f c.next.new.self.file) (sym c.from-in-Err-take.ensures)
     (grammar-placed (limits_of c.args.self.now) reading.taken c.args.piece.now c.in-Err-take.fault c.next.new.self.file)
+
+pub returns-in-Err-clause-begins : goal.returns-in-Err-clause-begins
+returns-in-Err-clause-begins c =
+    let held : Held = record { lexer = c.self.inside.lexer; parser = c.self.inside.parser } in
+    let new : Held = record { lexer = c.next.new.self; parser = c.self.inside.parser } in
+    subst (λ (h : Held). StaysInStatement h new) c.self.view_is (stays held new c.in-Err.ensures.limits refl)
+
+pub returns-in_default-clause-begins : goal.returns-in_default-clause-begins
+returns-in_default-clause-begins c =
+    let held : Held = record { lexer = c.self.inside.lexer; parser = c.self.inside.parser } in
+    let new : Held = record { lexer = c.next.new.self; parser = c.self.inside.parser } in
+    subst (λ (h : Held). StaysInStatement h new) c.self.view_is (stays held new c.in-Ok.ensures.limits refl)
+
+pub returns-in-Ok-take-clause-begins : goal.returns-in-Ok-take-clause-begins
+returns-in-Ok-take-clause-begins c =
+    let held : Held = record { lexer = c.self.inside.lexer; parser = c.self.inside.parser } in
+    let new : Held = record { lexer = c.next.new.self; parser = c.take.new.self } in
+    subst (λ (h : Held). StepBegins h (Ok (Some (c.in-Ok.answer.0, c.in-Ok-take.event))) new) c.self.view_is
+    (step-begins held c.in-Ok.answer.0 c.in-Some.token c.in-Ok-take.event new c.in-Ok.ensures.limits
+    (subst (λ t. RestsBehindSemicolon (Ok (c.in-Ok.answer.0, t)) c.next.new.self) c.in-Some.is c.in-Ok.ensures.rests) c.in-Ok-take.ensures.stage)
+
+pub returns-in-Err-take-clause-begins : goal.returns-in-Err-take-clause-begins
+returns-in-Err-take-clause-begins c =
+    let held : Held = record { lexer = c.self.inside.lexer; parser = c.self.inside.parser } in
+    let new : Held = record { lexer = c.next.new.self; parser = c.take.new.self } in
+    subst (λ (h : Held). StaysInStatement h new) c.self.view_is (stays held new c.in-Ok.ensures.limits c.in-Err-take.ensures.stage)
