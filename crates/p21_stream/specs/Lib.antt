@@ -21,6 +21,7 @@ pub mod Survey
 pub mod Sifting
 pub mod SieveSteps
 pub mod Unserved
+pub mod Listed
 -- What the clauses of its calls cite, for callers who name this crate alone
 pub use Rattle.p21_spec_basics.specs as p21_spec_basics
 pub use Rattle.p21_spec_exchange.specs as p21_spec_exchange

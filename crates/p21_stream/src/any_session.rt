@@ -12,6 +12,7 @@ ghost use Rattle.p21_stream.specs.Inside.{held_of};
 
 use crate::counting::Counted;
 use crate::held::Held;
+use crate::indices::Indices;
 use crate::progress::Progress;
 use p21_express_graph::Place as AttributePlace;
 use p21_express_tables::Schema;
@@ -142,6 +143,11 @@ impl<'s> AnySession<'s> {
     /// The attribute whose value is refused, if a call was refused for one. It takes no memory.
     pub(crate) fn attribute(&self) -> Option<AttributePlace> {
         self.progress.attribute()
+    }
+
+    /// Which element of this value is refused, if one is. It takes no memory.
+    pub(crate) fn indices(&self) -> Indices {
+        self.progress.indices()
     }
 
     /// Where the session stands in the file: by `Place::of` it says where a refusal of `finish` stands. It takes no memory.

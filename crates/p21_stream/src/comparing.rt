@@ -10,6 +10,7 @@ ghost use Rattle.p21_stream.specs.ReaderInput.{ConsumesAtMost, IsWholeInput, Ref
 
 use crate::any_session::AnySession;
 use crate::claim::headline;
+use crate::indices::Indices;
 use crate::located::Located;
 use crate::read::feed_all;
 use p21_express_tables::Schema;
@@ -103,6 +104,7 @@ pub fn same_meaning_located<R: Read, S: Read>(
                     refusal: no_memory,
                     place: None,
                     attribute: None,
+                    indices: Indices::none(),
                 };
                 Err((Which::Second, located))
             }
@@ -141,6 +143,7 @@ fn read_whole<R: Read>(
                 refusal,
                 place: session.place(),
                 attribute: session.attribute(),
+                indices: session.indices(),
             });
         }
     }
@@ -153,6 +156,7 @@ fn read_whole<R: Read>(
                 refusal,
                 place: Place::of(refusal.fault, places),
                 attribute: None,
+                indices: Indices::none(),
             })
         }
     }

@@ -3,6 +3,7 @@ ghost use Rattle.std.specs.Prelude.{◌≡◌, ◌≤◌, ◌+◌, IfErr, IfOk, 
 ghost use Rattle.p21_stream.specs.ReaderInput.{ConsumesAtMost, IsCountedInput, RefusesRead, read_failures};
 
 use crate::any_session::AnySession;
+use crate::indices::Indices;
 use crate::located::Located;
 use crate::read::feed_all;
 use p21_express_tables::Schema;
@@ -75,6 +76,7 @@ pub fn count_located<R: Read>(
                 refusal,
                 place: session.place(),
                 attribute: session.attribute(),
+                indices: session.indices(),
             });
         }
     }
@@ -86,6 +88,7 @@ pub fn count_located<R: Read>(
                 refusal,
                 place: Place::of(refusal.fault, places),
                 attribute: None,
+                indices: Indices::none(),
             })
         }
     }

@@ -46,6 +46,9 @@ pub(crate) trait Keeper: Drop {
         ensures full { result ≡ true → is_full self.now }
         ensures more { result ≡ false → is_full self.now → ⊥ };
 
+    /// The refusal of this number, counted from 0, of those that are listed while the reading goes on. Nothing is claimed of it.
+    fn listed(&self, number: usize) -> Option<Refusal>;
+
     /// Takes a statement. The record of an instance is checked in a workspace, which keeps no long line.
     ///
     /// # Errors
@@ -116,6 +119,11 @@ impl Keeper for Kept {
     #[inline(always)]
     fn has_enough(&self) -> bool {
         false
+    }
+
+    #[inline(always)]
+    fn listed(&self, _number: usize) -> Option<Refusal> {
+        None
     }
 
     fn take(

@@ -18,16 +18,19 @@ ghost use Rattle.p21_transcribe_instance.specs.ExternalSet.{AreExternalSets};
 ghost use Rattle.p21_transcribe_instance.specs.Steps.{IsPlanOf};
 
 use crate::keeper::Stop;
+use crate::located::Located;
 use crate::read::PIECE;
+use crate::spots::Spots;
 use crate::surveying::Surveying;
 use crate::walk::{Walk, refused};
 use p21_express_tables::Schema;
 use p21_stream_io::{Watched, read_piece};
 use p21_stream_output::Accepted;
-use p21_stream_statements::{Fault, Refusal};
-use p21_values::{Limits, NoMemory};
+use p21_stream_statements::{Fault, Place, Refusal};
+use p21_values::{Limits, Name, NoMemory};
 use std::alloc::Global;
 use std::io::Read;
+use std::mem;
 
 /// What a survey finds of a file.
 #[derive(Debug, Drop)]
@@ -46,6 +49,41 @@ pub struct Refusals {
     pub list: Vec<Refusal>,
     /// How much of the file they are about.
     pub extent: Extent,
+}
+
+/// What a survey finds of a file, and where each refusal of its list stands.
+#[derive(Debug, Drop)]
+pub struct LocatedSurvey {
+    pub found: Surveyed,
+    spots: Spots,
+}
+
+impl LocatedSurvey {
+    ghost use Rattle.std.specs.Prelude.{◌≡◌, option_map};
+    ghost use Rattle.p21_stream.specs.Listed.{refusal_at};
+
+    /// The refusal of this number in the list, counted from 0, and where it stands. None where nothing is refused, or the list ends
+    /// in front of it. It takes no memory.
+    pub fn located(&self, number: usize) -> Option<Located>
+        ensures { option_map (λ located. located.refusal) result ≡ refusal_at self.now.found number }
+    {
+        let Surveyed::Refused(refusals) = &self.found else {
+            return None;
+        };
+        let refusal = *refusals.list.get(number)?;
+        Some(Located {
+            refusal,
+            place: self.spots.place(number),
+            attribute: self.spots.attribute(number),
+            indices: self.spots.indices(number),
+        })
+    }
+
+    /// The name to which the reference leads that the refusal of this number is of. None where it is no reference. It takes no
+    /// memory.
+    pub fn target(&self, number: usize) -> Option<Name> {
+        self.spots.target(number)
+    }
 }
 
 /// How much of a file was surveyed.
@@ -82,21 +120,87 @@ pub fn survey<R: Read>(
     ensures ends_by_read { IfOk result (λ found. EndsByRead found → reader.new.failures ≡ one_call_more reader.old.failures) }
     ensures failed_once { OnErr result ((reader.new.failures ≡ reader.old.failures) ⊎ (reader.new.failures ≡ one_call_more reader.old.failures)) }
 {
-    schema.well_formed();
-    let most = at_least_one(most);
-    let surveying = Surveying::new(alloc, schema, most);
-    let mut walk = Walk::new(alloc, limits, surveying);
-    match read_all(&mut walk, schema, limits, reader) {
-        Ok(()) => finish(walk, schema),
-        Err(stop) => stopped(refusals_of(walk), most, stop),
+    let mut spots = Spots::unasked(alloc);
+    survey_into(alloc, schema, limits, most, reader, &mut spots)
+}
+
+/// As `survey`, with where each refusal of the list stands.
+///
+/// # Errors
+///
+/// `NoMemory`.
+pub fn survey_located<R: Read>(
+    alloc: Global,
+    schema: &Schema,
+    limits: Limits,
+    most: u64,
+    reader: &mut Watched<R>,
+) -> Result<LocatedSurvey, NoMemory>
+    ensures surveys { IfOk result (λ located. SurveysInput schema.now limits (R.remaining reader.old.inner) (R.remaining reader.new.inner) located.found) }
+    ensures counted { IfOk result (λ located. ListsAtMost (asked_for most) located.found) }
+    ensures consumed { ConsumesAtMost limits (R.remaining reader.old.inner) (R.remaining reader.new.inner) }
+
+    ensures moved { reader.new.moved ≤ reader.old.moved + (limits.file_source + 1) }
+    ensures failed { IfOk result (λ located. (reader.new.failures ≡ reader.old.failures) ⊎ ((reader.new.failures ≡ one_call_more reader.old.failures) × EndsByRead located.found)) }
+    ensures ends_by_read { IfOk result (λ located. EndsByRead located.found → reader.new.failures ≡ one_call_more reader.old.failures) }
+    ensures failed_once { OnErr result ((reader.new.failures ≡ reader.old.failures) ⊎ (reader.new.failures ≡ one_call_more reader.old.failures)) }
+{
+    let mut spots = Spots::asked(alloc);
+    match survey_into(alloc, schema, limits, most, reader, &mut spots) {
+        Ok(found) => Ok(LocatedSurvey { found, spots }),
+        Err(NoMemory) => Err(NoMemory),
     }
 }
 
-/// The refusals that are listed.
-fn refusals_of(walk: Walk<Surveying<'_>>) -> Vec<Refusal>
+/// Surveys what a reader has, and notes where the refusals stand if that is asked for.
+fn survey_into<R: Read>(
+    alloc: Global,
+    schema: &Schema,
+    limits: Limits,
+    most: u64,
+    reader: &mut Watched<R>,
+    spots: &mut Spots,
+) -> Result<Surveyed, NoMemory>
+    ensures surveys { IfOk result (λ found. SurveysInput schema.now limits (R.remaining reader.old.inner) (R.remaining reader.new.inner) found) }
+    ensures counted { IfOk result (ListsAtMost (asked_for most)) }
+    ensures consumed { ConsumesAtMost limits (R.remaining reader.old.inner) (R.remaining reader.new.inner) }
+
+    ensures moved { reader.new.moved ≤ reader.old.moved + (limits.file_source + 1) }
+    ensures failed { IfOk result (λ found. (reader.new.failures ≡ reader.old.failures) ⊎ ((reader.new.failures ≡ one_call_more reader.old.failures) × EndsByRead found)) }
+    ensures ends_by_read { IfOk result (λ found. EndsByRead found → reader.new.failures ≡ one_call_more reader.old.failures) }
+    ensures failed_once { OnErr result ((reader.new.failures ≡ reader.old.failures) ⊎ (reader.new.failures ≡ one_call_more reader.old.failures)) }
+{
+    schema.well_formed();
+    let most = at_least_one(most);
+    let surveying = Surveying::new(alloc, schema, most, spots.is_asked());
+    let mut walk = Walk::new(
+        alloc,
+        limits,
+        surveying,
+        mem::replace(spots, Spots::unasked(alloc)),
+    );
+    match read_all(&mut walk, schema, limits, reader) {
+        Ok(()) => finish(walk, schema, spots),
+        Err(stop) => stopped(refusals_of(walk, stop, spots), most, stop),
+    }
+}
+
+/// The refusals that are listed where the reading stops. Notes where these stand, and the one that stops it.
+fn refusals_of(walk: Walk<Surveying<'_>>, stop: Stop, spots: &mut Spots) -> Vec<Refusal>
     ensures { result ≡ walk.entry.kept.sieve.refusals }
 {
-    let Walk { kept, .. } = walk;
+    let Walk {
+        statements,
+        kept,
+        workspace,
+        source,
+        spots: noted,
+        ..
+    } = walk;
+    *spots = noted;
+    if let Stop::Refused(refusal) = stop {
+        spots.note(refusal, statements.places(), &source, &workspace.trail);
+    }
     let Surveying { sieve, .. } = kept;
     sieve.into_refusals()
 }
@@ -218,8 +322,12 @@ fn take_piece(
     }
 }
 
-/// The end of the bytes.
-fn finish(walk: Walk<Surveying<'_>>, schema: &Schema) -> Result<Surveyed, NoMemory>
+/// The end of the bytes. Notes where the refusals stand that are listed.
+fn finish(
+    walk: Walk<Surveying<'_>>,
+    schema: &Schema,
+    spots: &mut Spots,
+) -> Result<Surveyed, NoMemory>
     requires live { (limits : MeantLimits) × IsLiveBetween schema.now limits walk }
     requires fewer { length walk.kept.sieve.refusals.items < walk.kept.most }
     ensures gives { IfOk result (FinishGives schema.now walk.entry) }
@@ -231,18 +339,24 @@ fn finish(walk: Walk<Surveying<'_>>, schema: &Schema) -> Result<Surveyed, NoMemo
         statements,
         kept,
         statement,
+        spots: noted,
         ..
     } = walk;
+    *spots = noted;
     let Surveying {
         mut sieve,
         most,
         ..
     } = kept;
+    let places = statements.places();
     match statements.finish() {
         Ok(()) => {}
-        Err(fault) => return ended(sieve.into_refusals(), refused(fault, None, statement)),
+        Err(fault) => {
+            spots.note_place(Place::of(fault, places));
+            return ended(sieve.into_refusals(), refused(fault, None, statement));
+        }
     }
-    sieve.list_unserved(schema, most)?;
+    sieve.list_unserved(schema, most, spots)?;
     if sieve.refusals.is_empty() {
         let accepted = sieve.into_kept().into_accepted(statement)?;
         return Ok(Surveyed::Accepted(accepted));

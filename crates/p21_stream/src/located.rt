@@ -1,3 +1,4 @@
+use crate::indices::Indices;
 use p21_express_graph::Place as AttributePlace;
 use p21_stream_statements::{Place, Refusal};
 
@@ -9,4 +10,6 @@ pub struct Located {
     pub place: Option<Place>,
     /// The attribute whose value is refused, by the entity that declares it: only a value of a record has one.
     pub attribute: Option<AttributePlace>,
+    /// Which element of this value is refused, where one is.
+    pub indices: Indices,
 }

@@ -12,6 +12,7 @@ ghost use Rattle.p21_transcribe_instance.specs.Steps.{IsPlanOf};
 ghost use Rattle.p21_transcribe_instance.specs.ExternalSet.{AreExternalSets};
 
 use crate::keeper::Keeper;
+use crate::spots::{bytes_of_statement, note_passed};
 use crate::walk::{Walk, refused};
 use p21_express_graph::EntityId;
 use p21_express_tables::Schema;
@@ -134,6 +135,13 @@ impl<K: Keeper> Walk<K> {
         };
         match self.kept.take_found(schema, limits, &instance) {
             Ok(()) => {
+                note_passed(
+                    &mut self.spots,
+                    &self.kept,
+                    &self.statements,
+                    piece,
+                    found.count,
+                );
                 self.statement = self.statement.saturating_add(1);
                 Ok(Some(found.count))
             }
@@ -144,12 +152,6 @@ impl<K: Keeper> Walk<K> {
             }
         }
     }
-}
-
-/// How many of so many bytes stand behind separators.
-fn bytes_of_statement(piece: &[u8], count: usize) -> u64 {
-    let separators = piece.len().saturating_sub(behind_separators(piece).len());
-    count.saturating_sub(separators) as u64
 }
 
 /// How many bytes were passed over, where there are some.

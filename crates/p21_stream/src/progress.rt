@@ -15,14 +15,16 @@ ghost use Rattle.p21_transcribe_instance.specs.Steps.{IsPlanOf};
 
 use crate::counting::Counted;
 use crate::held::Held;
+use crate::indices::Indices;
 use crate::keeper::Stop;
+use crate::placing::{attribute_of, elements_of, inside, place_of};
+use crate::spots::Spots;
 use crate::walk::{Walk, refused};
 use p21_express_graph::Place as AttributePlace;
 use p21_express_tables::Schema;
-use p21_mapping::Trail;
 use p21_stream_kept::Kept;
 use p21_stream_output::Accepted;
-use p21_stream_statements::{At, Fault, Place, Places, Refusal, Source, StatementReader};
+use p21_stream_statements::{Fault, Place, Places, Refusal, StatementReader};
 use p21_values::{Limits, Name};
 use std::alloc::Global;
 
@@ -50,7 +52,7 @@ impl Progress {
     {
         Progress {
             alloc,
-            walk: Walk::new(alloc, limits, kept),
+            walk: Walk::new(alloc, limits, kept, Spots::unasked(alloc)),
             refused: None,
             noted: None,
         }
@@ -92,8 +94,7 @@ impl Progress {
                     self.noted = inside(
                         self.alloc,
                         &self.walk.source,
-                        refusal.fault,
-                        refusal.at,
+                        refusal,
                         self.walk.workspace.trail.steps(),
                     );
                     self.walk.kept = Kept::new(self.alloc);
@@ -120,6 +121,14 @@ impl Progress {
         match self.refused {
             Some(refusal) => attribute_of(refusal.fault, &self.walk.workspace.trail),
             None => None,
+        }
+    }
+
+    /// Which element of this value is refused, if one is. It takes no memory.
+    pub(crate) fn indices(&self) -> Indices {
+        match self.refused {
+            Some(refusal) => Indices::of(elements_of(refusal.fault, &self.walk.workspace.trail)),
+            None => Indices::none(),
         }
     }
 
@@ -233,54 +242,6 @@ impl Progress {
             Some(refusal) => Err(refusal),
             None => Ok(()),
         }
-    }
-}
-
-/// The place of a refusal inside its statement, if it has one. In a record these steps lead there.
-fn inside(
-    alloc: Global,
-    statement: &Source,
-    fault: Fault,
-    at: At,
-    steps: &[usize],
-) -> Option<Place> {
-    statement.place_of(alloc, Refusal { fault, at }, steps)
-}
-
-/// The place of a refusal, by where its reader stands and by what was noted of its statement.
-fn place_of(fault: Fault, places: Places, noted: Option<Place>) -> Option<Place>
-    ensures { IsPlaceOf fault places.byte result }
-{
-    let place = Place::of(fault, places);
-    match fault {
-        Fault::Token(_) => place,
-        Fault::Grammar(_) => inside_or(noted, place),
-        Fault::Check(_) => inside_or(noted, place),
-        Fault::SchemaName => inside_or(noted, place),
-        Fault::SectionTwice => inside_or(noted, place),
-        Fault::DuplicateName => place,
-        Fault::CanonicalTooLong => place,
-        Fault::Dangling => place,
-        Fault::WrongTarget => place,
-        Fault::NoMemory => place,
-        Fault::Read => place,
-        Fault::Write => place,
-    }
-}
-
-/// The attribute to which a trail leads, where a record is refused.
-fn attribute_of(fault: Fault, trail: &Trail) -> Option<AttributePlace> {
-    match fault {
-        Fault::Check(_) => trail.attribute(),
-        _ => None,
-    }
-}
-
-/// What was noted of a statement, or else its own place.
-fn inside_or(noted: Option<Place>, place: Option<Place>) -> Option<Place> {
-    match noted {
-        Some(inside) => Some(inside),
-        None => place,
     }
 }
 

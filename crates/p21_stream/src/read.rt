@@ -11,6 +11,7 @@ ghost use Rattle.p21_stream.specs.Held.{limits_of, schema_of};
 ghost use Rattle.p21_stream.specs.Histories.{FeedGives, KeepsSchema, Stands, nothing_taken};
 
 use crate::any_session::AnySession;
+use crate::indices::Indices;
 use crate::located::Located;
 use p21_express_tables::Schema;
 use p21_stream_io::{Watched, read_piece};
@@ -79,6 +80,7 @@ pub fn accept_located<R: Read>(
                 refusal,
                 place: session.place(),
                 attribute: session.attribute(),
+                indices: session.indices(),
             });
         }
     }
@@ -90,6 +92,7 @@ pub fn accept_located<R: Read>(
                 refusal,
                 place: Place::of(refusal.fault, places),
                 attribute: None,
+                indices: Indices::none(),
             })
         }
     }

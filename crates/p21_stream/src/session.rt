@@ -7,6 +7,7 @@ ghost use Rattle.p21_stream.specs.Inside.{held_of};
 
 use crate::any_session::AnySession;
 use crate::held::Held;
+use crate::indices::Indices;
 use p21_express_graph::Place as AttributePlace;
 use p21_express_tables::Schema;
 use p21_stream_output::Accepted;
@@ -90,6 +91,11 @@ impl<'s> Session<'s> {
     /// The attribute whose value is refused, if a call was refused for one. It takes no memory.
     pub fn attribute(&self) -> Option<AttributePlace> {
         self.session.attribute()
+    }
+
+    /// Which element of this value is refused, if one is. It takes no memory.
+    pub fn indices(&self) -> Indices {
+        self.session.indices()
     }
 
     /// Where the session stands in the file: by `Place::of` it says where a refusal of `finish` stands. It takes no memory.

@@ -7,6 +7,7 @@ ghost use Rattle.p21_stream.specs.Inside.{held_of};
 ghost use Rattle.std.specs.Arc.{arc_value};
 
 use crate::held::Held;
+use crate::indices::Indices;
 use crate::progress::Progress;
 use p21_express_graph::Place as AttributePlace;
 use p21_express_tables::Schema;
@@ -109,6 +110,11 @@ impl SharedSession {
     /// The attribute whose value is refused, if a call was refused for one. It takes no memory.
     pub fn attribute(&self) -> Option<AttributePlace> {
         self.progress.attribute()
+    }
+
+    /// Which element of this value is refused, if one is. It takes no memory.
+    pub fn indices(&self) -> Indices {
+        self.progress.indices()
     }
 
     /// Where the session stands in the file: by `Place::of` it says where a refusal of `finish` stands. It takes no memory.

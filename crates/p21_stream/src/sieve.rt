@@ -37,6 +37,7 @@ ghost use Rattle.p21_stream.specs.Sifting.{HaveNames};
 ghost use Rattle.p21_stream.specs.SieveSteps.{Follows, FollowsFound, FoundGives, HasCome, Lists, ListsOne, ListsOrEnds, StepGives};
 ghost use Rattle.p21_stream.specs.Unserved.{ListsUnserved};
 
+use crate::spots::Spots;
 use crate::unserved::list_unserved;
 use p21_express_tables::Schema;
 use p21_grammar::Event;
@@ -215,12 +216,24 @@ impl Sieve {
     /// # Errors
     ///
     /// `NoMemory`.
-    pub fn list_unserved(&mut self, schema: &Schema, most: u64) -> Result<(), NoMemory>
+    pub fn list_unserved(
+        &mut self,
+        schema: &Schema,
+        most: u64,
+        spots: &mut Spots,
+    ) -> Result<(), NoMemory>
         ensures lists { OnOk result (ListsUnserved schema.now self.old.kept self.old.names most self.old.refusals.items self.new.refusals.items) }
         ensures counted { length self.old.refusals.items ≤ most → OnOk result (length self.new.refusals.items ≤ most) }
         ensures kept { self.new.kept ≡ self.old.kept }
     {
-        list_unserved(&self.kept, &self.names, schema, most, &mut self.refusals)
+        list_unserved(
+            &self.kept,
+            &self.names,
+            schema,
+            most,
+            &mut self.refusals,
+            spots,
+        )
     }
 
     /// The refusals that are listed.

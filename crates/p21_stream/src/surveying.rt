@@ -2,7 +2,8 @@
 //!
 //! A survey goes on behind a refused record. So that many records of an entity with a large set don't each cost a walk over
 //! it, what is known of the entity (`KnownEntities` of p21_mapping) is asked first, and only a record that it doesn't refuse
-//! is checked the general way. A session ends with its first refusal, and has no part in it.
+//! is checked the general way. A session ends with its first refusal, and has no part in it. Where places are asked for, the
+//! first records that are refused so are walked through all the same, since only the walk tells which value is refused.
 ghost use Rattle.std.specs.Prelude.{◌≡◌, ◌≢◌, ◌≤◌, [], IfErr, IfSome, length, true, false};
 ghost use Rattle.p21_grammar.specs.Statements.{statement_of};
 ghost use Rattle.p21_mapping.specs.Checked.{needs_view};
@@ -17,11 +18,14 @@ use crate::keeper::Keeper;
 use crate::sieve::Sieve;
 use p21_express_tables::Schema;
 use p21_grammar::Event;
-use p21_mapping::KnownEntities;
+use p21_mapping::{KnownEntities, Trail, check_owned_record};
 use p21_stream_kept::{FoundInstance, Workspace};
 use p21_stream_statements::{Fault, Refusal};
 use p21_values::{Limits, Name};
 use std::alloc::Global;
+
+/// A record of an entity with a large set is walked through for the place of its refusal where fewer refusals are listed than these.
+const MOST_WALKED: usize = 4_096;
 
 /// What is kept and listed of a file, and how many refusals are asked for.
 #[derive(Drop)]
@@ -30,11 +34,18 @@ pub(crate) struct Surveying<'a> {
     pub most: u64,
     // What is known of the records of entities with large sets, under the schema of the survey.
     pub known: KnownEntities<'a>,
+    // Whether places are asked for.
+    are_places_asked: bool,
 }
 
 impl<'a> Surveying<'a> {
     /// A survey under a schema that has taken nothing. It takes no memory.
-    pub(crate) fn new(alloc: Global, schema: &'a Schema, most: u64) -> Surveying<'a>
+    pub(crate) fn new(
+        alloc: Global,
+        schema: &'a Schema,
+        most: u64,
+        are_places_asked: bool,
+    ) -> Surveying<'a>
         ensures kept { result.sieve.kept ≡ nothing_kept }
         ensures refusals { result.sieve.refusals.items ≡ [] }
         ensures names { HaveNames result.sieve.names [] }
@@ -45,6 +56,7 @@ impl<'a> Surveying<'a> {
             sieve: Sieve::new(alloc),
             most,
             known: KnownEntities::new(alloc, schema),
+            are_places_asked,
         }
     }
 
@@ -62,6 +74,23 @@ impl<'a> Surveying<'a> {
             return None;
         }
         Some((*name, Fault::from(fault)))
+    }
+
+    /// Whether a record that is refused by what is known of its entity is walked through for the place.
+    fn is_walked(&self) -> bool {
+        self.are_places_asked && self.sieve.refusals.len() < MOST_WALKED
+    }
+}
+
+/// Has a trail lead to what is refused in the record of an instance, if it is walked through, or else nowhere.
+fn lead(alloc: Global, schema: &Schema, event: Event, is_walked: bool, trail: &mut Trail) {
+    trail.clear();
+    let Event::Instance(_, record) = event else {
+        return;
+    };
+    if is_walked {
+        // That it is refused, and why, is known.
+        let _ = check_owned_record(alloc, schema, record, trail);
     }
 }
 
@@ -89,6 +118,11 @@ impl<'a> Keeper for Surveying<'a> {
         self.sieve.refusals.len() as u64 >= self.most
     }
 
+    #[inline(always)]
+    fn listed(&self, number: usize) -> Option<Refusal> {
+        self.sieve.refusals.get(number).copied()
+    }
+
     fn take(
         &mut self,
         schema: &Schema,
@@ -98,6 +132,8 @@ impl<'a> Keeper for Surveying<'a> {
     ) -> Result<(), Fault> {
         schema.well_formed();
         if let Some((name, fault)) = self.refused_by(&event) {
+            let alloc = *self.sieve.refusals.allocator();
+            lead(alloc, schema, event, self.is_walked(), &mut workspace.trail);
             return self.sieve.list_or_end(name, fault);
         }
         self.sieve.take(schema, limits, event, workspace)

@@ -9,6 +9,7 @@ ghost use Rattle.p21_stream.specs.ReaderInput.{IsOfBytes};
 ghost use Rattle.p21_stream_output.specs.Output.{output_text};
 
 use crate::claim::headline;
+use crate::indices::Indices;
 use crate::located::Located;
 use crate::session::Session;
 use p21_express_tables::Schema;
@@ -83,6 +84,7 @@ fn canonical_of(
                 refusal,
                 place: session.place(),
                 attribute: session.attribute(),
+                indices: session.indices(),
             });
         }
     }
@@ -94,6 +96,7 @@ fn canonical_of(
                 refusal,
                 place: Place::of(refusal.fault, places),
                 attribute: None,
+                indices: Indices::none(),
             });
         }
     };
@@ -103,6 +106,7 @@ fn canonical_of(
             refusal,
             place: None,
             attribute: None,
+            indices: Indices::none(),
         }),
     }
 }

@@ -10,25 +10,28 @@ ghost use Rattle.p21_stream_kept.specs.Inside.{reference_of, references_of};
 ghost use Rattle.p21_stream_kept.specs.Judgements.{AnswersNeedOf};
 ghost use Rattle.p21_stream.specs.Unserved.{AddsRefusal, ListsUnserved};
 
+use crate::spots::Spots;
 use p21_express_tables::Schema;
 use p21_stream_kept::{Kept, Reference};
 use p21_stream_statements::{At, Fault, Refusal};
 use p21_values::NoMemory;
 use std::collections::BTreeSet;
 
-/// Lists the references that no instance serves, apart from those to these names, up to so many refusals in all.
+/// Lists the references that no instance serves, apart from those to these names, up to so many refusals in all,
+/// and notes which targets they have.
 pub(crate) fn list_unserved(
     kept: &Kept,
     names: &BTreeSet<u64>,
     schema: &Schema,
     most: u64,
     refusals: &mut Vec<Refusal>,
+    spots: &mut Spots,
 ) -> Result<(), NoMemory>
     ensures lists { OnOk result (ListsUnserved schema.now kept.now names.now most refusals.old.items refusals.new.items) }
     ensures counted { length refusals.old.items ≤ most → OnOk result (length refusals.new.items ≤ most) }
 {
     let found = kept.waiting_refusals(schema)?;
-    list_each(names, most, kept.waiting(), &found, refusals)
+    list_each(names, most, kept.waiting(), &found, refusals, spots)
 }
 
 /// Lists those of these references, by why no instance serves each: so the loop is over parameters.
@@ -38,6 +41,7 @@ fn list_each(
     waiting: &[Reference],
     found: &[Option<Fault>],
     refusals: &mut Vec<Refusal>,
+    spots: &mut Spots,
 ) -> Result<(), NoMemory>
     requires { length found.now ≡ length waiting.now }
     ensures lists { (s : Meant) (kept : MeantKept) → references_of waiting.now ≡ kept.waiting → AllZip (AnswersNeedOf s kept.stored) (references_of waiting.now) found.now → OnOk result (ListsUnserved s kept names.now most refusals.old.items refusals.new.items) }
@@ -47,7 +51,7 @@ fn list_each(
         if refusals.len() as u64 >= most {
             return Ok(());
         }
-        list_one(names, &waiting[index], found[index], refusals)?;
+        list_one(names, &waiting[index], found[index], refusals, spots)?;
     }
     Ok(())
 }
@@ -58,6 +62,7 @@ fn list_one(
     reference: &Reference,
     found: Option<Fault>,
     refusals: &mut Vec<Refusal>,
+    spots: &mut Spots,
 ) -> Result<(), NoMemory>
     ensures adds { (s : Meant) (kept : MeantKept) → AnswersNeedOf s kept.stored (reference_of reference.now) found → OnOk result (AddsRefusal s kept names.now (reference_of reference.now) refusals.old.items refusals.new.items) }
     ensures counted { OnOk result (length refusals.new.items ≤ length refusals.old.items + 1) }
@@ -73,5 +78,6 @@ fn list_one(
         at: At::Instance(reference.holder),
     };
     refusals.push(refusal)?;
+    spots.note_target(reference.need.target);
     Ok(())
 }

@@ -16,6 +16,7 @@ ghost use Rattle.p21_transcribe_instance.specs.ExternalSet.{AreExternalSets};
 ghost use Rattle.p21_transcribe_instance.specs.Steps.{IsPlanOf};
 
 use crate::keeper::{Keeper, Stop};
+use crate::spots::{Spots, note_listed};
 use p21_express_tables::Schema;
 use p21_grammar::Event;
 use p21_stream_kept::Workspace;
@@ -42,11 +43,13 @@ pub(crate) struct Walk<K> {
     pub statement: u64,
     // The bytes of the open statement that stand in front of the next piece, or those of the refused one.
     pub source: Source,
+    // Where the refusals stand that are listed, where that is asked for.
+    pub spots: Spots,
 }
 
 impl<K: Keeper> Walk<K> {
-    /// A walk that has read nothing, with what keeps the statements. It takes no memory.
-    pub(crate) fn new(alloc: Global, limits: Limits, kept: K) -> Walk<K>
+    /// A walk that has read nothing, with what keeps the statements and the places of refusals. It takes no memory.
+    pub(crate) fn new(alloc: Global, limits: Limits, kept: K, spots: Spots) -> Walk<K>
         ensures live { IsLive result.statements nothing_read }
         ensures limits { limits_of result.statements ≡ (limits.record_source, limits.file_source) }
         ensures counted { limits.file_source < 2 ^ 64 }
@@ -65,6 +68,7 @@ impl<K: Keeper> Walk<K> {
             workspace: Workspace::new(alloc),
             statement: 1,
             source: Source::new(alloc),
+            spots,
         }
     }
 
@@ -89,6 +93,8 @@ impl<K: Keeper> Walk<K> {
         ensures sets { AreExternalSets schema.now self.new.sets }
     {
         let mut rest = piece;
+        // The bytes of the piece that aren't taken for the place of a refusal.
+        let mut untaken = piece;
         // Each round takes a token or more, and a file has no more tokens than bytes.
         let mut rounds: u64 = 0;
         loop {
@@ -98,17 +104,26 @@ impl<K: Keeper> Walk<K> {
             let taken = match self.advance(schema, limits, rest) {
                 Ok(taken) => taken,
                 Err(refusal) => {
-                    self.source.take(piece, self.statements.places());
+                    self.source.take(untaken, self.statements.places());
                     return Err(Stop::Refused(refusal));
                 }
             };
             let Some(count) = taken else {
                 let is_open = self.statements.pending() > 0;
-                self.source.pass(piece, self.statements.places(), is_open);
+                self.source.pass(untaken, self.statements.places(), is_open);
                 return Ok(());
             };
             rest = &rest[count..];
             rounds += 1;
+            untaken = note_listed(
+                &mut self.spots,
+                &mut self.source,
+                &self.kept,
+                &self.statements,
+                &self.workspace.trail,
+                untaken,
+                rest,
+            );
         }
     }
 

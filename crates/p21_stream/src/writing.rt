@@ -5,6 +5,7 @@ ghost use Rattle.p21_stream.specs.Claim.{Claim};
 ghost use Rattle.p21_stream.specs.ReaderInput.{ConsumesAtMost, read_failures, write_failures};
 
 use crate::claim::headline;
+use crate::indices::Indices;
 use crate::located::Located;
 use crate::read::accept_located;
 use p21_express_tables::Schema;
@@ -83,6 +84,7 @@ pub fn rewrite_located<R: Read, W: Write>(
             refusal,
             place: None,
             attribute: None,
+            indices: Indices::none(),
         }),
     }
 }

@@ -1,7 +1,7 @@
 use Rattle.std.proofs.Common.{sym, subst}
 use Rattle.p21_stream_statements.proofs.Placing.{is-place}
 use Rattle.p21_stream_statements.specs.Place.{IsPlaceOf}
-use Rattle.p21_stream.proofs.progress.place_of.Goals as goal
+use Rattle.p21_stream.proofs.placing.place_of.Goals as goal
 
 pub returns-in-Token : goal.returns-in-Token
 returns-in-Token c = subst (λ found. IsPlaceOf c.args.fault c.args.places.byte found) (sym c.of-place.ensures) (is-place c.args.fault c.args.places)
