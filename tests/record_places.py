@@ -25,12 +25,17 @@ MORE = [
     ("a name that stands twice, behind a remark", "#1=POINT($,1.,1.);\n«#01»/**/=POINT($,1.,1.);"),
     ("a name that stands thrice", "#1=POINT($,1.,1.); #1=POINT($,1.,1.);\n /* */ «#1»=POINT($,2.,1.);"),
     ("a name of a refused record", "#1=POINT($,1.,1);\n«#1»=POINT($,1.,1.);"),
-    ("one reference twice", "#1=CLOUD((#2,#7),(),(«#8»,#8));\n#2=POINT($,1.,1.);\n#7=POINT($,2.,1.);"),
+    ("one reference twice", "#1=CLOUD((#2,«#8»,#7),(),(#8));\n#2=POINT($,1.,1.);\n#7=POINT($,2.,1.);"),
     ("a reference behind its name in a string", "#1=(MARKED(.RED.)POINT(1.,1.)SHAPE('#8'));\n#2=CLOUD((),(),(/*#8*/«#8»));"),
 ]
 
 # Rows of these of which a second refusal stands elsewhere.
-TWO_REFUSALS = {"a name that stands thrice", "a name of a refused record", "one reference twice"}
+TWO_REFUSALS = {
+    "a name that stands thrice",
+    "a name of a refused record",
+    "one reference twice",
+    "a sign of a page behind a number",
+}
 
 # Of instances of VALUES the way to the element.
 INDICES = {

@@ -8,7 +8,7 @@ use crate::shown::Shown;
 use clap::ArgMatches;
 use p21_commands::{
     Checks, CommandFault, Fault, Form, LineStarts, LocatedSurvey, Place, REFUSED, References,
-    Refusal, Telling, Told,
+    Refusal, Telling, Told, Unloaded, report, schema_object,
 };
 use p21_stream_io::Watched;
 use std::alloc::AllocError;

@@ -188,7 +188,11 @@ fn push_place(
     let Some(Position { line, column }) = starts.position(byte) else {
         return Ok(());
     };
-    lines.push_str(&format!(in alloc; ",\"line\":{line},\"column\":{column}")?)
+    lines.push_str(&format!(in alloc; ",\"line\":{line},\"column\":{column}")?)?;
+    if let Some(column) = starts.column_in_characters(byte) {
+        lines.push_str(&format!(in alloc; ",\"column_in_characters\":{column}")?)?;
+    }
+    Ok(())
 }
 
 /// Appends the member of the indices of an element, if there are some.

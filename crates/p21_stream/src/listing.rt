@@ -52,7 +52,7 @@ pub struct Refusals {
 }
 
 /// What a survey finds of a file, and where each refusal of its list stands.
-#[derive(Debug, Drop)]
+#[derive(Drop)]
 pub struct LocatedSurvey {
     pub found: Surveyed,
     spots: Spots,

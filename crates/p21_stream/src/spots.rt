@@ -15,7 +15,7 @@ use p21_values::{Name, NoMemory};
 use std::alloc::Global;
 
 /// Where a refusal stands.
-#[derive(Clone, Copy, Debug)]
+#[derive(Clone, Copy)]
 struct Spot {
     place: Option<Place>,
     attribute: Option<AttributePlace>,
@@ -24,7 +24,6 @@ struct Spot {
 }
 
 /// Where the refusals of a list stand, as far as that is known.
-#[derive(Debug)]
 pub struct Spots {
     alloc: Global,
     is_asked: bool,
