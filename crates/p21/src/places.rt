@@ -7,8 +7,8 @@ use crate::lines::Lines;
 use crate::shown::Shown;
 use clap::ArgMatches;
 use p21_commands::{
-    Checks, CommandFault, Fault, Form, LineStarts, LocatedSurvey, Place, REFUSED, References,
-    Refusal, Telling, Told, Unloaded, report, schema_object,
+    Checks, CommandFault, Form, LineStarts, LocatedSurvey, Place, REFUSED, References, Telling,
+    Told, Unloaded, is_of_reference, report, schema_object,
 };
 use p21_stream_io::Watched;
 use std::alloc::AllocError;
@@ -141,10 +141,8 @@ fn tell_line<R: Read, W: Write, F: Write>(
     let mut told = checks.check_located(rt.alloc(), &mut file, output, faults);
     let status = told.status;
     let lines = file.into_inner();
-    if let Some(refusal) = told.refusal {
-        if is_of_reference(refusal) {
-            told.place = place_of_reference(rt, checks, name.path);
-        }
+    if told.is_of_reference {
+        told.place = place_of_reference(rt, checks, name.path);
     }
     tell_place(rt, name.path, told, lines.starts());
     (status, lines)
@@ -166,7 +164,7 @@ fn tell_first<R: Read, W: Write, F: Write>(
     let mut found = checks.find(alloc, &mut file);
     let lines = file.into_inner();
     if let Err(located) = &mut found {
-        if is_of_reference(located.refusal) {
+        if is_of_reference(located.refusal.fault) {
             located.place = place_of_reference(rt, checks, name.path);
         }
     }
@@ -181,7 +179,7 @@ fn tell_first<R: Read, W: Write, F: Write>(
         form,
         is_named: name.is_named,
     };
-    let status = checks.tell_found(alloc, found, telling, output, faults);
+    let status = checks.tell_found(alloc, found, &telling, output, faults);
     (status, lines)
 }
 
@@ -216,13 +214,8 @@ fn tell_each<R: Read, W: Write, F: Write>(
         form,
         is_named: name.is_named,
     };
-    let status = checks.tell_survey(alloc, &found, telling, output, faults);
+    let status = checks.tell_survey(alloc, &found, &telling, output, faults);
     (status, lines)
-}
-
-/// Whether a refusal is one of a reference.
-fn is_of_reference(refusal: Refusal) -> bool {
-    refusal.fault == Fault::Dangling || refusal.fault == Fault::WrongTarget
 }
 
 /// Where the first reference of a file stands that is refused. None where the file can't be read once more.

@@ -15,7 +15,7 @@ use crate::file_fault::fault_of;
 use crate::load::load_schema;
 use crate::telling::attribute_text;
 use p21_express_tables::Schema;
-use p21_stream::{Place, Refusal, Watched, count_located};
+use p21_stream::{Fault, Place, Watched, count_located};
 use p21_values::Limits;
 use std::alloc::{AllocError, Global};
 use std::io::{Read, Write};
@@ -25,8 +25,8 @@ use std::io::{Read, Write};
 pub struct Told {
     /// The exit status.
     pub status: u8,
-    /// Why the file is refused, if it is.
-    pub refusal: Option<Refusal>,
+    /// Whether the file is refused for a reference, which has its place by a second reading of the file alone.
+    pub is_of_reference: bool,
     /// Where the file is refused, if that has a place.
     pub place: Option<Place>,
     /// The attribute whose value is refused, if it is one, behind the entity that declares it: `ENTITY.ATTRIBUTE`.
@@ -75,7 +75,7 @@ pub fn check_located<S: Read, R: Read, W: Write, F: Write>(
         Ok(schema) => check_file_located(alloc, &schema, file, output, faults),
         Err(fault) => Told {
             status: report(&fault, faults),
-            refusal: None,
+            is_of_reference: false,
             place: None,
             attribute: None,
         },
@@ -114,9 +114,10 @@ pub(crate) fn check_file_located<R: Read, W: Write, F: Write>(
     let counted = match count_located(alloc, schema, Limits::usual(), file) {
         Ok(counted) => counted,
         Err(located) => {
+            let is_of_reference = is_of_reference(located.refusal.fault);
             return Told {
                 status: report(&fault_of(alloc, "", located.refusal), faults),
-                refusal: Some(located.refusal),
+                is_of_reference,
                 place: located.place,
                 attribute: attribute_text(alloc, schema, located.attribute),
             };
@@ -125,16 +126,34 @@ pub(crate) fn check_file_located<R: Read, W: Write, F: Write>(
     match answer_line_of(alloc, counted.instances, counted.bytes) {
         Ok(line) => Told {
             status: answer(line.as_bytes(), output, faults),
-            refusal: None,
+            is_of_reference: false,
             place: None,
             attribute: None,
         },
         Err(AllocError) => Told {
             status: report(&CommandFault::NoMemory, faults),
-            refusal: None,
+            is_of_reference: false,
             place: None,
             attribute: None,
         },
+    }
+}
+
+/// Whether a fault is one of a reference.
+pub fn is_of_reference(fault: Fault) -> bool {
+    match fault {
+        Fault::Dangling => true,
+        Fault::WrongTarget => true,
+        Fault::Token(_) => false,
+        Fault::Grammar(_) => false,
+        Fault::Check(_) => false,
+        Fault::SchemaName => false,
+        Fault::SectionTwice => false,
+        Fault::DuplicateName => false,
+        Fault::CanonicalTooLong => false,
+        Fault::NoMemory => false,
+        Fault::Read => false,
+        Fault::Write => false,
     }
 }
 

@@ -187,7 +187,7 @@ impl Checks {
         &mut self,
         alloc: Global,
         found: Result<Counted, Located>,
-        telling: Telling<'_>,
+        telling: &Telling<'_>,
         output: &mut Watched<W>,
         faults: &mut Watched<F>,
     ) -> u8
@@ -207,12 +207,12 @@ impl Checks {
         &mut self,
         alloc: Global,
         found: &LocatedSurvey,
-        telling: Telling<'_>,
+        telling: &Telling<'_>,
         output: &mut Watched<W>,
         faults: &mut Watched<F>,
     ) -> u8
         ensures status { IsOfCheck result }
-        ensures tells { TellsSurvey telling.form found.now.found (stream_of W.contents output.old output.new) (stream_of F.contents faults.old faults.new) result }
+        ensures tells { TellsSurvey telling.now.form found.now.found (stream_of W.contents output.old output.new) (stream_of F.contents faults.old faults.new) result }
         ensures schema { self.new.declared ≡ self.old.declared }
         ensures highest { self.new.highest ≡ max self.old.highest result }
     {

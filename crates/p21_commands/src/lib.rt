@@ -25,13 +25,13 @@ mod telling;
 mod transfer;
 
 pub use canon::canon_command;
-pub use check::{Told, check_command, check_located};
+pub use check::{Told, check_command, check_located, is_of_reference};
 pub use check_all::check_all_command;
 pub use checks::Checks;
 pub use fault::{CommandFault, report};
 pub use lines::{LineStarts, Position};
 pub use load::Unloaded;
-pub use p21_stream::{Fault, LocatedSurvey, Place, Refusal};
+pub use p21_stream::{LocatedSurvey, Place};
 pub use param::param_command;
 pub use references::References;
 pub use same::same_command;

@@ -1,5 +1,5 @@
 //! What is written of a file, with where each of its refusals stands.
-ghost use Rattle.std.specs.Prelude.{◌≡◌, ◌++◌, IfOk, List, [], OnOk, string_bytes, ℕ};
+ghost use Rattle.std.specs.Prelude.{◌≡◌, ◌⊎◌, ◌++◌, IfOk, List, [], OnOk, string_bytes, ℕ};
 ghost use Rattle.p21_commands.specs.CheckAll.{count_line};
 ghost use Rattle.p21_commands.specs.Checks.{IsOfCheck};
 ghost use Rattle.p21_commands.specs.Refusals.{IsFaultOf};
@@ -17,7 +17,7 @@ use crate::status::FAILED;
 use crate::telling::{Form, Telling, push_end, push_front, push_line, survey_lines};
 use crate::transfer::write_whole;
 use p21_express_tables::Schema;
-use p21_stream::{Counted, Extent, Located, LocatedSurvey, Refusals, Surveyed, Watched};
+use p21_stream::{Counted, Extent, Located, LocatedSurvey, Refusal, Refusals, Surveyed, Watched};
 use std::alloc::{AllocError, Global};
 use std::io::Write;
 
@@ -26,7 +26,7 @@ pub(crate) fn write_found<W: Write, F: Write>(
     alloc: Global,
     schema: &Schema,
     found: Result<Counted, Located>,
-    telling: Telling<'_>,
+    telling: &Telling<'_>,
     output: &mut Watched<W>,
     faults: &mut Watched<F>,
 ) -> u8
@@ -35,7 +35,7 @@ pub(crate) fn write_found<W: Write, F: Write>(
 {
     match found {
         Ok(counted) => write_accepted(alloc, counted.instances, counted.bytes, output, faults),
-        Err(located) => report(&fault_located(alloc, schema, located, telling), faults),
+        Err(located) => report(&fault_located(alloc, schema, &located, telling), faults),
     }
 }
 
@@ -43,20 +43,36 @@ pub(crate) fn write_found<W: Write, F: Write>(
 fn fault_located(
     alloc: Global,
     schema: &Schema,
-    located: Located,
-    telling: Telling<'_>,
+    located: &Located,
+    telling: &Telling<'_>,
 ) -> CommandFault
-    ensures { (fault : MeantFault) × IsFaultOf [] located.refusal fault × IsToldBy fault result }
+    ensures { (fault : MeantFault) × IsFaultOf [] located.now.refusal fault × IsToldBy fault result }
 {
-    match fault_of(alloc, "", located.refusal) {
-        CommandFault::Refused(_) => {
-            let mut line = String::new(alloc);
-            match push_line(alloc, schema, located, telling, &mut line) {
-                Ok(()) => CommandFault::Refused(line),
-                Err(AllocError) => CommandFault::NoMemory,
-            }
-        }
-        other => other,
+    let refusal = Refusal {
+        fault: located.refusal.fault,
+        at: located.refusal.at,
+    };
+    match fault_of(alloc, "", refusal) {
+        CommandFault::Refused(_) => own_line(alloc, schema, located, telling),
+        CommandFault::NoMemory => CommandFault::NoMemory,
+        CommandFault::Read => CommandFault::Read,
+        CommandFault::Write => CommandFault::Write,
+    }
+}
+
+/// The line of a refusal with its place, or want of memory for it.
+fn own_line(
+    alloc: Global,
+    schema: &Schema,
+    located: &Located,
+    telling: &Telling<'_>,
+) -> CommandFault
+    ensures { ((line : _) × (result ≡ CommandFault.Refused line)) ⊎ (result ≡ CommandFault.NoMemory) }
+{
+    let mut line = String::new(alloc);
+    match push_line(alloc, schema, located, located.place, telling, &mut line) {
+        Ok(()) => CommandFault::Refused(line),
+        Err(AllocError) => CommandFault::NoMemory,
     }
 }
 
@@ -65,12 +81,12 @@ pub(crate) fn write_survey<W: Write, F: Write>(
     alloc: Global,
     schema: &Schema,
     found: &LocatedSurvey,
-    telling: Telling<'_>,
+    telling: &Telling<'_>,
     output: &mut Watched<W>,
     faults: &mut Watched<F>,
 ) -> u8
     ensures status { IsOfCheck result }
-    ensures tells { TellsSurvey telling.form found.now.found (stream_of W.contents output.old output.new) (stream_of F.contents faults.old faults.new) result }
+    ensures tells { TellsSurvey telling.now.form found.now.found (stream_of W.contents output.old output.new) (stream_of F.contents faults.old faults.new) result }
 {
     match &found.found {
         Surveyed::Accepted(accepted) => {
@@ -88,10 +104,10 @@ fn tell_refused<F: Write>(
     schema: &Schema,
     found: &LocatedSurvey,
     refusals: &Refusals,
-    telling: Telling<'_>,
+    telling: &Telling<'_>,
     faults: &mut Watched<F>,
 ) -> u8
-    ensures { WritesRefused telling.form refusals.now (stream_of F.contents faults.old faults.new) result }
+    ensures { WritesRefused telling.now.form refusals.now (stream_of F.contents faults.old faults.new) result }
 {
     let (count, is_unread) = count_of(&refusals.list);
     match refused_lines(alloc, schema, found, count, refusals.extent, telling) {
@@ -136,9 +152,9 @@ fn refused_lines(
     found: &LocatedSurvey,
     count: u64,
     extent: Extent,
-    telling: Telling<'_>,
+    telling: &Telling<'_>,
 ) -> Result<String, AllocError>
-    ensures { telling.form ≡ Text → IfOk result (λ lines. (front : List ℕ) × (string_bytes lines ≡ front ++ count_line count extent)) }
+    ensures { telling.now.form ≡ Text → IfOk result (λ lines. (front : List ℕ) × (string_bytes lines ≡ front ++ count_line count extent)) }
 {
     let mut lines = survey_lines(alloc, schema, found, telling)?;
     match telling.form {

@@ -49,27 +49,34 @@ pub(crate) fn survey_lines(
     alloc: Global,
     schema: &Schema,
     found: &LocatedSurvey,
-    telling: Telling<'_>,
+    telling: &Telling<'_>,
 ) -> Result<String, AllocError> {
     let mut lines = String::new(alloc);
     for number in 0..usize::MAX {
-        let Some(mut located) = found.located(number) else {
+        let Some(located) = found.located(number) else {
             return Ok(lines);
         };
-        if located.place.is_none() {
-            located.place = telling.references.place(number);
-        }
-        push_line(alloc, schema, located, telling, &mut lines)?;
+        let place = place_of(located.place, telling.references, number);
+        push_line(alloc, schema, &located, place, telling, &mut lines)?;
     }
     Ok(lines)
 }
 
-/// Appends the line of a refusal, or of a read that failed.
+/// The place of the refusal of this number: its own one, or that of its reference.
+fn place_of(own: Option<Place>, references: &References, number: usize) -> Option<Place> {
+    match own {
+        Some(place) => Some(place),
+        None => references.place(number),
+    }
+}
+
+/// Appends the line of a refusal at a place, or of a read that failed.
 pub(crate) fn push_line(
     alloc: Global,
     schema: &Schema,
-    located: Located,
-    telling: Telling<'_>,
+    located: &Located,
+    place: Option<Place>,
+    telling: &Telling<'_>,
     lines: &mut String,
 ) -> Result<(), AllocError> {
     if located.refusal.fault == Fault::Read {
@@ -78,13 +85,13 @@ pub(crate) fn push_line(
         return Ok(());
     }
     match telling.form {
-        Form::Text => push_text(alloc, schema, located, telling, lines),
-        Form::Json => push_object(alloc, schema, located, telling, lines),
+        Form::Text => push_text(alloc, schema, located, place, telling, lines),
+        Form::Json => push_object(alloc, schema, located, place, telling, lines),
     }
 }
 
 /// Appends the path in front of a line without a place, where it has one.
-pub(crate) fn push_front(telling: Telling<'_>, lines: &mut String) -> Result<(), AllocError> {
+pub(crate) fn push_front(telling: &Telling<'_>, lines: &mut String) -> Result<(), AllocError> {
     if telling.is_named {
         lines.push_str(telling.shown)?;
         lines.push_str(": ")?;
@@ -96,12 +103,13 @@ pub(crate) fn push_front(telling: Telling<'_>, lines: &mut String) -> Result<(),
 fn push_text(
     alloc: Global,
     schema: &Schema,
-    located: Located,
-    telling: Telling<'_>,
+    located: &Located,
+    place: Option<Place>,
+    telling: &Telling<'_>,
     lines: &mut String,
 ) -> Result<(), AllocError> {
-    let refusal = located.refusal;
-    match position_of(telling.lines, located.place) {
+    let refusal = &located.refusal;
+    match position_of(telling.lines, place) {
         Some(Position { line, column }) => {
             lines.push_str(telling.shown)?;
             lines.push_str(&format!(in alloc; ":{line}:{column}: ")?)?;
@@ -123,11 +131,12 @@ fn push_text(
 fn push_object(
     alloc: Global,
     schema: &Schema,
-    located: Located,
-    telling: Telling<'_>,
+    located: &Located,
+    place: Option<Place>,
+    telling: &Telling<'_>,
     lines: &mut String,
 ) -> Result<(), AllocError> {
-    let refusal = located.refusal;
+    let refusal = &located.refusal;
     lines.push_str("{\"file\":")?;
     push_json(alloc, telling.path, lines)?;
     let (number, name) = (refusal.number(), refusal.name());
@@ -140,7 +149,7 @@ fn push_object(
             lines.push_str(&format!(in alloc; ",\"instance\":{instance}")?)?;
         }
     }
-    push_place(alloc, telling.lines, located.place, lines)?;
+    push_place(alloc, telling.lines, place, lines)?;
     if let Some(name) = name_of(schema, located.attribute) {
         let AttributeName { entity, attribute } = name;
         lines.push_str(&format!(in alloc;
@@ -213,7 +222,7 @@ pub(crate) fn push_end(
     alloc: Global,
     count: u64,
     extent: Extent,
-    telling: Telling<'_>,
+    telling: &Telling<'_>,
     lines: &mut String,
 ) -> Result<(), AllocError> {
     lines.push_str("{")?;

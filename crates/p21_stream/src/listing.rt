@@ -30,7 +30,6 @@ use p21_stream_statements::{Fault, Place, Refusal};
 use p21_values::{Limits, Name, NoMemory};
 use std::alloc::Global;
 use std::io::Read;
-use std::mem;
 
 /// What a survey finds of a file.
 #[derive(Debug, Drop)]
@@ -120,7 +119,7 @@ pub fn survey<R: Read>(
     ensures ends_by_read { IfOk result (λ found. EndsByRead found → reader.new.failures ≡ one_call_more reader.old.failures) }
     ensures failed_once { OnErr result ((reader.new.failures ≡ reader.old.failures) ⊎ (reader.new.failures ≡ one_call_more reader.old.failures)) }
 {
-    let mut spots = Spots::unasked(alloc);
+    let mut spots = Spots::new(alloc, false);
     survey_into(alloc, schema, limits, most, reader, &mut spots)
 }
 
@@ -145,7 +144,7 @@ pub fn survey_located<R: Read>(
     ensures ends_by_read { IfOk result (λ located. EndsByRead located.found → reader.new.failures ≡ one_call_more reader.old.failures) }
     ensures failed_once { OnErr result ((reader.new.failures ≡ reader.old.failures) ⊎ (reader.new.failures ≡ one_call_more reader.old.failures)) }
 {
-    let mut spots = Spots::asked(alloc);
+    let mut spots = Spots::new(alloc, true);
     match survey_into(alloc, schema, limits, most, reader, &mut spots) {
         Ok(found) => Ok(LocatedSurvey { found, spots }),
         Err(NoMemory) => Err(NoMemory),
@@ -173,20 +172,16 @@ fn survey_into<R: Read>(
     schema.well_formed();
     let most = at_least_one(most);
     let surveying = Surveying::new(alloc, schema, most, spots.is_asked());
-    let mut walk = Walk::new(
-        alloc,
-        limits,
-        surveying,
-        mem::replace(spots, Spots::unasked(alloc)),
-    );
+    let noted = Spots::new(alloc, spots.is_asked());
+    let mut walk = Walk::new(alloc, limits, surveying, noted);
     match read_all(&mut walk, schema, limits, reader) {
         Ok(()) => finish(walk, schema, spots),
-        Err(stop) => stopped(refusals_of(walk, stop, spots), most, stop),
+        Err(stop) => stopped(refusals_of(walk, &stop, spots), most, stop),
     }
 }
 
 /// The refusals that are listed where the reading stops. Notes where these stand, and the one that stops it.
-fn refusals_of(walk: Walk<Surveying<'_>>, stop: Stop, spots: &mut Spots) -> Vec<Refusal>
+fn refusals_of(walk: Walk<Surveying<'_>>, stop: &Stop, spots: &mut Spots) -> Vec<Refusal>
     ensures { result ≡ walk.entry.kept.sieve.refusals }
 {
     let Walk {
@@ -199,7 +194,7 @@ fn refusals_of(walk: Walk<Surveying<'_>>, stop: Stop, spots: &mut Spots) -> Vec<
     } = walk;
     *spots = noted;
     if let Stop::Refused(refusal) = stop {
-        spots.note(refusal, statements.places(), &source, &workspace.trail);
+        spots.note(*refusal, statements.places(), &source, &workspace.trail);
     }
     let Surveying { sieve, .. } = kept;
     sieve.into_refusals()

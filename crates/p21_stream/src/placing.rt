@@ -4,17 +4,18 @@ ghost use Rattle.p21_stream_statements.specs.Place.{IsPlaceOf};
 
 use p21_express_graph::Place as AttributePlace;
 use p21_mapping::Trail;
-use p21_stream_statements::{Fault, Place, Places, Refusal, Source};
+use p21_stream_statements::{At, Fault, Place, Places, Refusal, Source};
 use std::alloc::Global;
 
 /// The place of a refusal inside its statement, if it has one. In a record these steps lead there.
 pub(crate) fn inside(
     alloc: Global,
     statement: &Source,
-    refusal: Refusal,
+    fault: Fault,
+    at: At,
     steps: &[usize],
 ) -> Option<Place> {
-    statement.place_of(alloc, refusal, steps)
+    statement.place_of(alloc, Refusal { fault, at }, steps)
 }
 
 /// The place of a refusal, by where its reader stands and by what was noted of its statement.

@@ -52,7 +52,7 @@ impl Progress {
     {
         Progress {
             alloc,
-            walk: Walk::new(alloc, limits, kept, Spots::unasked(alloc)),
+            walk: Walk::new(alloc, limits, kept, Spots::new(alloc, false)),
             refused: None,
             noted: None,
         }
@@ -94,7 +94,8 @@ impl Progress {
                     self.noted = inside(
                         self.alloc,
                         &self.walk.source,
-                        refusal,
+                        refusal.fault,
+                        refusal.at,
                         self.walk.workspace.trail.steps(),
                     );
                     self.walk.kept = Kept::new(self.alloc);

@@ -47,17 +47,8 @@ impl Drop for Spots {
 }
 
 impl Spots {
-    /// No place is asked for. It takes no memory.
-    pub(crate) fn unasked(alloc: Global) -> Spots {
-        Spots::new(alloc, false)
-    }
-
-    /// Places are asked for, and none is known. It takes no memory.
-    pub(crate) fn asked(alloc: Global) -> Spots {
-        Spots::new(alloc, true)
-    }
-
-    fn new(alloc: Global, is_asked: bool) -> Spots {
+    /// No place is known; those that come are noted where that is asked for. It takes no memory.
+    pub(crate) fn new(alloc: Global, is_asked: bool) -> Spots {
         Spots {
             alloc,
             is_asked,
@@ -122,7 +113,13 @@ impl Spots {
         if !self.is_asked {
             return;
         }
-        let noted = inside(self.alloc, statement, refusal, trail.steps());
+        let noted = inside(
+            self.alloc,
+            statement,
+            refusal.fault,
+            refusal.at,
+            trail.steps(),
+        );
         let place = place_of(refusal.fault, places, noted);
         let attribute = attribute_of(refusal.fault, trail);
         let elements = Indices::of(elements_of(refusal.fault, trail));
