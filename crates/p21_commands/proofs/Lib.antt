@@ -7,7 +7,7 @@ pub mod FileFailing
 pub mod Showing
 pub mod Writing
 pub mod Surveys
-pub mod Telling
+pub mod TellingLemmas
 pub mod Checking
 pub mod Syntaxes
 mod OwnWords

@@ -7,7 +7,7 @@ ghost use Rattle.p21_commands.specs.Fault.{Reports};
 ghost use Rattle.p21_commands.specs.Load.{DeclaresRead, RefusesRead as RefusesSchema};
 ghost use Rattle.p21_commands.specs.Status.{done, failed};
 ghost use Rattle.p21_commands.specs.Streams.{stream_of};
-ghost use Rattle.p21_commands.specs.Told.{TellsFound, TellsSurvey};
+ghost use Rattle.p21_commands.specs.Tells.{TellsFound, TellsSurvey};
 ghost use Rattle.p21_commands.specs.Transfer as text;
 ghost use Rattle.p21_stream.specs.ReaderInput.{ConsumesAtMost, IsCountedInput, RefusesRead, read_failures};
 ghost use Rattle.p21_stream.specs.Survey.{EndsByRead, ListsAtMost, SurveysInput, asked_for};

@@ -61,7 +61,7 @@ pub(crate) fn load_located<S: Read>(
     };
     match declared_schema(alloc, text.as_slice()) {
         Ok(declared) => Ok(declared),
-        Err(fault) => Err(unloaded(alloc, &text, fault)),
+        Err(fault) => Err(placed(alloc, &text, fault)),
     }
 }
 
@@ -77,7 +77,7 @@ fn unplaced(fault: CommandFault) -> Unloaded
 }
 
 /// Why a text declares no schema, and where it is refused.
-fn unloaded(alloc: Global, text: &[u8], fault: CommandFault) -> Unloaded
+fn placed(alloc: Global, text: &[u8], fault: CommandFault) -> Unloaded
     ensures { result.fault ≡ fault }
 {
     let mut unloaded = unplaced(fault);

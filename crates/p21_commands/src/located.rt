@@ -4,7 +4,7 @@ ghost use Rattle.p21_commands.specs.CheckAll.{count_line};
 ghost use Rattle.p21_commands.specs.Checks.{IsOfCheck};
 ghost use Rattle.p21_commands.specs.Refusals.{IsFaultOf};
 ghost use Rattle.p21_commands.specs.Streams.{stream_of};
-ghost use Rattle.p21_commands.specs.Told.{IsToldBy, TellsAccepted, TellsFound, TellsSurvey, WritesLines, WritesRefused};
+ghost use Rattle.p21_commands.specs.Tells.{IsToldBy, TellsAccepted, TellsFound, TellsSurvey, WritesLines, WritesRefused};
 ghost use Rattle.p21_commands.specs.declared.fault.CommandFault.{CommandFault as MeantFault};
 ghost use Rattle.p21_commands.specs.declared.telling.Form.TheVariants.{Text};
 

@@ -5,7 +5,7 @@ use Rattle.p21_commands.specs.Checks.{IsOfCheck}
 use Rattle.p21_commands.specs.Command.{AnswersWith}
 use Rattle.p21_commands.specs.Fault.{Reports}
 use Rattle.p21_commands.specs.Streams.{Stream}
-use Rattle.p21_commands.specs.Told.{WritesLines}
+use Rattle.p21_commands.specs.Tells.{WritesLines}
 use Rattle.p21_commands.specs.Status.{failed}
 use Rattle.p21_commands.specs.declared.fault.CommandFault.{CommandFault}
 use Rattle.p21_commands.specs.declared.fault.CommandFault.TheVariants.{Refused, Write}
