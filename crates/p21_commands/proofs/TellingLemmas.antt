@@ -1,14 +1,17 @@
 -- The status of what is told of a file, and what its writers got.
-use Rattle.std.proofs.Common.{◌≡◌, ℕ, List, Bool, true, false, inl, inr, refl, string_bytes}
-use Rattle.p21_commands.specs.CheckAll.{Gets}
+use Rattle.std.proofs.Common.{◌≡◌, ◌++◌, ℕ, List, Bool, true, false, inl, inr, refl, string_bytes}
+use Rattle.p21_commands.specs.CheckAll.{Gets, count_line, listed_count}
 use Rattle.p21_commands.specs.Checks.{IsOfCheck}
 use Rattle.p21_commands.specs.Command.{AnswersWith}
 use Rattle.p21_commands.specs.Fault.{Reports}
 use Rattle.p21_commands.specs.Streams.{Stream}
-use Rattle.p21_commands.specs.Tells.{WritesLines}
+use Rattle.p21_commands.specs.Tells.{CountsLast, WritesLines}
 use Rattle.p21_commands.specs.Status.{failed}
 use Rattle.p21_commands.specs.declared.fault.CommandFault.{CommandFault}
 use Rattle.p21_commands.specs.declared.fault.CommandFault.TheVariants.{Refused, Write}
+use Rattle.p21_commands.specs.declared.telling.Form.{Form}
+use Rattle.p21_commands.specs.declared.telling.Form.TheVariants.{Text, Json}
+use Rattle.p21_stream.specs.declared.listing.Refusals.{Refusals}
 use Rattle.p21_commands.proofs.Reporting.{reported_status}
 
 pub reports-of_check : (faults : Stream) (fault : CommandFault) (status : ℕ) → Reports fault status faults → IsOfCheck status
@@ -30,3 +33,8 @@ refused-lines line faults status (inr (same, part, one)) = (inr (part, one), inr
 -- the same where one failed
 pub unread-lines : (text : List ℕ) (faults : Stream) → Gets text faults → WritesLines text true faults failed
 unread-lines text faults gets = (gets, inr (refl, inl refl))
+
+-- the text counts the refusals last, if it does so for people
+pub counts-last : (form : Form) (refusals : Refusals) (text : List ℕ) → (form ≡ Text → (front : List ℕ) × (text ≡ front ++ count_line (listed_count refusals.list.items) refusals.extent)) → CountsLast form refusals text
+counts-last Text refusals text counts = counts refl
+counts-last Json refusals text counts = tt

@@ -135,7 +135,7 @@ fn write_accepted<W: Write, F: Write>(
 
 /// Writes the lines of refusals.
 fn write_refused<F: Write>(lines: String, is_unread: bool, faults: &mut Watched<F>) -> u8
-    ensures { WritesLines (string_bytes lines.entry) is_unread (stream_of F.contents faults.old faults.new) result }
+    ensures { WritesLines (string_bytes lines) is_unread (stream_of F.contents faults.old faults.new) result }
 {
     if is_unread {
         // The status is the same where the lines can't be written.

@@ -14,8 +14,8 @@ use std::alloc::Global;
 struct Wanted {
     // Its number in the list of refusals.
     number: usize,
-    holder: Name,
-    target: Name,
+    holder: u64,
+    target: u64,
     byte: Option<u64>,
 }
 
@@ -42,7 +42,7 @@ pub struct References {
     taken: u64,
     inside: Inside,
     // The instance whose statement is open, behind its name.
-    holder: Option<Name>,
+    holder: Option<u64>,
 }
 
 impl References {
@@ -68,10 +68,10 @@ impl References {
             let Some(located) = found.located(number) else {
                 return Ok(references);
             };
-            let At::Instance(holder) = located.refusal.at else {
+            let At::Instance(Name(holder)) = located.refusal.at else {
                 continue;
             };
-            if let Some(target) = found.target(number) {
+            if let Some(Name(target)) = found.target(number) {
                 references.wanted.push(Wanted {
                     number,
                     holder,
@@ -113,7 +113,7 @@ impl References {
                     let number = number.saturating_mul(10).saturating_add(digit);
                     return Inside::Name { number, start };
                 }
-                self.meet(Name(number), start);
+                self.meet(number, start);
                 self.in_statement(byte)
             }
             Inside::String if byte == b'\'' => Inside::Statement,
@@ -144,7 +144,7 @@ impl References {
     }
 
     /// Takes a name: that of an instance, or a reference in it.
-    fn meet(&mut self, name: Name, start: u64) {
+    fn meet(&mut self, name: u64, start: u64) {
         let Some(holder) = self.holder else {
             self.holder = Some(name);
             return;
