@@ -1,6 +1,6 @@
 -- What is written of a file whose refusals are told with their places. What their lines say is tested, and no clause says it.
 use Rattle.std.specs.Prelude.{◌≡◌, ◌⊎◌, ℕ, List, [], ◌∷◌, ◌++◌, length, Bool, true, false, Result, Ok, Err}
-use Rattle.std.specs.Io.KnownBytes.{Appends, Keeps}
+use Rattle.std.specs.Io.KnownBytes.{Keeps}
 use Rattle.p21_commands.specs.Check.{check_answer_line}
 use Rattle.p21_commands.specs.CheckAll.{Gets, count_line, has_read_fault, listed_count}
 use Rattle.p21_commands.specs.Command.{AnswersWith}

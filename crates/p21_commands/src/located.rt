@@ -1,5 +1,5 @@
 //! What is written of a file, with where each of its refusals stands.
-ghost use Rattle.std.specs.Prelude.{◌≡◌, ◌⊎◌, ◌++◌, IfOk, List, [], OnOk, string_bytes, ℕ};
+ghost use Rattle.std.specs.Prelude.{◌≡◌, ◌⊎◌, ◌++◌, IfOk, List, [], string_bytes, ℕ};
 ghost use Rattle.p21_commands.specs.CheckAll.{count_line};
 ghost use Rattle.p21_commands.specs.Checks.{IsOfCheck};
 ghost use Rattle.p21_commands.specs.Refusals.{IsFaultOf};
