@@ -9,7 +9,7 @@ ghost use Rattle.p21.specs.Statuses.{IsOfAnswer, IsOfCommand, IsUnopened, NamesF
 use crate::input::{Inputs, Kept, Source};
 use crate::lines::Lines;
 use crate::notes::{Given, Wanted, note_file, note_files, note_given, note_listing};
-use crate::places::{Asked, ToldOf, asked, tell_no_form, tell_places, tell_unloaded};
+use crate::places::{Asked, ToldOf, asked_places, tell_no_form, tell_places, tell_unloaded};
 use crate::progress::ProgressReader;
 use crate::refusals::SECTIONS;
 use crate::several::{check_several, syntax_several};
@@ -153,7 +153,7 @@ fn run_check<'a>(rt: &HostRuntime, found: &ArgMatches<'a>) -> Result<u8, Stopped
     ensures ran { IfOk result IsOfCommand }
     ensures unopened { IfErr result IsUnopened }
 {
-    let asked = match asked(found) {
+    let asked = match asked_places(found) {
         Ok(asked) => asked,
         Err(word) => {
             tell_no_form(rt, word);

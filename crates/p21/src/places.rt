@@ -32,7 +32,7 @@ pub enum Asked {
 }
 
 /// What is asked for, or a word behind `--format` that names no form.
-pub fn asked<'a>(found: &ArgMatches<'a>) -> Result<Asked, &'a str> {
+pub fn asked_places<'a>(found: &ArgMatches<'a>) -> Result<Asked, &'a str> {
     let form = match found.get_str("format") {
         Some("jsonl") => Form::Json,
         Some("text") => Form::Text,
@@ -171,11 +171,12 @@ fn tell_first<R: Read, W: Write, F: Write>(
     let Ok(shown) = format!(in alloc; "{}", Shown(name.path)) else {
         return (checks.tell_no_memory(faults), lines);
     };
+    let references = References::none(alloc);
     let telling = Telling {
         path: name.path,
         shown: &shown,
         lines: lines.starts(),
-        references: &References::none(alloc),
+        references: &references,
         form,
         is_named: name.is_named,
     };
