@@ -12,7 +12,7 @@ _p21() {
         param) words='--help' ;;
         syntax) words='--progress --help' ;;
         schema) words='--help' ;;
-        check) words='--all --most --where --progress --help' ;;
+        check) words='--all --most --where --format --progress --help' ;;
         canon) words='--progress --help' ;;
         show) words='--name --help' ;;
         same) words='--progress --help' ;;

@@ -264,26 +264,78 @@ $here/nothing:1:1"
 
 file '#3=CLOUD((#9),(),(TALLY(1)));' > "$here/placed"
 run check --where "$demo" "$here/placed"
-expect 'no place of a reference' 1 '' 'refused 56 Dangling in #3'
+expect 'the place of a reference' 1 '' "refused 56 Dangling in #3
+$here/placed:8:11"
 
 run check --where "$demo" "$here"
 expect 'no place of a read' 3 '' "read fault
 note: $here: a folder"
 
+file "$(printf "/* \303\274 */ #1=POINT('\303\244\342\202\254',1.,'');")" > "$here/placed"
+run check --format jsonl "$demo" "$here/placed"
+expect 'a column in characters' 1 '' \
+    "{\"file\":\"$here/placed\",\"number\":49,\"name\":\"WrongKind\",\"instance\":1,\"byte\":155,\"line\":8,\"column\":30,\"column_in_characters\":26,\"entity\":\"POINT\",\"attribute\":\"Y\"}"
+
+file '#3=CLOUD((#9),(),(TALLY(1)));' > "$here/placed"
 run check --where "$here/schema" "$here/twice"
-expect 'no place in a schema' 1 '' 'schema refused S2 Syntax'
+expect 'the place in a schema' 1 '' "schema refused S2 Syntax
+$here/schema:1:21"
+
+run check --all --where "$here/schema" "$here/twice" "$here/point"
+expect 'the place in a schema for several files' 1 '' "schema refused S2 Syntax
+$here/schema:1:21"
+
+run check --format jsonl "$here/schema" "$here/twice"
+expect 'the place in a schema as JSON' 1 '' \
+    "{\"file\":\"$here/schema\",\"number\":\"S2\",\"name\":\"Syntax\",\"byte\":20,\"line\":1,\"column\":21}"
 
 run check --where "$demo" "$here/point"
 expect 'no place in a file that is accepted' 0 'accepted, instances 1, canonical bytes 171' ''
 
 run check --where --all "$demo" "$here/broken"
-expect 'no places in a list' 1 '' 'refused 45 Count in #1
-refused 20 Unexpected at statement 10
-refusals 2, the rest was not read'
+expect 'places in a list' 1 '' "$here/broken:8:14: 45 Count in #1: POINT.Y
+$here/broken:9:19: 20 Unexpected at statement 10
+refusals 2, the rest was not read"
+
+run check --where --most 1 "$demo" "$here/broken"
+expect 'the place of the one that is asked for' 1 '' "$here/broken:8:14: 45 Count in #1: POINT.Y
+refusals 1, no more were looked for"
+
+run check --where --all "$demo" "$here/point"
+expect 'no places in a list of a file that is accepted' 0 'accepted, instances 1, canonical bytes 171' ''
+
+run check --all --format jsonl "$demo" "$here/broken"
+expect 'a list as JSON' 1 '' \
+    "{\"file\":\"$here/broken\",\"number\":45,\"name\":\"Count\",\"instance\":1,\"byte\":139,\"line\":8,\"column\":14,\"entity\":\"POINT\",\"attribute\":\"Y\"}
+{\"file\":\"$here/broken\",\"number\":20,\"name\":\"Unexpected\",\"statement\":10,\"byte\":160,\"line\":9,\"column\":19}
+{\"refusals\":2,\"extent\":\"part\"}"
+
+run check --format jsonl "$demo" "$here/broken"
+expect 'a refusal as JSON' 1 '' \
+    "{\"file\":\"$here/broken\",\"number\":45,\"name\":\"Count\",\"instance\":1,\"byte\":139,\"line\":8,\"column\":14,\"entity\":\"POINT\",\"attribute\":\"Y\"}"
+
+run check --format jsonl "$demo" "$here/point"
+expect 'no JSON of a file that is accepted' 0 'accepted, instances 1, canonical bytes 171' ''
+
+run check --format json "$demo" "$here/point"
+expect 'no such form' 3 '' "error: no form 'json': jsonl and text are known"
+
+run check --all --format jsonl "$demo" "$here"
+expect 'JSON of a read that failed' 3 '' 'read fault
+{"refusals":0,"extent":"part"}
+note: '"$here: a folder"
 
 run check --where "$demo" "$here/twice" "$here/empty"
-expect 'no places of several files' 1 "$here/empty: accepted, instances 0, canonical bytes 152" \
-    "$here/twice: refused 40 DuplicateName in #1"
+expect 'the place of one of several files' 1 "$here/empty: accepted, instances 0, canonical bytes 152" \
+    "$here/twice: refused 40 DuplicateName in #1
+$here/twice:9:1"
+
+run check --all --where "$demo" "$here/twice" "$here/empty" "$here/placed"
+expect 'places in lists of several files' 1 "$here/empty: accepted, instances 0, canonical bytes 152" \
+    "$here/twice:9:1: 40 DuplicateName in #1
+$here/twice: refusals 1
+$here/placed:8:11: 56 Dangling in #3
+$here/placed: refusals 1"
 
 run check --most 0 "$demo" "$here/several"
 expect 'no refusals asked for' 2 '' "error: invalid value '0' for '--most <N>'*"

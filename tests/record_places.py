@@ -1,11 +1,14 @@
 #!/usr/bin/env python3
 """Where `p21 check --where` says that a record is refused: the rows of tests/tools_where.py that are of records, and which attribute.
 
-P21 names another program than ./p21.
+With --all the same of files with many faults, where each place is that of a run over the file with this one fault; and
+what `--format jsonl` says of them. P21 names another program than ./p21.
 """
 
+import json
 import os
 import pathlib
+import re
 import subprocess
 import sys
 import tempfile
@@ -16,8 +19,34 @@ from tools_where import DEMO, FAULTS, VALUES, unmarked
 
 PROGRAM = os.environ.get("P21", str(ROOT / "p21"))
 
-# Rows of VALUES that are refused for a reference: the file has ended when that is known, and they have no place.
-OF_REFERENCES = {"the second reference", "the third reference"}
+# More instances of the schema DEMO, with the place at which they are refused.
+MORE = [
+    ("a name that stands twice", "#1=POINT($,1.,1.);\n«#1»=POINT($,1.,1.);"),
+    ("a name that stands twice, behind a remark", "#1=POINT($,1.,1.);\n«#01»/**/=POINT($,1.,1.);"),
+    ("a name that stands thrice", "#1=POINT($,1.,1.); #1=POINT($,1.,1.);\n /* */ «#1»=POINT($,2.,1.);"),
+    ("a name of a refused record", "#1=POINT($,1.,1);\n«#1»=POINT($,1.,1.);"),
+    ("one reference twice", "#1=CLOUD((#2,«#8»,#7),(),(#8));\n#2=POINT($,1.,1.);\n#7=POINT($,2.,1.);"),
+    ("a reference behind its name in a string", "#1=(MARKED(.RED.)POINT(1.,1.)SHAPE('#8'));\n#2=CLOUD((),(),(/*#8*/«#8»));"),
+]
+
+# Rows of these of which a second refusal stands elsewhere.
+TWO_REFUSALS = {
+    "a name that stands thrice",
+    "a name of a refused record",
+    "one reference twice",
+    "a sign of a page behind a number",
+}
+
+# Of instances of VALUES the way to the element.
+INDICES = {
+    "an element of a list in a list": [2, 2],
+    "the first of two faults": [2, 1],
+    "the value of a typed parameter": [2, 1],
+    "a type that the select doesn't offer": [2],
+    "equal elements by other spellings": [2],
+    "no value in a list": [1, 2],
+    "a star in a list": [1, 2],
+}
 
 # Of an instance of the schema DEMO, the attribute whose value is refused, by the entity that declares it.
 ATTRIBUTES = [
@@ -49,15 +78,113 @@ def told(folder, text, schema=DEMO):
 
 def rows():
     """Each text with its place."""
-    for name, instances in VALUES:
+    for name, instances in VALUES + MORE:
+        if name in ("a name that stands thrice", "a name of a refused record"):
+            continue
         text, place, _ = unmarked(file_of(instances, [("PRODUCT_MODEL", "DEMO")]))
-        yield name, text, DEMO, None if name in OF_REFERENCES else place
+        yield name, text, DEMO, place
     found = {title.split(": ", 1)[1]: row for title, *row in texts.faults(pathlib.Path(tempfile.mkdtemp()))}
     for title, (place, _, _) in FAULTS.items():
         number = title.split()[0]
-        if number.isdigit() and 40 <= int(number) and number not in ("56", "57"):
+        if number.isdigit() and 40 <= int(number):
             given, _line = found[title]
             yield title, pathlib.Path(given[2]).read_text(encoding="utf-8"), given[1], place
+
+
+def renumbered(instances, by):
+    """Instances of which each name is another number."""
+    return re.sub("#(0*)([0-9]+)", lambda name: f"#{name[1]}{int(name[2]) + by}", instances)
+
+
+def blank(instances):
+    """As many blanks, on as many lines."""
+    return re.sub(r"[^\n]", " ", re.sub("[«»]", "", instances))
+
+
+def many(times):
+    """Instances of all rows, many times, each with its row and its name: between them instances that are right."""
+    by = 0
+    for _ in range(times):
+        for name, instances in VALUES + MORE:
+            by += 10
+            yield name, renumbered(instances, by)
+        by += 10
+        yield None, f"#{by}=POINT($,1.,1.);  #{by + 1}=POINT($,1.,1.);"
+
+
+def listed(folder, text, *words):
+    """The lines on the fault output of a file that is checked so."""
+    path = folder / "listed.step"
+    path.write_bytes(text.encode())
+    ended = subprocess.run(
+        [PROGRAM, "check", *words, DEMO, str(path)], capture_output=True, check=False, cwd=ROOT
+    )
+    assert ended.returncode == 1, (words, ended.stderr[:500])
+    return ended.stderr.decode().replace(str(path), "FILE").splitlines()
+
+
+def text_of(groups):
+    """A file of instances, and where the marks of these stand."""
+    marked = file_of("\n".join(groups), [("PRODUCT_MODEL", "DEMO")])
+    places, text = [], ""
+    for at, part in enumerate(re.split("[«»]", marked)):
+        if at % 2:
+            places.append(f"{text.count(chr(10)) + 1}:{len(text) - text.rfind(chr(10))}")
+        text += part
+    return text, places
+
+
+def of_list(folder):
+    """What is wrong with the list of a file with hundreds of faults."""
+    groups = list(many(9))
+    text, places = text_of([group for _, group in groups])
+    lines = listed(folder, text, "--all", "--where")
+    found = [re.fullmatch(r"FILE:([0-9:]+): [0-9]+ \w+ in #([0-9]+)(?:: (\S+))?", line) for line in lines[:-1]]
+    if None in found:
+        yield f"{lines[found.index(None)]}, which has no place"
+        return
+    unmarked_too = sum(name in TWO_REFUSALS for name, _ in groups)
+    if lines[-1] != f"refusals {len(places) + unmarked_too}":
+        yield lines[-1]
+    told_places = [row[1] for row in found]
+    for place in places:
+        if place not in told_places:
+            yield f"no refusal at {place}"
+    objects = [json.loads(line) for line in listed(folder, text, "--all", "--format", "jsonl")]
+    if objects[-1] != {"refusals": len(found), "extent": "whole"}:
+        yield objects[-1]
+    data = text.encode()
+    for row, of in zip(found, objects):
+        front = data[: of["byte"]]
+        place = f"{front.count(10) + 1}:{len(front) - front.rfind(10)}"
+        if not row[1] == place == f"{of['line']}:{of['column']}" or int(row[2]) != of["instance"]:
+            yield f"{row[0]}, but {of}"
+        if row[3] != (f"{of['entity']}.{of['attribute']}" if "attribute" in of else None):
+            yield f"{row[0]}, but {of}"
+    if len(objects) != len(found) + 1:
+        yield f"{len(objects)} objects"
+
+
+def of_single_runs(folder):
+    """What differs between a list and the runs over the file with one fault each."""
+    groups = list(many(1))
+    text, _ = text_of([group for _, group in groups])
+    lines = set(listed(folder, text, "--all", "--where"))
+    for at, (name, group) in enumerate(groups):
+        if name is None:
+            continue
+        alone, _ = text_of([group if number == at else blank(other) for number, (_, other) in enumerate(groups)])
+        single = listed(folder, alone, "--most", "1", "--where")[0]
+        if single not in lines:
+            yield f"{name}: {single}, which isn't listed"
+        [first, *_] = listed(folder, alone, "--format", "jsonl")
+        of = json.loads(first)
+        if f"FILE:{of['line']}:{of['column']}: {of['number']} {of['name']} in #{of['instance']}" not in single:
+            yield f"{name}: {single}, and {first}"
+        if name in INDICES and of.get("indices") != INDICES[name]:
+            yield f"{name}: {first}, and not {INDICES[name]}"
+        if name not in INDICES and "indices" in of and of["indices"] == []:
+            yield f"{name}: {first}"
 
 
 def main():
@@ -77,6 +204,11 @@ def main():
             if attribute != wanted:
                 print(f"{instance}: {attribute}, and not {wanted}", file=sys.stderr)
                 failed += 1
+        for wrong in [*of_list(folder), *of_single_runs(folder)]:
+            print(wrong, file=sys.stderr)
+            failed += 1
+            count += 1
+        count += 2
     print(f"{count - failed} passed, {failed} failed")
     return 1 if failed else 0
 

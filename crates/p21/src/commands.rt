@@ -7,16 +7,16 @@ ghost use Rattle.clap.specs.Words.{subcommand_name_of};
 ghost use Rattle.p21.specs.Statuses.{IsOfAnswer, IsOfCommand, IsUnopened, NamesFiles};
 
 use crate::input::{Inputs, Kept, Source};
-use crate::lines::{LineStarts, Lines};
+use crate::lines::Lines;
 use crate::notes::{Given, Wanted, note_file, note_files, note_given, note_listing};
+use crate::places::{Asked, ToldOf, asked_places, tell_no_form, tell_places, tell_unloaded};
 use crate::progress::ProgressReader;
 use crate::refusals::SECTIONS;
 use crate::several::{check_several, syntax_several};
-use crate::shown::Shown;
 use clap::ArgMatches;
 use p21_command_line::LIST;
 use p21_commands::{
-    CommandFault, DONE, REFUSED, Told, canon_command, check_all_command, check_located,
+    Checks, CommandFault, DONE, FAILED, canon_command, check_all_command, check_command,
     param_command, report, same_command, schema_command, show_command, syntax_command,
 };
 use p21_stream_io::Watched;
@@ -148,16 +148,87 @@ fn syntax_one<'a>(
     Ok(status)
 }
 
-/// `check S FILE.. [--all] [--most N] [--where] [--progress]`.
+/// `check S FILE.. [--all] [--most N] [--where] [--format FORM] [--progress]`.
 fn run_check<'a>(rt: &HostRuntime, found: &ArgMatches<'a>) -> Result<u8, Stopped<'a>>
     ensures ran { IfOk result IsOfCommand }
     ensures unopened { IfErr result IsUnopened }
 {
+    let asked = match asked_places(found) {
+        Ok(asked) => asked,
+        Err(word) => {
+            tell_no_form(rt, word);
+            return Ok(FAILED);
+        }
+    };
     match found.get_strs("FILE") {
-        Some([path]) if !path.starts_with('@') => check_one(rt, found, path),
-        Some(words) => check_several(rt, found, words),
-        None => check_one(rt, found, ""),
+        Some([path]) if !path.starts_with('@') => check_named(rt, found, asked, path),
+        Some(words) => check_several(rt, found, asked, words),
+        None => check_named(rt, found, asked, ""),
     }
+}
+
+/// `check` of one file, without its name in front of the lines.
+fn check_named<'a>(
+    rt: &HostRuntime,
+    found: &ArgMatches<'a>,
+    asked: Asked,
+    path: &'a str,
+) -> Result<u8, Stopped<'a>>
+    ensures ran { IfOk result IsOfCommand }
+    ensures unopened { IfErr result IsUnopened }
+{
+    match asked {
+        Asked::None => check_one(rt, found, path),
+        _ => check_with_places(rt, found, asked, path),
+    }
+}
+
+/// `check` of one file, with the place in each line.
+fn check_with_places<'a>(
+    rt: &HostRuntime,
+    found: &ArgMatches<'a>,
+    asked: Asked,
+    path: &'a str,
+) -> Result<u8, Stopped<'a>>
+    ensures ran { IfOk result IsOfCommand }
+    ensures unopened { IfErr result IsUnopened }
+{
+    let mut inputs = Inputs::new();
+    let schema_path = given(found, "S");
+    let mut schema = Watched::new(Kept::new(inputs.open(rt, schema_path)?));
+    let source = with_progress(rt, found, path, inputs.open(rt, path)?);
+    let mut faults = Watched::new(Kept::new(rt.stderr()));
+    let (status, source) = match Checks::load(rt.alloc(), &mut schema) {
+        Ok(mut checks) => {
+            let file = Watched::new(Lines::new(rt.alloc(), source, true));
+            let mut output = Watched::new(rt.stdout());
+            let name = ToldOf {
+                path,
+                is_named: false,
+            };
+            let (status, lines) = tell_places(
+                rt,
+                &mut checks,
+                asked,
+                name,
+                file,
+                &mut output,
+                &mut faults,
+            );
+            (status, lines.into_inner())
+        }
+        Err(unloaded) => {
+            let status = tell_unloaded(rt, asked, schema_path, &unloaded, &mut faults);
+            (status, source)
+        }
+    };
+    let read_schema = schema.into_inner();
+    let read = source.into_inner();
+    let schema = Given::new(schema_path, Wanted::Schema, &read_schema);
+    let file = Given::new(path, Wanted::Exchange, &read);
+    note_file(rt, status, "check", schema, file, "");
+    note_listing(rt, schema_path, faults.into_inner().front());
+    Ok(status)
 }
 
 /// `check` of one file, without its name in front of the lines.
@@ -168,15 +239,11 @@ fn check_one<'a>(rt: &HostRuntime, found: &ArgMatches<'a>, path: &'a str) -> Res
     let mut inputs = Inputs::new();
     let schema_path = given(found, "S");
     let mut schema = Watched::new(Kept::new(inputs.open(rt, schema_path)?));
-    let source = with_progress(rt, found, path, inputs.open(rt, path)?);
-    let mut file = Watched::new(Lines::new(rt.alloc(), source, found.get_flag("where")));
+    let mut file = Watched::new(with_progress(rt, found, path, inputs.open(rt, path)?));
     let mut faults = Watched::new(Kept::new(rt.stderr()));
-    let told = run_check_over(rt, most_given(found), &mut schema, &mut file, &mut faults);
-    let status = told.status;
-    let lines = file.into_inner();
-    tell_place(rt, path, told, lines.starts());
+    let status = run_check_over(rt, most_given(found), &mut schema, &mut file, &mut faults);
     let read_schema = schema.into_inner();
-    let read = lines.into_inner().into_inner();
+    let read = file.into_inner().into_inner();
     let schema = Given::new(schema_path, Wanted::Schema, &read_schema);
     let file = Given::new(path, Wanted::Exchange, &read);
     note_file(rt, status, "check", schema, file, "");
@@ -191,35 +258,14 @@ fn run_check_over<S: Read, R: Read, F: Write>(
     schema: &mut Watched<S>,
     file: &mut Watched<R>,
     faults: &mut Watched<F>,
-) -> Told
-    ensures { IsOfCommand result.status }
+) -> u8
+    ensures { IsOfCommand result }
 {
     let mut output = Watched::new(rt.stdout());
     match most {
-        Some(most) => Told {
-            status: check_all_command(rt.alloc(), schema, file, most, &mut output, faults),
-            place: None,
-            attribute: None,
-        },
-        None => check_located(rt.alloc(), schema, file, &mut output, faults),
+        Some(most) => check_all_command(rt.alloc(), schema, file, most, &mut output, faults),
+        None => check_command(rt.alloc(), schema, file, &mut output, faults),
     }
-}
-
-/// Says behind the line of a refusal where it stands, if lines are kept. Where it can't be said, it isn't.
-fn tell_place(rt: &HostRuntime, path: &str, told: Told, lines: &LineStarts) {
-    if told.status != REFUSED {
-        return;
-    }
-    let Some(place) = told.place else { return };
-    let Some(position) = lines.position(place.byte) else {
-        return;
-    };
-    let path = Shown(path);
-    let (line, column) = (position.line, position.column);
-    let _ = match told.attribute {
-        Some(attribute) => eprintln!(rt; "{path}:{line}:{column}: {attribute}"),
-        None => eprintln!(rt; "{path}:{line}:{column}"),
-    };
 }
 
 /// How many refusals are listed at most, where `--all` or `--most` asks for them.

@@ -17,6 +17,7 @@ mod input;
 mod lines;
 mod named;
 mod notes;
+mod places;
 mod progress;
 mod refusals;
 mod several;

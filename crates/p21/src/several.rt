@@ -4,16 +4,18 @@ ghost use Rattle.p21.specs.Statuses.{IsOfCommand, IsUnopened};
 
 use crate::commands::{Stopped, given, most_given, with_progress};
 use crate::input::{Inputs, Kept, Source};
+use crate::lines::Lines;
 use crate::named::Named;
 use crate::notes::{
     Given, Wanted, note_given, note_listing, note_one_alone, note_one_of_several, note_unopened,
 };
+use crate::places::{Asked, ToldOf, tell_places, tell_unloaded};
 use crate::shown::Shown;
 use clap::ArgMatches;
 use p21_commands::{Checks, CommandFault, SyntaxChecks, report};
 use p21_stream_io::Watched;
 use std::alloc::AllocError;
-use std::io::{self, ErrorKind, Read};
+use std::io::{self, ErrorKind, Read, Write};
 use std::rt::{Stderr, Stdout};
 
 /// The names of the commands.
@@ -32,9 +34,11 @@ enum Task<'s> {
 
 /// The writers of what is told of a file.
 #[derive(Drop)]
-struct Lines {
+struct Writers {
     output: Watched<Named<Stdout>>,
     faults: Watched<Named<Stderr>>,
+    // For lines that have the name already.
+    plain: Watched<Stderr>,
 }
 
 /// A run over several files.
@@ -42,6 +46,7 @@ struct Lines {
 struct Run<'r, 'f, 's, 'a> {
     rt: &'r HostRuntime,
     found: &'f ArgMatches<'a>,
+    asked: Asked,
     inputs: Inputs,
     task: Task<'s>,
 }
@@ -50,6 +55,7 @@ struct Run<'r, 'f, 's, 'a> {
 pub fn check_several<'a>(
     rt: &HostRuntime,
     found: &ArgMatches<'a>,
+    asked: Asked,
     words: &[&'a str],
 ) -> Result<u8, Stopped<'a>>
     ensures ran { IfOk result IsOfCommand }
@@ -59,7 +65,7 @@ pub fn check_several<'a>(
     let schema_path = given(found, "S");
     let mut schema = Watched::new(Kept::new(inputs.open(rt, schema_path)?));
     let mut faults = Watched::new(Kept::new(rt.stderr()));
-    let begun = Checks::new(rt.alloc(), &mut schema, &mut faults);
+    let begun = begin(rt, asked, schema_path, &mut schema, &mut faults);
     let schema = schema.into_inner();
     let checks = match begun {
         Ok(checks) => checks,
@@ -71,11 +77,31 @@ pub fn check_several<'a>(
     let mut run = Run {
         rt,
         found,
+        asked,
         inputs,
         task: Task::Check(checks, &schema),
     };
     run.tell_words(words);
     Ok(run.task.status())
+}
+
+/// Reads the schema, or says why there is none, and where its text is refused if that is asked for. Answers the status then.
+fn begin<S: Read, F: Write>(
+    rt: &HostRuntime,
+    asked: Asked,
+    path: &str,
+    schema: &mut Watched<S>,
+    faults: &mut Watched<F>,
+) -> Result<Checks, u8>
+    ensures { IfErr result IsOfCommand }
+{
+    if asked == Asked::None {
+        return Checks::new(rt.alloc(), schema, faults);
+    }
+    match Checks::load(rt.alloc(), schema) {
+        Ok(checks) => Ok(checks),
+        Err(unloaded) => Err(tell_unloaded(rt, asked, path, &unloaded, faults)),
+    }
 }
 
 /// `syntax` of these files, in the same way.
@@ -85,6 +111,7 @@ pub fn syntax_several(rt: &HostRuntime, found: &ArgMatches<'_>, words: &[&str]) 
     let mut run = Run {
         rt,
         found,
+        asked: Asked::None,
         inputs: Inputs::new(),
         task: Task::Syntax(SyntaxChecks::new()),
     };
@@ -111,23 +138,41 @@ fn note_schema(
 }
 
 impl Task<'_> {
-    /// Reads a file that is open, and answers its status.
+    /// Reads a file that is open, and answers its status, and the reader.
     fn tell<R: Read>(
         &mut self,
         rt: &HostRuntime,
         found: &ArgMatches<'_>,
-        file: &mut Watched<R>,
-        lines: &mut Lines,
-    ) -> u8 {
-        let alloc = rt.alloc();
-        let Lines { output, faults } = lines;
-        match self {
-            Task::Check(checks, _) => match most_given(found) {
-                Some(most) => checks.check_all(alloc, file, most, output, faults),
-                None => checks.check(alloc, file, output, faults),
+        asked: Asked,
+        path: &str,
+        mut file: Watched<Lines<R>>,
+        writers: &mut Writers,
+    ) -> (u8, Lines<R>) {
+        let Writers {
+            output,
+            faults,
+            plain,
+        } = writers;
+        let name = ToldOf {
+            path,
+            is_named: true,
+        };
+        let status = match self {
+            Task::Check(checks, _) => match (asked, most_given(found)) {
+                (Asked::None, Some(most)) => {
+                    checks.check_all(rt.alloc(), &mut file, most, output, faults)
+                }
+                (Asked::None, None) => checks.check(rt.alloc(), &mut file, output, faults),
+                (Asked::Behind, _) => {
+                    return tell_places(rt, checks, asked, name, file, output, faults);
+                }
+                (Asked::First(_) | Asked::Each(_, _), _) => {
+                    return tell_places(rt, checks, asked, name, file, output, plain);
+                }
             },
-            Task::Syntax(checks) => checks.check(alloc, file, output, faults),
-        }
+            Task::Syntax(checks) => checks.check(rt.alloc(), &mut file, output, faults),
+        };
+        (status, file.into_inner())
     }
 
     /// Says why a file could not be read, or what it is.
@@ -194,15 +239,19 @@ impl Run<'_, '_, '_, '_> {
             Ok(file) => file,
             Err(error) => return self.tell_unopened(path, error),
         };
-        let Ok(mut lines) = Lines::new(self.rt, path) else {
+        let Ok(mut writers) = Writers::new(self.rt, path) else {
             return self.tell_no_memory();
         };
-        let mut file = Watched::new(with_progress(self.rt, self.found, path, file));
-        let status = self.task.tell(self.rt, self.found, &mut file, &mut lines);
-        let read = file.into_inner().into_inner();
+        let source = with_progress(self.rt, self.found, path, file);
+        let is_kept = self.asked != Asked::None;
+        let file = Watched::new(Lines::new(self.rt.alloc(), source, is_kept));
+        let (status, lines) = self
+            .task
+            .tell(self.rt, self.found, self.asked, path, file, &mut writers);
+        let read = lines.into_inner().into_inner();
         let file = Given::new(path, Wanted::Exchange, &read);
         self.task.note(self.rt, self.found, status, file);
-        lines.are_written()
+        writers.are_written()
     }
 
     /// Says that a file can't be opened, and answers whether that could be written.
@@ -227,15 +276,16 @@ impl Run<'_, '_, '_, '_> {
     }
 }
 
-impl Lines {
-    fn new(rt: &HostRuntime, path: &str) -> Result<Lines, AllocError> {
-        Ok(Lines {
+impl Writers {
+    fn new(rt: &HostRuntime, path: &str) -> Result<Writers, AllocError> {
+        Ok(Writers {
             output: Watched::new(Named::new(rt.alloc(), path, rt.stdout())?),
             faults: Watched::new(Named::new(rt.alloc(), path, rt.stderr())?),
+            plain: Watched::new(rt.stderr()),
         })
     }
 
     fn are_written(&self) -> bool {
-        self.output.failures() == 0 && self.faults.failures() == 0
+        self.output.failures() == 0 && self.faults.failures() == 0 && self.plain.failures() == 0
     }
 }

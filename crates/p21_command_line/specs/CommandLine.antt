@@ -46,6 +46,10 @@ most_rule = record (new_rule (codes "most")) {
 abbrev pub where_rule : Rule
 where_rule = record (new_rule (codes "where")) { action = Some SetTrue; long = Some (codes "where") }
 
+-- `--format FORM`, with one word
+abbrev pub format_rule : Rule
+format_rule = record (new_rule (codes "format")) { action = Some Set; long = Some (codes "format"); value_names = 1 }
+
 -- `param FILE`
 abbrev pub param_app : App
 param_app = with_rule (new_app (codes "param")) (given_rule (codes "FILE"))
@@ -62,11 +66,11 @@ syntax_app = with_rule (with_rule (new_app (codes "syntax")) files_rule) progres
 abbrev pub file_app : Text → App
 file_app name = with_rule (with_rule (new_app name) (given_rule (codes "S"))) (given_rule (codes "FILE"))
 
--- `check S FILE.. [--all] [--most N] [--where] [--progress]`
+-- `check S FILE.. [--all] [--most N] [--where] [--format FORM] [--progress]`
 abbrev pub check_app : App
 check_app =
-    with_rule (with_rule (with_rule (with_rule (with_rule (with_rule (new_app (codes "check"))
-    (given_rule (codes "S"))) files_rule) all_rule) most_rule) where_rule) progress_rule
+    with_rule (with_rule (with_rule (with_rule (with_rule (with_rule (with_rule (new_app (codes "check"))
+    (given_rule (codes "S"))) files_rule) all_rule) most_rule) where_rule) format_rule) progress_rule
 
 -- `canon S FILE [--progress]`
 abbrev pub canon_app : App

@@ -5,7 +5,7 @@
 ghost use Rattle.std.specs.Prelude.{◌≡◌, IfOk, codes, false};
 ghost use Rattle.clap.specs.Words.{app_of, rule_of};
 ghost use Rattle.clap.specs.declared.builder.command.Command.TheViews.{out-Command as fields_of};
-ghost use Rattle.p21_command_line.specs.CommandLine.{all_rule, app_without_commands, canon_app, check_app, faults_app, files_rule, given_rule, most_rule, name_rule, optional_rule, param_app, progress_rule};
+ghost use Rattle.p21_command_line.specs.CommandLine.{all_rule, app_without_commands, canon_app, check_app, faults_app, files_rule, format_rule, given_rule, most_rule, name_rule, optional_rule, param_app, progress_rule};
 ghost use Rattle.p21_command_line.specs.CommandLine.{program_app, same_app, schema_app, show_app, syntax_app, where_rule};
 
 use crate::{help, refusals};
@@ -78,7 +78,7 @@ fn syntax<'a>(alloc: Global) -> Result<Command<'a>, AllocError>
         .arg(progress(alloc))
 }
 
-/// `check S FILE.. [--all] [--most N] [--where] [--progress]`.
+/// `check S FILE.. [--all] [--most N] [--where] [--format FORM] [--progress]`.
 fn check<'a>(alloc: Global) -> Result<Command<'a>, AllocError>
     ensures app { IfOk result (λ command. app_of command ≡ check_app) }
     ensures local { IfOk result (λ command. (fields_of command).has_globals ≡ false) }
@@ -91,6 +91,7 @@ fn check<'a>(alloc: Global) -> Result<Command<'a>, AllocError>
         .arg(all(alloc))?
         .arg(most(alloc))?
         .arg(place(alloc))?
+        .arg(format(alloc))?
         .arg(progress(alloc))
 }
 
@@ -220,9 +221,23 @@ fn place<'a>(alloc: Global) -> Arg<'a>
     ensures local { result.global ≡ false }
 {
     Arg::new(alloc, "where")
-        .help("Says of one FILE, without --all and --most, the line and column of its refusal")
+        .help(
+            "Says of each refusal in which line and column it stands, and of a value its attribute",
+        )
         .long("where")
         .action(ArgAction::SetTrue)
+}
+
+/// `--format FORM`.
+fn format<'a>(alloc: Global) -> Arg<'a>
+    ensures rule { rule_of result ≡ format_rule }
+    ensures local { result.global ≡ false }
+{
+    Arg::new(alloc, "format")
+        .help("With jsonl gives refusals with their places as JSON, an object a line")
+        .long("format")
+        .value_name("FORM")
+        .action(ArgAction::Set)
 }
 
 /// `--progress`.

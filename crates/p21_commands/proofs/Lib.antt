@@ -7,6 +7,7 @@ pub mod FileFailing
 pub mod Showing
 pub mod Writing
 pub mod Surveys
+pub mod TellingLemmas
 pub mod Checking
 pub mod Syntaxes
 mod OwnWords

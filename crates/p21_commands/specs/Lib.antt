@@ -14,6 +14,7 @@ pub mod Canon
 pub mod Check
 pub mod CheckAll
 pub mod Checks
+pub mod Tells
 pub mod Files
 pub mod Refusals
 pub mod Same

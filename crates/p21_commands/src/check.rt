@@ -13,9 +13,9 @@ use crate::answer::answer;
 use crate::fault::{CommandFault, report};
 use crate::file_fault::fault_of;
 use crate::load::load_schema;
-use p21_express_graph::Place as AttributePlace;
+use crate::telling::attribute_text;
 use p21_express_tables::Schema;
-use p21_stream::{Place, Watched, count_located};
+use p21_stream::{Fault, Place, Watched, count_located};
 use p21_values::Limits;
 use std::alloc::{AllocError, Global};
 use std::io::{Read, Write};
@@ -25,6 +25,8 @@ use std::io::{Read, Write};
 pub struct Told {
     /// The exit status.
     pub status: u8,
+    /// Whether the file is refused for a reference, which has its place by a second reading of the file alone.
+    pub is_of_reference: bool,
     /// Where the file is refused, if that has a place.
     pub place: Option<Place>,
     /// The attribute whose value is refused, if it is one, behind the entity that declares it: `ENTITY.ATTRIBUTE`.
@@ -73,6 +75,7 @@ pub fn check_located<S: Read, R: Read, W: Write, F: Write>(
         Ok(schema) => check_file_located(alloc, &schema, file, output, faults),
         Err(fault) => Told {
             status: report(&fault, faults),
+            is_of_reference: false,
             place: None,
             attribute: None,
         },
@@ -96,7 +99,7 @@ pub(crate) fn check_file<R: Read, W: Write, F: Write>(
 }
 
 /// As `check_file`, with where the file is refused.
-fn check_file_located<R: Read, W: Write, F: Write>(
+pub(crate) fn check_file_located<R: Read, W: Write, F: Write>(
     alloc: Global,
     schema: &Schema,
     file: &mut Watched<R>,
@@ -111,39 +114,47 @@ fn check_file_located<R: Read, W: Write, F: Write>(
     let counted = match count_located(alloc, schema, Limits::usual(), file) {
         Ok(counted) => counted,
         Err(located) => {
+            let is_of_reference = is_of_reference(located.refusal.fault);
             return Told {
                 status: report(&fault_of(alloc, "", located.refusal), faults),
+                is_of_reference,
                 place: located.place,
-                attribute: name_of(alloc, schema, located.attribute),
+                attribute: attribute_text(alloc, schema, located.attribute),
             };
         }
     };
     match answer_line_of(alloc, counted.instances, counted.bytes) {
         Ok(line) => Told {
             status: answer(line.as_bytes(), output, faults),
+            is_of_reference: false,
             place: None,
             attribute: None,
         },
         Err(AllocError) => Told {
             status: report(&CommandFault::NoMemory, faults),
+            is_of_reference: false,
             place: None,
             attribute: None,
         },
     }
 }
 
-/// An attribute of the schema behind the entity that declares it. None where it is none of the schema, or memory is refused.
-fn name_of(alloc: Global, schema: &Schema, of: Option<AttributePlace>) -> Option<String> {
-    let place = of?;
-    if place.entity.0 as usize >= schema.entities() {
-        return None;
+/// Whether a fault is one of a reference.
+pub fn is_of_reference(fault: Fault) -> bool {
+    match fault {
+        Fault::Dangling => true,
+        Fault::WrongTarget => true,
+        Fault::Token(_) => false,
+        Fault::Grammar(_) => false,
+        Fault::Check(_) => false,
+        Fault::SchemaName => false,
+        Fault::SectionTwice => false,
+        Fault::DuplicateName => false,
+        Fault::CanonicalTooLong => false,
+        Fault::NoMemory => false,
+        Fault::Read => false,
+        Fault::Write => false,
     }
-    if place.index >= schema.attribute_count(place.entity) {
-        return None;
-    }
-    let entity = str::from_utf8(schema.entity_name(place.entity)).ok()?;
-    let attribute = str::from_utf8(schema.place_name(place)).ok()?;
-    format!(in alloc; "{entity}.{attribute}").ok()
 }
 
 /// The line of a file that is accepted, by how many instances it has and how many bytes its canonical file.

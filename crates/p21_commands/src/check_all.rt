@@ -158,7 +158,7 @@ fn push_line(alloc: Global, refusal: Refusal, lines: &mut String) -> Result<(), 
 }
 
 /// How many refusals are listed, and whether a read failed, which isn't counted.
-fn count_of(list: &[Refusal]) -> (u64, bool)
+pub(crate) fn count_of(list: &[Refusal]) -> (u64, bool)
     ensures count { result.0 ≡ listed_count list.now }
     ensures unread { result.1 ≡ has_read_fault list.now }
 {
@@ -182,7 +182,7 @@ fn is_read(fault: Fault) -> bool
 }
 
 /// The line that counts the refusals.
-fn count_text(alloc: Global, count: u64, extent: Extent) -> Result<String, AllocError>
+pub(crate) fn count_text(alloc: Global, count: u64, extent: Extent) -> Result<String, AllocError>
     ensures { IfOk result (λ line. string_bytes line ≡ count_line count extent) }
 {
     match extent {

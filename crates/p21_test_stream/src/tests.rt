@@ -63,6 +63,7 @@ enum Rows {
     Readings(same::Readings),
     // Where refusals of texts in a frame stand.
     Places(Frame, places::Marked),
+    ListPlaces(Frame, places::MarkedLists),
 }
 
 /// What a row is called that doesn't hold, and its number, or that of its cut or its call: none where each row holds.
@@ -100,6 +101,7 @@ fn first_wrong_of(alloc: Global, schema: &Schema, rows: Rows) -> Wrong {
         }
         Rows::Readings(rows) => same::wrong_reading(alloc, schema, rows),
         Rows::Places(frame, rows) => places::wrong_place(alloc, schema, frame, rows),
+        Rows::ListPlaces(frame, rows) => places::wrong_list(alloc, schema, frame, rows),
     }
 }
 

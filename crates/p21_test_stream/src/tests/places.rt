@@ -1,7 +1,10 @@
 //! Where in a file refusals stand.
+use super::devices::Slow;
 use super::files::{DEMO, ENDED, Frame, HEADER, OPEN, SECTIONS, SHAPES, framed};
 use super::{Rows, Wrong, check};
-use p21_stream::{Limits, Place, Refusal, Schema, Session};
+use p21_stream::{
+    Limits, LocatedSurvey, Place, Refusal, Schema, Session, Surveyed, Watched, survey_located,
+};
 use std::alloc::{AllocError, Global};
 
 /// The number of a refusal, and a text with a `^` in front of the place where it stands.
@@ -73,6 +76,76 @@ pub(super) fn wrong_place(alloc: Global, schema: &Schema, frame: Frame, rows: Ma
     }
     None
 }
+
+/// Texts with a `^` in front of each place where a refusal of a list stands.
+pub(super) type MarkedLists = &'static [&'static [u8]];
+
+/// Whether refusals of a list stand at the marks of a text that comes behind so many bytes. A reference has no place.
+fn stand_at_marks(found: &LocatedSurvey, before: usize, marked: &[u8]) -> bool {
+    let Surveyed::Refused(refusals) = &found.found else {
+        return false;
+    };
+    let mut number = 0;
+    let mut byte = before as u64;
+    for letter in marked {
+        if *letter != b'^' {
+            byte += 1;
+            continue;
+        }
+        let Some(located) = found.located(number) else {
+            return false;
+        };
+        if located.place != Some(Place { byte })
+            || refusals.list.get(number) != Some(&located.refusal)
+        {
+            return false;
+        }
+        number += 1;
+    }
+    number == refusals.list.len()
+}
+
+/// Whether the refusals that a survey lists of a file stand at the marks, in whatever pieces it comes.
+fn list_stands(alloc: Global, schema: &Schema, frame: Frame, file: &[u8], marked: &[u8]) -> bool {
+    for most in [1, 2, 3, 7, 64, 65_536] {
+        let mut reader = Watched::new(Slow {
+            bytes: file,
+            most,
+            calls: usize::MAX,
+        });
+        let Ok(found) = survey_located(alloc, schema, Limits::usual(), u64::MAX, &mut reader) else {
+            return false;
+        };
+        if !stand_at_marks(&found, frame.before.len(), marked) {
+            return false;
+        }
+    }
+    true
+}
+
+/// The number of the first row of whose list a refusal stands elsewhere.
+pub(super) fn wrong_list(alloc: Global, schema: &Schema, frame: Frame, rows: MarkedLists) -> Wrong {
+    for (row, text) in rows.iter().enumerate() {
+        let Ok((plain, _)) = unmarked(alloc, text) else {
+            return Some(("memory", row));
+        };
+        let Some(file) = framed(alloc, frame, &plain) else {
+            return Some(("memory", row));
+        };
+        if !list_stands(alloc, schema, frame, &file, text) {
+            return Some(("a list", row));
+        }
+    }
+    None
+}
+
+const LISTS: MarkedLists = &[
+    b"#1=POINT(^5,1.,2.);#2=POINT($,^3,2.);\n#3=POINT($,1.,2.);#4=POINT($,1.,2.,^3.,4.);",
+    b"#1=POINT($,1.,2.);\n /* */ ^#1=POINT($,1.,2.);^#01 /**/ = POINT($,1,2);^#1=POINT($,1.,2.);#2=^SPHERE();^#2=SPHERE();",
+    b"#7=CLOUD((),((1.),(2.,^3,4.)),(TALLY(1)));#8=(MARKED(.RED.)POINT(1.,^2)SHAPE('a'));#9=(ORIGIN()POINT(^0.,2.)SHAPE($));",
+    b"#1=POINT($,1.,2.);#2=POINT($,1.,^'a b');#3=POINT('abc',1.,2.);#4=POINT('abc',1.,2.);^X",
+    b"#1=POINT($,1.,^2);^#1=POINT();#2=^POINTS();#3=POINT((^;",
+];
 
 const BYTES: Marked = &[
     (1, b"#1=^point();"),
@@ -231,4 +304,9 @@ fn says_where_statements_are_refused(rt: HostRuntime) {
     check(&rt, rt.alloc(), SHAPES, Rows::Places(SECTIONS, STATEMENTS));
     check(&rt, rt.alloc(), SHAPES, Rows::Places(DEMO, NAMES));
     check(&rt, rt.alloc(), SHAPES, Rows::Places(DEMO, RECORDS));
+}
+
+#[test]
+fn says_where_the_refusals_of_a_list_stand(rt: HostRuntime) {
+    check(&rt, rt.alloc(), SHAPES, Rows::ListPlaces(DEMO, LISTS));
 }

@@ -13,7 +13,8 @@ returns-clause-app c =
     let every = adds_argument c.in_ok-arg-2.field-0 c.in_ok-arg-3.field-0 c.all.result file c.all.ensures.rule c.all.ensures.local c.in_ok-arg-3.ensures in
     let some = adds_argument c.in_ok-arg-3.field-0 c.in_ok-arg-4.field-0 c.most.result every c.most.ensures.rule c.most.ensures.local c.in_ok-arg-4.ensures in
     let place = adds_argument c.in_ok-arg-4.field-0 c.in_ok-arg-5.field-0 c.place.result some c.place.ensures.rule c.place.ensures.local c.in_ok-arg-5.ensures in
-    IfOk-weaker _ _ _ (λ new. adds_argument c.in_ok-arg-5.field-0 new c.progress.result place c.progress.ensures.rule c.progress.ensures.local) c.arg-6.ensures
+    let form = adds_argument c.in_ok-arg-5.field-0 c.in_ok-arg-6.field-0 c.format.result place c.format.ensures.rule c.format.ensures.local c.in_ok-arg-6.ensures in
+    IfOk-weaker _ _ _ (λ new. adds_argument c.in_ok-arg-6.field-0 new c.progress.result form c.progress.ensures.rule c.progress.ensures.local) c.arg-7.ensures
 
 pub returns-clause-local : goal.returns-clause-local
 returns-clause-local c =
@@ -23,4 +24,5 @@ returns-clause-local c =
     let every = stays_local c.in_ok-arg-2.field-0 c.in_ok-arg-3.field-0 c.all.result file c.all.ensures.local c.in_ok-arg-3.ensures in
     let some = stays_local c.in_ok-arg-3.field-0 c.in_ok-arg-4.field-0 c.most.result every c.most.ensures.local c.in_ok-arg-4.ensures in
     let place = stays_local c.in_ok-arg-4.field-0 c.in_ok-arg-5.field-0 c.place.result some c.place.ensures.local c.in_ok-arg-5.ensures in
-    IfOk-weaker _ _ _ (λ new. stays_local c.in_ok-arg-5.field-0 new c.progress.result place c.progress.ensures.local) c.arg-6.ensures
+    let form = stays_local c.in_ok-arg-5.field-0 c.in_ok-arg-6.field-0 c.format.result place c.format.ensures.local c.in_ok-arg-6.ensures in
+    IfOk-weaker _ _ _ (λ new. stays_local c.in_ok-arg-6.field-0 new c.progress.result form c.progress.ensures.local) c.arg-7.ensures

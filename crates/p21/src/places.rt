@@ -1,0 +1,261 @@
+//! What is told of where refusals stand.
+ghost use Rattle.p21.specs.Statuses.{IsOfCommand};
+
+use crate::commands::most_given;
+use crate::input::STANDARD;
+use crate::lines::Lines;
+use crate::shown::Shown;
+use clap::ArgMatches;
+use p21_commands::{
+    Checks, CommandFault, Form, LineStarts, LocatedSurvey, Place, REFUSED, References, Telling,
+    Told, Unloaded, is_of_reference, report, schema_object,
+};
+use p21_stream_io::Watched;
+use std::alloc::AllocError;
+use std::fs::{self, File};
+use std::io::{Read, Write};
+
+/// The bytes that one read of a file that is read once more may give.
+const PIECE: usize = 65_536;
+
+/// What of the places of refusals is asked for.
+#[derive(Clone, Copy, PartialEq, Eq)]
+pub enum Asked {
+    /// None of them.
+    None,
+    /// The place of the first refusal of a file, behind its line.
+    Behind,
+    /// A line for the first refusal of a file, with its place, in this form.
+    First(Form),
+    /// A line for each of so many refusals, with its place, in this form.
+    Each(u64, Form),
+}
+
+/// What is asked for, or a word behind `--format` that names no form.
+pub fn asked_places<'a>(found: &ArgMatches<'a>) -> Result<Asked, &'a str> {
+    let form = match found.get_str("format") {
+        Some("jsonl") => Form::Json,
+        Some("text") => Form::Text,
+        Some(word) => return Err(word),
+        None => Form::Text,
+    };
+    let is_asked = found.get_flag("where") || form == Form::Json;
+    Ok(match most_given(found) {
+        Some(most) if is_asked => Asked::Each(most, form),
+        None if form == Form::Json => Asked::First(form),
+        None if is_asked => Asked::Behind,
+        _ => Asked::None,
+    })
+}
+
+/// Says that a word names no form. Where it can't be said, it isn't.
+pub fn tell_no_form(rt: &HostRuntime, word: &str) {
+    let word = Shown(word);
+    let _ = eprintln!(rt; "error: no form '{word}': jsonl and text are known");
+}
+
+/// Says why there is no schema to check by, and where its text is refused. Answers the status.
+pub fn tell_unloaded<F: Write>(
+    rt: &HostRuntime,
+    asked: Asked,
+    path: &str,
+    unloaded: &Unloaded,
+    faults: &mut Watched<F>,
+) -> u8
+    ensures { IsOfCommand result }
+{
+    let is_json = matches!(asked, Asked::First(Form::Json) | Asked::Each(_, Form::Json));
+    match unloaded.refused {
+        Some(refused) if is_json => {
+            match schema_object(rt.alloc(), path, refused, unloaded.place) {
+                Ok(line) => report(&CommandFault::Refused(line), faults),
+                Err(AllocError) => report(&CommandFault::NoMemory, faults),
+            }
+        }
+        _ => {
+            let status = report(&unloaded.fault, faults);
+            if let Some((_, position)) = unloaded.place {
+                let path = Shown(path);
+                let _ = eprintln!(rt; "{path}:{}:{}", position.line, position.column);
+            }
+            status
+        }
+    }
+}
+
+/// Says behind the line of a refusal where it stands, if lines are kept. Where it can't be said, it isn't.
+fn tell_place(rt: &HostRuntime, path: &str, told: Told, lines: &LineStarts) {
+    if told.status != REFUSED {
+        return;
+    }
+    let Some(place) = told.place else { return };
+    let Some(position) = lines.position(place.byte) else {
+        return;
+    };
+    let path = Shown(path);
+    let (line, column) = (position.line, position.column);
+    let _ = match told.attribute {
+        Some(attribute) => eprintln!(rt; "{path}:{line}:{column}: {attribute}"),
+        None => eprintln!(rt; "{path}:{line}:{column}"),
+    };
+}
+
+/// A file that is told of: its path, and whether it is one of several.
+#[derive(Clone, Copy)]
+pub struct ToldOf<'a> {
+    pub path: &'a str,
+    pub is_named: bool,
+}
+
+/// Reads a file and writes what is asked for of its refusals. Answers its status, and the reader.
+pub fn tell_places<R: Read, W: Write, F: Write>(
+    rt: &HostRuntime,
+    checks: &mut Checks,
+    asked: Asked,
+    name: ToldOf<'_>,
+    file: Watched<Lines<R>>,
+    output: &mut Watched<W>,
+    faults: &mut Watched<F>,
+) -> (u8, Lines<R>)
+    ensures { IsOfCommand result.0 }
+{
+    match asked {
+        Asked::None => tell_line(rt, checks, name, file, output, faults),
+        Asked::Behind => tell_line(rt, checks, name, file, output, faults),
+        Asked::First(form) => tell_first(rt, checks, form, name, file, output, faults),
+        Asked::Each(most, form) => tell_each(rt, checks, most, form, name, file, output, faults),
+    }
+}
+
+/// Reads a file and writes the line of `check`, and where the refusal stands if lines are kept. Answers its status, and the reader.
+fn tell_line<R: Read, W: Write, F: Write>(
+    rt: &HostRuntime,
+    checks: &mut Checks,
+    name: ToldOf<'_>,
+    mut file: Watched<Lines<R>>,
+    output: &mut Watched<W>,
+    faults: &mut Watched<F>,
+) -> (u8, Lines<R>)
+    ensures { IsOfCommand result.0 }
+{
+    let mut told = checks.check_located(rt.alloc(), &mut file, output, faults);
+    let status = told.status;
+    let lines = file.into_inner();
+    if told.is_of_reference {
+        told.place = place_of_reference(rt, checks, name.path);
+    }
+    tell_place(rt, name.path, told, lines.starts());
+    (status, lines)
+}
+
+/// Reads a file and writes a line for its first refusal, in this form. Answers its status, and the reader.
+fn tell_first<R: Read, W: Write, F: Write>(
+    rt: &HostRuntime,
+    checks: &mut Checks,
+    form: Form,
+    name: ToldOf<'_>,
+    mut file: Watched<Lines<R>>,
+    output: &mut Watched<W>,
+    faults: &mut Watched<F>,
+) -> (u8, Lines<R>)
+    ensures { IsOfCommand result.0 }
+{
+    let alloc = rt.alloc();
+    let mut found = checks.find(alloc, &mut file);
+    let lines = file.into_inner();
+    if let Err(located) = &mut found {
+        if is_of_reference(located.refusal.fault) {
+            located.place = place_of_reference(rt, checks, name.path);
+        }
+    }
+    let Ok(shown) = format!(in alloc; "{}", Shown(name.path)) else {
+        return (checks.tell_no_memory(faults), lines);
+    };
+    let references = References::none(alloc);
+    let telling = Telling {
+        path: name.path,
+        shown: &shown,
+        lines: lines.starts(),
+        references: &references,
+        form,
+        is_named: name.is_named,
+    };
+    let status = checks.tell_found(alloc, found, &telling, output, faults);
+    (status, lines)
+}
+
+/// Reads a file and writes a line for each of so many refusals, in this form. Answers its status, and the reader.
+fn tell_each<R: Read, W: Write, F: Write>(
+    rt: &HostRuntime,
+    checks: &mut Checks,
+    most: u64,
+    form: Form,
+    name: ToldOf<'_>,
+    mut file: Watched<Lines<R>>,
+    output: &mut Watched<W>,
+    faults: &mut Watched<F>,
+) -> (u8, Lines<R>)
+    ensures { IsOfCommand result.0 }
+{
+    let alloc = rt.alloc();
+    let found = checks.survey(alloc, &mut file, most);
+    let lines = file.into_inner();
+    let Ok(found) = found else {
+        return (checks.tell_no_memory(faults), lines);
+    };
+    let Ok(shown) = format!(in alloc; "{}", Shown(name.path)) else {
+        return (checks.tell_no_memory(faults), lines);
+    };
+    let references = references_of(rt, &found, name.path);
+    let telling = Telling {
+        path: name.path,
+        shown: &shown,
+        lines: lines.starts(),
+        references: &references,
+        form,
+        is_named: name.is_named,
+    };
+    let status = checks.tell_survey(alloc, &found, &telling, output, faults);
+    (status, lines)
+}
+
+/// Where the first reference of a file stands that is refused. None where the file can't be read once more.
+fn place_of_reference(rt: &HostRuntime, checks: &Checks, path: &str) -> Option<Place> {
+    let mut file = Watched::new(again(rt, path)?);
+    let found = checks.survey(rt.alloc(), &mut file, 1).ok()?;
+    references_of(rt, &found, path).place(0)
+}
+
+/// Where the references of a file stand that are refused, as far as the file can be read once more.
+fn references_of(rt: &HostRuntime, found: &LocatedSurvey, path: &str) -> References {
+    let Ok(mut references) = References::of(rt.alloc(), found) else {
+        return References::none(rt.alloc());
+    };
+    if references.is_empty() {
+        return references;
+    }
+    if let Some(file) = again(rt, path) {
+        take_all(file, &mut references);
+    }
+    references
+}
+
+/// Opens a file once more. Standard input can't be, and a file that can't be opened again gives no places.
+fn again(rt: &HostRuntime, path: &str) -> Option<File> {
+    if path == STANDARD {
+        return None;
+    }
+    fs::open(rt, path).ok()
+}
+
+/// Has references looked for in all that a file gives.
+fn take_all(mut file: File, references: &mut References) {
+    let mut piece = [0; PIECE];
+    for _ in 0..u64::MAX {
+        match file.read(&mut piece) {
+            Ok(0) => return,
+            Ok(count) => references.take(&piece[..count]),
+            Err(_) => return,
+        }
+    }
+}

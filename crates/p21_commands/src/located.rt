@@ -1,0 +1,168 @@
+//! What is written of a file, with where each of its refusals stands.
+ghost use Rattle.std.specs.Prelude.{◌≡◌, ◌⊎◌, ◌++◌, IfOk, List, [], string_bytes, ℕ};
+ghost use Rattle.p21_commands.specs.CheckAll.{count_line};
+ghost use Rattle.p21_commands.specs.Checks.{IsOfCheck};
+ghost use Rattle.p21_commands.specs.Refusals.{IsFaultOf};
+ghost use Rattle.p21_commands.specs.Streams.{stream_of};
+ghost use Rattle.p21_commands.specs.Tells.{IsToldBy, TellsAccepted, TellsFound, TellsSurvey, WritesLines, WritesRefused};
+ghost use Rattle.p21_commands.specs.declared.fault.CommandFault.{CommandFault as MeantFault};
+ghost use Rattle.p21_commands.specs.declared.telling.Form.TheVariants.{Text};
+
+use crate::answer::answer;
+use crate::check::answer_line_of;
+use crate::check_all::{count_of, count_text};
+use crate::fault::{CommandFault, report};
+use crate::file_fault::fault_of;
+use crate::status::FAILED;
+use crate::telling::{Form, Telling, push_end, push_front, push_line, survey_lines};
+use crate::transfer::write_whole;
+use p21_express_tables::Schema;
+use p21_stream::{Counted, Extent, Located, LocatedSurvey, Refusal, Refusals, Surveyed, Watched};
+use std::alloc::{AllocError, Global};
+use std::io::Write;
+
+/// Writes the line of a file that is accepted, or that of its refusal.
+pub(crate) fn write_found<W: Write, F: Write>(
+    alloc: Global,
+    schema: &Schema,
+    found: Result<Counted, Located>,
+    telling: &Telling<'_>,
+    output: &mut Watched<W>,
+    faults: &mut Watched<F>,
+) -> u8
+    ensures status { IsOfCheck result }
+    ensures tells { TellsFound found (stream_of W.contents output.old output.new) (stream_of F.contents faults.old faults.new) result }
+{
+    match found {
+        Ok(counted) => write_accepted(alloc, counted.instances, counted.bytes, output, faults),
+        Err(located) => report(&fault_located(alloc, schema, &located, telling), faults),
+    }
+}
+
+/// What is answered to a refusal: as `check` has it, but for the line of one that has a number.
+fn fault_located(
+    alloc: Global,
+    schema: &Schema,
+    located: &Located,
+    telling: &Telling<'_>,
+) -> CommandFault
+    ensures { (fault : MeantFault) × IsFaultOf [] located.now.refusal fault × IsToldBy fault result }
+{
+    let refusal = Refusal {
+        fault: located.refusal.fault,
+        at: located.refusal.at,
+    };
+    match fault_of(alloc, "", refusal) {
+        CommandFault::Refused(_) => own_line(alloc, schema, located, telling),
+        CommandFault::NoMemory => CommandFault::NoMemory,
+        CommandFault::Read => CommandFault::Read,
+        CommandFault::Write => CommandFault::Write,
+    }
+}
+
+/// The line of a refusal with its place, or want of memory for it.
+fn own_line(
+    alloc: Global,
+    schema: &Schema,
+    located: &Located,
+    telling: &Telling<'_>,
+) -> CommandFault
+    ensures { ((line : _) × (result ≡ CommandFault.Refused line)) ⊎ (result ≡ CommandFault.NoMemory) }
+{
+    let mut line = String::new(alloc);
+    match push_line(alloc, schema, located, located.place, telling, &mut line) {
+        Ok(()) => CommandFault::Refused(line),
+        Err(AllocError) => CommandFault::NoMemory,
+    }
+}
+
+/// Writes the line of a file that is accepted, or a line for each refusal and one that counts them.
+pub(crate) fn write_survey<W: Write, F: Write>(
+    alloc: Global,
+    schema: &Schema,
+    found: &LocatedSurvey,
+    telling: &Telling<'_>,
+    output: &mut Watched<W>,
+    faults: &mut Watched<F>,
+) -> u8
+    ensures status { IsOfCheck result }
+    ensures tells { TellsSurvey telling.now.form found.now.found (stream_of W.contents output.old output.new) (stream_of F.contents faults.old faults.new) result }
+{
+    match &found.found {
+        Surveyed::Accepted(accepted) => {
+            write_accepted(alloc, accepted.count(), accepted.len(), output, faults)
+        }
+        Surveyed::Refused(refusals) => {
+            tell_refused(alloc, schema, found, refusals, telling, faults)
+        }
+    }
+}
+
+/// Writes a line for each refusal, and one that counts them.
+fn tell_refused<F: Write>(
+    alloc: Global,
+    schema: &Schema,
+    found: &LocatedSurvey,
+    refusals: &Refusals,
+    telling: &Telling<'_>,
+    faults: &mut Watched<F>,
+) -> u8
+    ensures { WritesRefused telling.now.form refusals.now (stream_of F.contents faults.old faults.new) result }
+{
+    let (count, is_unread) = count_of(&refusals.list);
+    match refused_lines(alloc, schema, found, count, refusals.extent, telling) {
+        Ok(lines) => write_refused(lines, is_unread, faults),
+        Err(AllocError) => report(&CommandFault::NoMemory, faults),
+    }
+}
+
+/// Writes the line of a file that is accepted.
+fn write_accepted<W: Write, F: Write>(
+    alloc: Global,
+    instances: u64,
+    bytes: u64,
+    output: &mut Watched<W>,
+    faults: &mut Watched<F>,
+) -> u8
+    ensures status { IsOfCheck result }
+    ensures tells { TellsAccepted instances bytes (stream_of W.contents output.old output.new) (stream_of F.contents faults.old faults.new) result }
+{
+    match answer_line_of(alloc, instances, bytes) {
+        Ok(line) => answer(line.as_bytes(), output, faults),
+        Err(AllocError) => report(&CommandFault::NoMemory, faults),
+    }
+}
+
+/// Writes the lines of refusals.
+fn write_refused<F: Write>(lines: String, is_unread: bool, faults: &mut Watched<F>) -> u8
+    ensures { WritesLines (string_bytes lines) is_unread (stream_of F.contents faults.old faults.new) result }
+{
+    if is_unread {
+        // The status is the same where the lines can't be written.
+        let _ = write_whole(faults, lines.as_bytes());
+        return FAILED;
+    }
+    report(&CommandFault::Refused(lines), faults)
+}
+
+/// A line for each refusal, and one that counts them.
+fn refused_lines(
+    alloc: Global,
+    schema: &Schema,
+    found: &LocatedSurvey,
+    count: u64,
+    extent: Extent,
+    telling: &Telling<'_>,
+) -> Result<String, AllocError>
+    ensures { telling.now.form ≡ Text → IfOk result (λ lines. (front : List ℕ) × (string_bytes lines ≡ front ++ count_line count extent)) }
+{
+    let mut lines = survey_lines(alloc, schema, found, telling)?;
+    match telling.form {
+        Form::Text => {
+            push_front(telling, &mut lines)?;
+            lines.push_str(&count_text(alloc, count, extent)?)?;
+        }
+        Form::Json => push_end(alloc, count, extent, telling, &mut lines)?,
+    }
+    Ok(lines)
+}
