@@ -2,7 +2,7 @@
 ghost use Rattle.std.specs.Prelude.{IfErr, IfOk};
 ghost use Rattle.p21.specs.Statuses.{IsOfCommand, IsUnopened};
 
-use crate::commands::{Stopped, given, most_given, with_progress};
+use crate::commands::{Stopped, details_given, given, most_given, with_progress};
 use crate::input::{Inputs, Kept, Source};
 use crate::named::Named;
 use crate::notes::{
@@ -126,7 +126,9 @@ impl Task<'_> {
                 Some(most) => checks.check_all(alloc, file, most, output, faults),
                 None => checks.check(alloc, file, output, faults),
             },
-            Task::Syntax(checks) => checks.check(alloc, file, output, faults),
+            Task::Syntax(checks) => {
+                checks.check(alloc, file, details_given(found), output, faults)
+            }
         }
     }
 
