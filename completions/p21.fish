@@ -12,6 +12,8 @@ complete -c p21 -f -n __fish_use_subcommand -a help -d 'Print this message or th
 complete -c p21 -n __fish_use_subcommand -l help -d 'Print help'
 complete -c p21 -n __fish_use_subcommand -l version -d 'Print version'
 complete -c p21 -n '__fish_seen_subcommand_from param' -l help -d 'Print help'
+complete -c p21 -n '__fish_seen_subcommand_from syntax' -l header -d 'Says what the header says, a line for each text of it'
+complete -c p21 -n '__fish_seen_subcommand_from syntax' -l count -d 'Says which keywords the instances have, and how often, a line for each keyword'
 complete -c p21 -n '__fish_seen_subcommand_from syntax' -l progress -d 'Says on a terminal how much of a file is read, a line for each 64 MiB'
 complete -c p21 -n '__fish_seen_subcommand_from syntax' -l help -d 'Print help'
 complete -c p21 -n '__fish_seen_subcommand_from schema' -l help -d 'Print help'

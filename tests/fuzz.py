@@ -69,7 +69,7 @@ class Program:
 # A line behind those of a command, about a file that it was given.
 NOTE = re.compile("^note: .*\n", re.M)
 # The words of a command that is not its own word.
-WORDS = {"check_all": ["check", "--all"]}
+WORDS = {"check_all": ["check", "--all"], "syntax_told": ["syntax", "--header", "--count"]}
 
 
 def names_of(command):
@@ -78,6 +78,7 @@ def names_of(command):
         "param": ["parameter.txt"],
         "schema": ["schema.exp"],
         "syntax": ["file.step"],
+        "syntax_told": ["file.step"],
         "same": ["schema.exp", "first.step", "second.step"],
     }.get(command, ["schema.exp", "file.step"])
 
@@ -160,7 +161,7 @@ class Cases:
             text = mutate.inside(chance, text) if chance.random() < 0.5 else mutate.file(chance, text)
         if chance.random() < 0.1:
             text = text[: chance.randrange(len(text) + 1)]
-        return "syntax", [text], []
+        return chance.choice(["syntax", "syntax_told"]), [text], []
 
     def same(self, chance):
         """Two files: one spelled twice, two of one schema, or one of which something is changed."""

@@ -531,6 +531,96 @@ $here/other: well formed, instances 2, schema DEMO" ''
 run syntax
 expect 'nothing by itself' 2 '' '*FILE*'
 
+# What is told of files by themselves.
+run syntax --header "$here/point"
+expect 'a header in words' 0 'well formed, instances 1, schema DEMO
+description:
+implementation level: 2;1
+file name:
+time stamp:
+author:
+organization:
+preprocessor version:
+originating system:
+authorization:
+schema: DEMO' ''
+
+run syntax --count "$here/other"
+expect 'the keywords of a file' 0 'well formed, instances 2, schema DEMO
+A 1
+B 1
+NO 1' ''
+
+run syntax --count --header examples/product.step
+expect 'header and keywords' 0 'well formed, instances 128, schema PRODUCT_MODEL
+description: A block with six faces
+implementation level: 2;1
+file name: block.step
+time stamp: 2024-03-15T10:30:00
+author: Edda Krüger
+organization: Block works
+preprocessor version: written by hand
+originating system:
+authorization: none
+schema: PRODUCT_MODEL
+ADVANCED_FACE 6
+AXIS2_PLACEMENT_3D 7
+CALENDAR_DATE 1
+CARTESIAN_POINT 8
+CLOSED_SHELL 1
+COLOUR_RGB 2
+CONVERSION_BASED_UNIT 1
+DIMENSIONAL_EXPONENTS 2
+DIRECTION 6
+EDGE_CURVE 12
+EDGE_LOOP 6
+FACE_OUTER_BOUND 6
+GEOMETRIC_REPRESENTATION_CONTEXT 1
+GLOBAL_UNIT_ASSIGNED_CONTEXT 1
+LENGTH_UNIT 1
+LINE 12
+MANIFOLD_SOLID_BREP 1
+MEASURE_WITH_UNIT 1
+NAMED_UNIT 3
+ORGANIZATION 2
+ORIENTED_EDGE 24
+PERSON 2
+PERSON_AND_ORGANIZATION 2
+PLANE 6
+PLANE_ANGLE_UNIT 2
+PRODUCT 1
+PRODUCT_DEFINITION 1
+REPRESENTATION_CONTEXT 1
+SHAPE_DEFINITION_REPRESENTATION 1
+SHAPE_REPRESENTATION 1
+SI_UNIT 2
+STYLED_ITEM 2
+VECTOR 3
+VERTEX_POINT 8' ''
+
+run syntax --header --count "$here/several"
+expect 'a refused file of which all is to be told' 1 '' 'refused 40 DuplicateName in #1'
+
+file '#2 = POINT($, 1.0, 10.E-1);' | sed "s/FILE_NAME.*/FILE_NAME(\$,\$,('\\\\X\\\\1B[31m',\$),\$,\$,\$,\$);/" > "$here/coloured"
+run syntax --header "$here/coloured" "$here/twice" "$here/none"
+expect 'several files with their headers' 3 "$here/coloured: well formed, instances 1, schema DEMO
+$here/coloured: description:
+$here/coloured: implementation level: 2;1
+$here/coloured: author: \\X2\\001B\\X0\\[31m
+$here/coloured: schema: DEMO" "$here/twice: refused 40 DuplicateName in #1
+$gone"
+
+fed "$here/other" syntax --count "$here/point" -
+expect 'several files with their keywords, one of them standard input' 0 "$here/point: well formed, instances 1, schema DEMO
+$here/point: POINT 1
+-: well formed, instances 2, schema DEMO
+-: A 1
+-: B 1
+-: NO 1" ''
+
+run check --header "$demo" "$here/point"
+expect 'a header in words of another command' 2 '' '*--header*'
+
 # The large run: 100,000 points.
 file "$(seq 100000 | sed 's/.*/#&=POINT($,1.,1.);/')" > "$here/large"
 run check "$demo" "$here/large"
@@ -751,6 +841,10 @@ if [ -w /dev/full ]; then
     "$program" param "$here/real" > /dev/full 2> "$here/error"
     status=$?
     expect 'an answer that cannot be written' 3 '' 'write fault'
+
+    "$program" syntax --header --count "$here/point" > /dev/full 2> "$here/error"
+    status=$?
+    expect 'no room for what a file says of itself' 3 '' 'write fault'
 
     "$program" canon "$demo" "$here/point" > /dev/full 2> "$here/error"
     status=$?

@@ -1132,8 +1132,70 @@ SECTIONS_ALONE = [
 ]
 
 
+# What every header below says of the rest of the file.
+PLAIN_NAME = "file name:\ntime stamp:\nauthor:\norganization:\npreprocessor version:\noriginating system:\nauthorization:\n"
+PLAIN_DESCRIPTION = "description:\nimplementation level: 2;1\n"
+# The records of a header with FILE_SCHEMA left out, what stands behind it, the instances, and what `p21 syntax --header --count`
+# answers of the file behind its first line.
+TOLD = [
+    (f"{FILE_DESCRIPTION}{FILE_NAME}", "", "", f"{PLAIN_DESCRIPTION}{PLAIN_NAME}schema: DEMO\n"),
+    (
+        f"FILE_DESCRIPTION(('a','','b, c'),'3;1');{FILE_NAME}",
+        "",
+        "",
+        f"description: a\ndescription:\ndescription: b, c\nimplementation level: 3;1\n{PLAIN_NAME}schema: DEMO\n",
+    ),
+    (
+        f"{FILE_DESCRIPTION}FILE_NAME('part.stp','2026-11-30T09:00:00+01:00',('A','B'),('C'),'writer 1','system 2','D');",
+        "",
+        "",
+        f"{PLAIN_DESCRIPTION}file name: part.stp\ntime stamp: 2026-11-30T09:00:00+01:00\nauthor: A\nauthor: B\norganization: C\n"
+        "preprocessor version: writer 1\noriginating system: system 2\nauthorization: D\nschema: DEMO\n",
+    ),
+    # `$` and an empty list say nothing.
+    ("FILE_DESCRIPTION($,$);FILE_NAME($,$,$,$,$,$,$);", "", "", "schema: DEMO\n"),
+    ("FILE_DESCRIPTION((),'2');FILE_NAME($,'t',(),($,'o',$),$,$,$);", "", "", "implementation level: 2\ntime stamp: t\norganization: o\nschema: DEMO\n"),
+    # Strings are decoded, and what a line or a terminal doesn't show stands as its directive.
+    (
+        rf"{FILE_DESCRIPTION}FILE_NAME('it''s \\n \X2\00FC\X0\\S\|','\X4\0001F600\X0\',('\X\0A\X\0D\X\09','\X\00\X\1B\X\1F','\X\7F\X\80\X\9F'),"
+        r"('\X\7E\X\A0\X\AD'),'\X2\061B061C061D\X0\','\X2\200D200E200F2010\X0\','\X2\20272028202E202F\X0\');",
+        "",
+        "",
+        f"{PLAIN_DESCRIPTION}file name: it's \\n \u00fc\u00fc\ntime stamp: \U0001f600\nauthor: \\X2\\000A\\X0\\\\X2\\000D\\X0\\\\X2\\0009\\X0\\\nauthor: \\X2\\0000\\X0\\\\X2\\001B\\X0\\\\X2\\001F\\X0\\\n"
+        "author: \\X2\\007F\\X0\\\\X2\\0080\\X0\\\\X2\\009F\\X0\\\norganization: ~\u00a0\u00ad\npreprocessor version: \u061b\\X2\\061C\\X0\\\u061d\n"
+        "originating system: \u200d\\X2\\200E\\X0\\\\X2\\200F\\X0\\\u2010\nauthorization: \u2027\\X2\\2028\\X0\\\\X2\\202E\\X0\\\u202f\nschema: DEMO\n",
+    ),
+    (
+        rf"FILE_DESCRIPTION(('\X2\20652066\X0\'),'\X2\2069206A\X0\');{FILE_NAME}",
+        "",
+        "",
+        f"description: \u2065\\X2\\2066\\X0\\\nimplementation level: \\X2\\2069\\X0\\\u206a\n{PLAIN_NAME}schema: DEMO\n",
+    ),
+    # Of a further record the keyword is told alone.
+    (
+        f"{FILE_DESCRIPTION}{FILE_NAME}",
+        "FILE_POPULATION('DEMO','x',$);!FILE_NAME('y');A();",
+        "",
+        f"{PLAIN_DESCRIPTION}{PLAIN_NAME}schema: DEMO\nfurther record: FILE_POPULATION\nfurther record: !FILE_NAME\nfurther record: A\n",
+    ),
+    # Keywords by their bytes: digits stand in front of letters, and `_` behind them. Each part of a record counts by itself.
+    (
+        "FILE_DESCRIPTION($,$);FILE_NAME($,$,$,$,$,$,$);",
+        "",
+        "#1=B_A();#2=BA();#3=B2();#4=B();#5=(B()A(C(D(1)))B());#6=B(#5);",
+        "schema: DEMO\nA 1\nB 4\nB2 1\nBA 1\nB_A 1\n",
+    ),
+]
+
+
 def of_files_alone():
     """Files by themselves, and one that is cut off in front of its last `;`."""
+    for records, further, instances, lines in TOLD:
+        count = instances.count("=")
+        text = f"ISO-10303-21;HEADER;{records}{FILE_SCHEMA}{further}ENDSEC;DATA;{instances}ENDSEC;{END}"
+        answer = f"well formed, instances {count}, schema DEMO\n{lines}"
+        yield Case(f"syntax, {records}{further} {instances}", "syntax_told", [text], answered(answer, is_file=True))
+    yield Case("syntax, refused with all flags", "syntax_told", [file_of("DEMO", "#1=A(#2);")], answered("refused 56 Dangling in #1"))
     for schema, instances, answer in ALONE:
         yield Case(f"syntax, {schema} {instances}", "syntax", [file_of(schema, instances)], answered(answer))
     for sections, answer in SECTIONS_ALONE:

@@ -5,7 +5,7 @@ from .files import read_file, survey_file
 from .limits import USUAL
 from .refusal import Refused, RefusedFile, RefusedSchema
 from .schema import read_schema
-from .syntax import read_alone
+from .syntax import header_lines, keyword_lines, read_alone
 from .tokens import canonical_param
 
 
@@ -39,13 +39,22 @@ def param(text):
         return refused(refusal)
 
 
-def syntax(file, limits=USUAL):
-    """How many instances a file has that is well formed by itself, and which schema it names."""
+def syntax(file, limits=USUAL, header=False, count=False):
+    """How many instances a file has that is well formed by itself, and which schema it names; and, where these are asked for, what
+    its header says, and how often each keyword stands."""
     try:
         alone = read_alone(file, limits)
     except RefusedFile as refusal:
         return refused(refusal)
-    return answered(f"well formed, instances {len(alone.names)}, schema {alone.schema}")
+    lines = [f"well formed, instances {len(alone.names)}, schema {alone.schema}"]
+    lines += header_lines(alone.header) if header else []
+    lines += keyword_lines(alone.keywords) if count else []
+    return answered(*lines)
+
+
+def syntax_told(file):
+    """All that is told of a file by itself."""
+    return syntax(file, header=True, count=True)
 
 
 @of_files

@@ -28,6 +28,9 @@ def arguments():
             command_line.add_argument(name, type=pathlib.Path)
         if command == "show":
             command_line.add_argument("--name", type=int, required=True)
+        if command == "syntax":
+            command_line.add_argument("--header", action="store_true")
+            command_line.add_argument("--count", action="store_true")
         if command == "check":
             command_line.add_argument("--all", action="store_true")
             command_line.add_argument("--most", type=int)
@@ -42,8 +45,9 @@ def main():
     every, most = given.pop("all", False), given.pop("most", None)
     if every or most is not None:
         command, option = "check_all", most
+    flags = {name: given.pop(name) for name in ("header", "count") if name in given}
     texts = [path.read_bytes() for path in given.values()]
-    output, error, status = getattr(commands, command)(*texts, *([] if option is None else [option]))
+    output, error, status = getattr(commands, command)(*texts, *([] if option is None else [option]), **flags)
     sys.stdout.write(output)
     sys.stderr.write(error)
     return status

@@ -16,7 +16,7 @@ use crate::several::{check_several, syntax_several};
 use clap::ArgMatches;
 use p21_command_line::LIST;
 use p21_commands::{
-    Checks, CommandFault, DONE, FAILED, canon_command, check_all_command, check_command,
+    Checks, CommandFault, DONE, Details, FAILED, canon_command, check_all_command, check_command,
     param_command, report, same_command, schema_command, show_command, syntax_command,
 };
 use p21_stream_io::Watched;
@@ -116,7 +116,7 @@ fn run_schema<'a>(rt: &HostRuntime, found: &ArgMatches<'a>) -> Result<u8, Stoppe
     Ok(status)
 }
 
-/// `syntax FILE.. [--progress]`.
+/// `syntax FILE.. [--header] [--count] [--progress]`.
 fn run_syntax<'a>(rt: &HostRuntime, found: &ArgMatches<'a>) -> Result<u8, Stopped<'a>>
     ensures ran { IfOk result IsOfCommand }
     ensures unopened { IfErr result IsUnopened }
@@ -141,11 +141,20 @@ fn syntax_one<'a>(
     let mut file = Watched::new(with_progress(rt, found, path, inputs.open(rt, path)?));
     let mut output = Watched::new(rt.stdout());
     let mut faults = Watched::new(rt.stderr());
-    let status = syntax_command(rt.alloc(), &mut file, &mut output, &mut faults);
+    let details = details_given(found);
+    let status = syntax_command(rt.alloc(), &mut file, details, &mut output, &mut faults);
     let read = file.into_inner().into_inner();
     let file = Given::new(path, Wanted::Exchange, &read);
     note_given(rt, status, "syntax", &[file], "");
     Ok(status)
+}
+
+/// What `syntax` is asked to tell of a file behind its line.
+pub fn details_given(found: &ArgMatches<'_>) -> Details {
+    Details {
+        header: found.get_flag("header"),
+        count: found.get_flag("count"),
+    }
 }
 
 /// `check S FILE.. [--all] [--most N] [--where] [--format FORM] [--progress]`.

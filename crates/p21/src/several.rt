@@ -2,7 +2,7 @@
 ghost use Rattle.std.specs.Prelude.{IfErr, IfOk};
 ghost use Rattle.p21.specs.Statuses.{IsOfCommand, IsUnopened};
 
-use crate::commands::{Stopped, given, most_given, with_progress};
+use crate::commands::{Stopped, details_given, given, most_given, with_progress};
 use crate::input::{Inputs, Kept, Source};
 use crate::lines::Lines;
 use crate::named::Named;
@@ -170,7 +170,9 @@ impl Task<'_> {
                     return tell_places(rt, checks, asked, name, file, output, plain);
                 }
             },
-            Task::Syntax(checks) => checks.check(rt.alloc(), &mut file, output, faults),
+            Task::Syntax(checks) => {
+                checks.check(rt.alloc(), &mut file, details_given(found), output, faults)
+            }
         };
         (status, file.into_inner())
     }

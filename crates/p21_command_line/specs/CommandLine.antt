@@ -50,6 +50,14 @@ where_rule = record (new_rule (codes "where")) { action = Some SetTrue; long = S
 abbrev pub format_rule : Rule
 format_rule = record (new_rule (codes "format")) { action = Some Set; long = Some (codes "format"); value_names = 1 }
 
+-- `--header`
+abbrev pub header_rule : Rule
+header_rule = record (new_rule (codes "header")) { action = Some SetTrue; long = Some (codes "header") }
+
+-- `--count`
+abbrev pub count_rule : Rule
+count_rule = record (new_rule (codes "count")) { action = Some SetTrue; long = Some (codes "count") }
+
 -- `param FILE`
 abbrev pub param_app : App
 param_app = with_rule (new_app (codes "param")) (given_rule (codes "FILE"))
@@ -58,9 +66,9 @@ param_app = with_rule (new_app (codes "param")) (given_rule (codes "FILE"))
 abbrev pub schema_app : App
 schema_app = with_rule (new_app (codes "schema")) (given_rule (codes "S"))
 
--- `syntax FILE.. [--progress]`
+-- `syntax FILE.. [--header] [--count] [--progress]`
 abbrev pub syntax_app : App
-syntax_app = with_rule (with_rule (new_app (codes "syntax")) files_rule) progress_rule
+syntax_app = with_rule (with_rule (with_rule (with_rule (new_app (codes "syntax")) files_rule) header_rule) count_rule) progress_rule
 
 -- a command on a schema and a file
 abbrev pub file_app : Text → App

@@ -6,7 +6,7 @@ ghost use Rattle.std.specs.Prelude.{◌≡◌, IfOk, codes, false};
 ghost use Rattle.clap.specs.Words.{app_of, rule_of};
 ghost use Rattle.clap.specs.declared.builder.command.Command.TheViews.{out-Command as fields_of};
 ghost use Rattle.p21_command_line.specs.CommandLine.{all_rule, app_without_commands, canon_app, check_app, faults_app, files_rule, format_rule, given_rule, most_rule, name_rule, optional_rule, param_app, progress_rule};
-ghost use Rattle.p21_command_line.specs.CommandLine.{program_app, same_app, schema_app, show_app, syntax_app, where_rule};
+ghost use Rattle.p21_command_line.specs.CommandLine.{count_rule, header_rule, program_app, same_app, schema_app, show_app, syntax_app, where_rule};
 
 use crate::{help, refusals};
 use clap::{Arg, ArgAction, Command, value_parser};
@@ -66,7 +66,7 @@ fn schema<'a>(alloc: Global) -> Result<Command<'a>, AllocError>
         .arg(schema_path(alloc))
 }
 
-/// `syntax FILE.. [--progress]`.
+/// `syntax FILE.. [--header] [--count] [--progress]`.
 fn syntax<'a>(alloc: Global) -> Result<Command<'a>, AllocError>
     ensures app { IfOk result (λ command. app_of command ≡ syntax_app) }
     ensures local { IfOk result (λ command. (fields_of command).has_globals ≡ false) }
@@ -75,6 +75,8 @@ fn syntax<'a>(alloc: Global) -> Result<Command<'a>, AllocError>
         .about("Says whether files are well formed, without a schema")
         .after_help(help::SYNTAX)
         .arg(file_paths(alloc))?
+        .arg(header(alloc))?
+        .arg(count(alloc))?
         .arg(progress(alloc))
 }
 
@@ -238,6 +240,28 @@ fn format<'a>(alloc: Global) -> Arg<'a>
         .long("format")
         .value_name("FORM")
         .action(ArgAction::Set)
+}
+
+/// `--header`.
+fn header<'a>(alloc: Global) -> Arg<'a>
+    ensures rule { rule_of result ≡ header_rule }
+    ensures local { result.global ≡ false }
+{
+    Arg::new(alloc, "header")
+        .help("Says what the header says, a line for each text of it")
+        .long("header")
+        .action(ArgAction::SetTrue)
+}
+
+/// `--count`.
+fn count<'a>(alloc: Global) -> Arg<'a>
+    ensures rule { rule_of result ≡ count_rule }
+    ensures local { result.global ≡ false }
+{
+    Arg::new(alloc, "count")
+        .help("Says which keywords the instances have, and how often, a line for each keyword")
+        .long("count")
+        .action(ArgAction::SetTrue)
 }
 
 /// `--progress`.

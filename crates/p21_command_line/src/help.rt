@@ -64,6 +64,11 @@ Answer: one line that counts the instances and names the schema; or, on standard
 the first refusal and where it comes, with the number that check gives:
     refused 20 Unexpected at statement 7
     refused 56 Dangling in #9
+With --header a line follows for each text of the header, strings decoded: description,
+implementation level, file name, time stamp, author, organization, preprocessor version
+(the program that wrote the file), originating system, authorization, schema. With --count
+a line follows for each keyword, with how many records have it, in the order of bytes; of an
+instance with several parts each part is counted.
 With several files, or @LIST for the files that a text names, a path a line, each line has
 the name of its file in front. A file that is refused or can't be read doesn't end the
 run; the status is the highest.
@@ -78,8 +83,20 @@ Slips:
   - A file whose name begins with @, or is -, has ./ in front.
 
 Example:
-    $ p21 syntax product.step
-    well formed, instances 128, schema PRODUCT_MODEL";
+    $ p21 syntax --header --count product.step
+    well formed, instances 3, schema PRODUCT_MODEL
+    description:
+    implementation level: 2;1
+    file name: product.step
+    time stamp: 2026-11-30T09:00:00
+    author: A. Smith
+    organization:
+    preprocessor version: exporter 4.1
+    originating system: modeller 12
+    authorization:
+    schema: PRODUCT_MODEL
+    PERSON 1
+    PRODUCT 2";
 
 /// What stands below the help of `check`.
 pub const CHECK: &str =

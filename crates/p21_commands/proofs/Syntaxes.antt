@@ -1,11 +1,14 @@
 -- What `syntax` says where a file is not well formed.
-use Rattle.std.proofs.Common.{◌≡◌, ◌∙◌, ℕ, List, [], ◌∷◌, ◌++◌, Option, append_assoc, codes, decimal, inl, ap, refl, subst, string_bytes}
+use Rattle.std.proofs.Common.{◌≡◌, ◌∙◌, ℕ, List, [], ◌∷◌, ◌++◌, Option, append_assoc, codes, decimal, inl, ap, ap₂, refl, subst, string_bytes}
 use Rattle.p21_commands.proofs.FileFailing.{of-no_device}
 use Rattle.p21_commands.specs.Failures.{Failures, FailedBy}
 use Rattle.p21_commands.specs.Refusals.{IsFaultOf, IsNoDevice, IsOfFile, refusal_line}
 use Rattle.p21_commands.specs.Refusing.{RefusesWith}
-use Rattle.p21_commands.specs.Syntax.{IsIllFormedLine, IsWellFormedLine, syntax_answer_line}
+use Rattle.p21_commands.specs.Syntax.{IsIllFormedLine, IsTold, behind, syntax_answer_line, syntax_text}
 use Rattle.p21_commands.specs.declared.fault.CommandFault.{CommandFault}
+use Rattle.p21_commands.specs.declared.syntax.Details.{Details}
+use Rattle.p21_grammar_tree.specs.View.{part_views}
+use Rattle.p21_grammar_tree.specs.declared.record.Part.{Part}
 use Rattle.p21_commands.specs.declared.fault.CommandFault.TheVariants.{Refused, NoMemory, Read, Write}
 use Rattle.p21_spec_basics.specs.Limits.{Limits, usual}
 use Rattle.p21_stream_statements.specs.declared.fault.Fault.{Fault}
@@ -13,6 +16,8 @@ use Rattle.p21_stream_statements.specs.declared.fault.Fault.TheVariants as file
 use Rattle.p21_stream_statements.specs.declared.refusal.Refusal.{Refusal}
 use Rattle.p21_stream_syntax.specs.Reading.{IsIllFormedInput, IsWellFormedInput, RefusesSyntax, read_failures}
 use Rattle.p21_stream_syntax.specs.declared.well_formed.WellFormed.{WellFormed}
+use Rattle.p21_syntax_words.specs.HeaderText.{header_text}
+use Rattle.p21_syntax_words.specs.KeywordCounts.{counts_text}
 
 -- the file is not well formed, where the fault is of it
 ill-formed-of : (old new : Option (List ℕ)) (fault : Fault) → IsOfFile fault → RefusesSyntax usual old new fault → IsIllFormedInput usual old new
@@ -51,8 +56,13 @@ syntax-fails old new limits reader refusal fault is_usual is says r = fails old 
 
 -- ---- an answer
 
-pub syntax-answered : (old new : Option (List ℕ)) (limits : Limits) (found : WellFormed) (line : List ℕ) → limits ≡ usual → IsWellFormedInput limits old new found → line ≡ syntax_answer_line found.instances found.schema.items → IsWellFormedLine old new line
-syntax-answered old new limits found line is_usual is line_is = record { found = found; well_formed = subst (λ (l : Limits). IsWellFormedInput l old new found) is_usual is; line_is = line_is }
+pub syntax-answered : (details : Details) (old new : Option (List ℕ)) (limits : Limits) (found : WellFormed) (text : List ℕ) → limits ≡ usual → IsWellFormedInput limits old new found → text ≡ syntax_text details found → IsTold details old new text
+syntax-answered details old new limits found text is_usual is text_is = record { found = found; well_formed = subst (λ (l : Limits). IsWellFormedInput l old new found) is_usual is; text_is = text_is }
+
+-- the line, the header and the keywords, one behind the other
+pub text-put-together : (details : Details) (found : WellFormed) (header : List Part) (line words all : List ℕ) → header ≡ found.header.items → line ≡ syntax_answer_line found.instances found.schema.items → words ≡ behind line details.header (header_text (part_views header)) → all ≡ behind words details.count (counts_text found.keywords) → all ≡ syntax_text details found
+text-put-together details found header line words all header_is line_is words_are all_is =
+    all_is ∙ ap (λ (l : List ℕ). behind l details.count (counts_text found.keywords)) (words_are ∙ ap₂ (λ l (h : List Part). behind l details.header (header_text (part_views h))) line_is header_is)
 
 -- its line, part by part
 pub line-put-together : (instances : ℕ) (schema front some all : List ℕ) → front ≡ codes "well formed, instances " ++ (decimal instances ++ codes ", schema ") → some ≡ front ++ schema → all ≡ some ++ 10 ∷ [] → all ≡ syntax_answer_line instances schema

@@ -38,6 +38,6 @@ pub use same::same_command;
 pub use schema::schema_command;
 pub use show::show_command;
 pub use status::{DONE, FAILED, REFUSED, USAGE};
-pub use syntax::syntax_command;
+pub use syntax::{Details, syntax_command};
 pub use syntax_checks::SyntaxChecks;
 pub use telling::{Form, Telling, schema_object};

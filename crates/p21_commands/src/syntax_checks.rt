@@ -4,11 +4,11 @@ ghost use Rattle.p21_spec_basics.specs.Limits.{usual};
 ghost use Rattle.p21_commands.specs.Checks.{IsOfCheck};
 ghost use Rattle.p21_commands.specs.Status.{done, failed};
 ghost use Rattle.p21_commands.specs.Streams.{stream_of};
-ghost use Rattle.p21_commands.specs.Syntax.{EndsReading, IsIllFormedLine, IsWellFormedLine};
+ghost use Rattle.p21_commands.specs.Syntax.{EndsReading, IsIllFormedLine, IsTold};
 ghost use Rattle.p21_stream_syntax.specs.Reading.{TakesAtMost};
 
 use crate::status::{DONE, FAILED};
-use crate::syntax::syntax_command;
+use crate::syntax::{Details, syntax_command};
 use p21_stream::Watched;
 use std::alloc::Global;
 use std::io::{Read, Write};
@@ -44,18 +44,19 @@ impl SyntaxChecks {
         &mut self,
         alloc: Global,
         file: &mut Watched<R>,
+        details: Details,
         output: &mut Watched<W>,
         faults: &mut Watched<F>,
     ) -> u8
         ensures consumed { TakesAtMost (usual.file_source + 1) (R.remaining file.old.inner) (R.remaining file.new.inner) }
-        ensures ends { EndsReading IsWellFormedLine IsIllFormedLine (record {
+        ensures ends { EndsReading (IsTold details) IsIllFormedLine (record {
           input = stream_of R.remaining file.old file.new;
           output = stream_of W.contents output.old output.new;
           faults = stream_of F.contents faults.old faults.new;
         }) result }
         ensures highest { self.new ≡ max self.old result }
     {
-        let status = syntax_command(alloc, file, output, faults);
+        let status = syntax_command(alloc, file, details, output, faults);
         self.highest = self.highest.max(status);
         status
     }

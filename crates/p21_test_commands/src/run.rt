@@ -2,8 +2,8 @@
 use crate::devices::{Behind, Full, SmallReader, SmallWriter};
 use crate::schemas::File;
 use p21_commands::{
-    canon_command, check_all_command, check_command, param_command, same_command, schema_command,
-    show_command, syntax_command,
+    Details, canon_command, check_all_command, check_command, param_command, same_command,
+    schema_command, show_command, syntax_command,
 };
 use p21_stream::Watched;
 use p21_values::Name;
@@ -116,11 +116,11 @@ pub(crate) fn schema<R: Read>(alloc: Global, text: &mut R, rooms: Rooms) -> Run 
     Run::new(status, output.into_inner(), faults.into_inner())
 }
 
-pub(crate) fn syntax<R: Read>(alloc: Global, file: &mut R, rooms: Rooms) -> Run {
+pub(crate) fn syntax<R: Read>(alloc: Global, file: &mut R, details: Details, rooms: Rooms) -> Run {
     let mut file = Watched::new(file);
     let mut output = Watched::new(rooms.output(alloc));
     let mut faults = Watched::new(rooms.faults(alloc));
-    let status = syntax_command(alloc, &mut file, &mut output, &mut faults);
+    let status = syntax_command(alloc, &mut file, details, &mut output, &mut faults);
     Run::new(status, output.into_inner(), faults.into_inner())
 }
 
@@ -230,7 +230,8 @@ pub(crate) fn same<S: Read, A: Read + Drop, B: Read + Drop>(
 #[derive(Clone, Copy)]
 pub(crate) enum Command {
     Param,
-    Syntax,
+    /// With what is told behind the line.
+    Syntax(Details),
     Schema,
     Check,
     /// With the most refusals that are listed.
@@ -277,7 +278,7 @@ pub(crate) fn leaves_of(
     let mut bytes = text.as_bytes();
     match command {
         Command::Param => param(alloc, &mut bytes, rooms).is(left),
-        Command::Syntax => syntax(alloc, &mut bytes, rooms).is(left),
+        Command::Syntax(details) => syntax(alloc, &mut bytes, details, rooms).is(left),
         Command::Schema => schema(alloc, &mut bytes, rooms).is(left),
         Command::Check => check(alloc, &mut reader, bytes, rooms).is(left),
         Command::CheckAll(most) => { check_all(alloc, &mut reader, bytes, most, rooms).is(left) }
@@ -357,6 +358,12 @@ fn failing(text: &str) -> SmallReader<'_> {
 
 pub(crate) const READ_FAULT: Left<'static> = Left::Failure("", "read fault\n");
 
+/// All that `syntax` tells.
+pub(crate) const ALL: Details = Details {
+    header: true,
+    count: true,
+};
+
 /// A row of a table of tests.
 #[derive(Clone, Copy)]
 pub(crate) enum Row {
@@ -397,7 +404,7 @@ impl Row {
                 param(alloc, &mut failing(text), AMPLE_ROOMS).is(READ_FAULT)
             }
             Row::SyntaxFails(_, text) => {
-                syntax(alloc, &mut failing(text), AMPLE_ROOMS).is(READ_FAULT)
+                syntax(alloc, &mut failing(text), ALL, AMPLE_ROOMS).is(READ_FAULT)
             }
             Row::SchemaFails(_, text) => {
                 schema(alloc, &mut failing(text), AMPLE_ROOMS).is(READ_FAULT)

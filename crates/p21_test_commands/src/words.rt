@@ -62,6 +62,26 @@ const COMMANDS: Taken = &[
         "true",
     ),
     (&["p21", "check", "s", "f"], "check", "where", "false"),
+    (&["p21", "syntax", "f"], "syntax", "header", "false"),
+    (&["p21", "syntax", "f"], "syntax", "count", "false"),
+    (
+        &["p21", "syntax", "--header", "f"],
+        "syntax",
+        "header",
+        "true",
+    ),
+    (
+        &["p21", "syntax", "--header", "f"],
+        "syntax",
+        "count",
+        "false",
+    ),
+    (
+        &["p21", "syntax", "f", "--count", "--header", "g"],
+        "syntax",
+        "count",
+        "true",
+    ),
     (
         &["p21", "check", "s", "f", "--most", "3"],
         "check",

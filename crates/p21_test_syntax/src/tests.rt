@@ -2,7 +2,8 @@
 use p21_stream_io::Watched;
 use p21_stream_statements::{At, Refusal};
 use p21_stream_syntax::{WellFormed, syntax, syntax_of};
-use p21_values::{Limits, Name};
+use p21_syntax_words::header_words;
+use p21_values::{Limits, Name, NoMemory};
 use std::alloc::Global;
 
 /// The records of a header in front of the third.
@@ -204,6 +205,70 @@ fn comes_of(alloc: Global, row: Row) -> bool {
 /// The number of the first row that doesn't hold.
 fn first_wrong(alloc: Global, rows: &[Row]) -> Option<usize> {
     rows.iter().position(|row| !comes_of(alloc, *row))
+}
+
+/// Records of a header in front of FILE_SCHEMA and behind it, instances, the header in words, and the keywords with their counts.
+type Told = (
+    &'static str,
+    &'static str,
+    &'static str,
+    &'static str,
+    &'static str,
+);
+
+const TOLD: &[Told] = &[
+    (
+        "FILE_DESCRIPTION(('a','b'),'2;1');FILE_NAME('c','d',('e'),('f'),'g','h','i');",
+        "",
+        "#1=AB(#2);#2=(A()B($)C());#3=B(1);",
+        "description: a\ndescription: b\nimplementation level: 2;1\nfile name: c\ntime stamp: d\nauthor: e\norganization: f\n\
+preprocessor version: g\noriginating system: h\nauthorization: i\nschema: DEMO {1}\n",
+        "A 1\nAB 1\nB 2\nC 1\n",
+    ),
+    (
+        "FILE_DESCRIPTION((),$);FILE_NAME('\\X\\0D\\X2\\202D20270085\\X0\\','',($),$,$,$,$);",
+        "X(1);!FILE_NAME('z');",
+        "",
+        "file name: \\X2\\000D\\X0\\\\X2\\202D\\X0\\\u{2027}\\X2\\0085\\X0\\\ntime stamp:\nschema: DEMO {1}\nfurther record: X\nfurther record: !FILE_NAME\n",
+        "",
+    ),
+];
+
+/// Whether a file says this of itself.
+fn tells(alloc: Global, told: Told) -> bool {
+    let (records, further, instances, header, keywords) = told;
+    let Ok(text) = format!(in alloc;
+        "ISO-10303-21;HEADER;{records}FILE_SCHEMA(('DEMO {{1}}'));{further}ENDSEC;DATA;{instances}{BACK}"
+    ) else {
+        return false;
+    };
+    match syntax_of(alloc, Limits::usual(), text.as_bytes()) {
+        Ok(found) => says(alloc, &found, header, keywords),
+        Err(_) => false,
+    }
+}
+
+/// Whether this is said of a well-formed file.
+fn says(alloc: Global, found: &WellFormed, header: &str, keywords: &str) -> bool {
+    is_text(header_words(alloc, &found.header), header)
+        && is_text(found.keywords.text(alloc), keywords)
+}
+
+fn is_text(made: Result<Vec<u8>, NoMemory>, wanted: &str) -> bool {
+    match made {
+        Ok(text) => text.as_slice() == wanted.as_bytes(),
+        Err(NoMemory) => false,
+    }
+}
+
+/// The number of the first file that says something else.
+fn first_otherwise(alloc: Global, rows: &[Told]) -> Option<usize> {
+    rows.iter().position(|row| !tells(alloc, *row))
+}
+
+#[test]
+fn tells_what_files_say_of_themselves(rt: HostRuntime) {
+    assert_eq!(rt; first_otherwise(rt.alloc(), TOLD), None);
 }
 
 #[test]

@@ -1,9 +1,9 @@
 use Rattle.p21_commands.specs.Failures.{failures_of}
 use Rattle.p21_commands.proofs.Syntaxes.{syntax-answered, syntax-fails, syntax-refuses}
-use Rattle.p21_commands.proofs.syntax.well_formed_line.Goals as goal
+use Rattle.p21_commands.proofs.syntax.read_alone.Goals as goal
 
-pub returns-in-Ok-answer_line_of-clause-ok : goal.returns-in-Ok-answer_line_of-clause-ok
-returns-in-Ok-answer_line_of-clause-ok g c = syntax-answered _ _ _ c.in-Ok.found c.in-Ok-answer_line_of.line.items c.usual.ensures c.in-Ok.ensures.ok c.in-Ok-answer_line_of.ensures
+pub returns-in-Ok-told_text-clause-ok : goal.returns-in-Ok-told_text-clause-ok
+returns-in-Ok-told_text-clause-ok g c = syntax-answered _ _ _ _ c.in-Ok.found c.in-Ok-told_text.text.items c.usual.ensures c.in-Ok.ensures.ok c.in-Ok-told_text.ensures
 
 pub returns-in-Err-clause-err : goal.returns-in-Err-clause-err
 returns-in-Err-clause-err g c = syntax-refuses _ _ _ c.in-Err.refusal _ c.usual.ensures c.fault_of.ensures c.in-Err.ensures.err
