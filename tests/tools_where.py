@@ -242,9 +242,10 @@ def schemas(tests):
     for name, text in SCHEMAS:
         text, place, marked = unmarked(text)
         path = tests.make("refused.exp", text)
-        line = subprocess.run([tests.program, "schema", path], capture_output=True, check=False).stderr.decode()
+        said = subprocess.run([tests.program, "schema", path], capture_output=True, check=False).stderr.decode()
+        line = texts.without_notes(said.rstrip("\n"))
         output, error, status = tests.run([path])
-        tests.judge(name, (line.rstrip("\n"), place, marked, "", 1), (*parts(output)[:3], error, status))
+        tests.judge(name, (line, place, marked, "", 1), (*parts(output)[:3], error, status))
 
 
 # A schema in which attributes are derived through two supertypes and by a supertype of them.
