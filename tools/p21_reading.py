@@ -680,6 +680,8 @@ LEXEME = re.compile(rb"[\0- \x7f]+|'|/\*|([^\0- \x7f(),;='\"/]+|\"[^\"]*\"|.)", 
 SIGN = re.compile(rb"[(),]")
 PARENTHESIS = re.compile(rb"[()]")
 REFERENCE = re.compile(rb"#\d+")
+# A value that is one word, and the sign behind it.
+WORD_IN_LIST = re.compile(rb"[^\0- \x7f(),;='\"/]+(?=[,)])")
 HIDDEN = re.compile(rb"['\"]|/\*")
 
 
@@ -773,7 +775,7 @@ class Part(NamedTuple):
 
     key: str
     start: int
-    values: Row[Value]
+    values: Sequence[Value]
     end: int
 
 
@@ -828,8 +830,15 @@ def signs_in_parts(text: Text, at: int) -> Iterator[int]:
 
 def value_behind(text: Text, sign: int) -> Value:
     """The value behind a `(` or a `,`."""
-    start = end = behind_blanks(text, sign + 1)
-    found = sign_behind(text, start)
+    return value_at(text, behind_blanks(text, sign + 1))
+
+
+def value_at(text: Text, start: int) -> Value:
+    """The value that begins here."""
+    word = WORD_IN_LIST.match(text, start)
+    if word:
+        return Value(text, start, word.end())
+    found, end = sign_behind(text, start), start
     if found[0] == b"(":
         return Value(text, start, closing(text, found.start()) + 1)
     for _, end in lexemes(text, start, found.start()):

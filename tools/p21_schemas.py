@@ -38,6 +38,18 @@ NO_NAMES = set(
     "ABSTRACT ARRAY BAG BINARY BOOLEAN ENTITY ENUMERATION FIXED INTEGER LIST LOGICAL NUMBER OF ONEOF OPTIONAL REAL SELECT"
     " SELF SET STRING SUBTYPE SUPERTYPE TYPE UNIQUE".split()
 )
+# The kinds of values that simple types and enumerations have, and what a list of values is of.
+KINDS = {
+    "INTEGER": ("integer",),
+    "REAL": ("real",),
+    "NUMBER": ("integer", "real"),
+    "STRING": ("text",),
+    "BINARY": ("binary",),
+    "BOOLEAN": ("item",),
+    "LOGICAL": ("item",),
+    "ENUMERATION": ("item",),
+}
+AGGREGATES = ("ARRAY", "BAG", "LIST", "SET")
 
 
 # An attribute: the entity that declares it, and its name.
@@ -378,6 +390,31 @@ class Outline:
                         words = words[words[:1] == ["OPTIONAL"] : -1]
                         found = " ".join(words).partition(" : = ")[0]
         return found
+
+    def takes(self, words: Sequence[str], kind: str) -> bool:
+        """Could a value of a kind, as `p21_files.kind_of` tells it, be of a type, of which these are the words?"""
+        first = words[0]
+        if kind == "$" or first in KINDS:
+            return kind == "$" or kind in KINDS[first]
+        if first in AGGREGATES:
+            return kind == "(" or (kind[0] == "(" and self.takes(words[words.index("OF") + 1 :], kind[1:]))
+        if first in ("OPTIONAL", "UNIQUE"):
+            return self.takes(words[1:], kind)
+        if first in self.entities:
+            return kind == "reference"
+        if first == "SELECT":
+            members = (word for word in words[2:-1] if word != ",")
+            return any(self.takes([word], kind) if self.is_select(word) else kind == "typed" for word in members)
+        return first in self.types and self.takes(self.definition(first), kind)
+
+    def is_select(self, name: str) -> bool:
+        """Is a member of a SELECT an entity or another SELECT, so that no name of a type stands in front of its values?"""
+        return name in self.entities or self.definition(name)[0] == "SELECT"
+
+    def definition(self, name: str) -> List[str]:
+        """The words that say what a type is."""
+        words = (word.text for word in itertools.islice(self.types[name].words, 3, None))
+        return list(itertools.takewhile(lambda text: text != ";", words))
 
     def body(self, declaration: Declaration) -> str:
         """The text of a type without its words around."""
