@@ -35,6 +35,19 @@ const NO_NAMES = new Set(
   ).split(" "),
 );
 
+// The kinds of values that simple types and enumerations have, and what a list of values is of.
+const KINDS = {
+  INTEGER: ["integer"],
+  REAL: ["real"],
+  NUMBER: ["integer", "real"],
+  STRING: ["text"],
+  BINARY: ["binary"],
+  BOOLEAN: ["item"],
+  LOGICAL: ["item"],
+  ENUMERATION: ["item"],
+};
+const AGGREGATES = ["ARRAY", "BAG", "LIST", "SET"];
+
 /** The words of a text in upper case, and the place of a byte, string or remark that makes none, or null. */
 function wordsOf(text) {
   const words = [];
@@ -359,12 +372,31 @@ export class Outline {
     return found;
   }
 
-  /** The text with entities in front of its first declaration, or where that is of constants behind the `;` of its heading. */
-  withEntities(entities) {
-    const [first] = this.declarations;
-    const heading = this.words.find(({ text }) => text === ";");
-    const at = first && first.kind !== "CONSTANT" ? first.words[0].start : heading.end;
-    return this.text.slice(0, at) + entities + this.text.slice(at);
+  /** Could a value of a kind, as `kindOf` tells it, be of a type, of which these are the words? */
+  takes(words, kind) {
+    const [first] = words;
+    if (kind === "$" || KINDS[first]) return kind === "$" || KINDS[first].includes(kind);
+    if (AGGREGATES.includes(first)) {
+      return kind === "(" || (kind.startsWith("(") && this.takes(words.slice(words.indexOf("OF") + 1), kind.slice(1)));
+    }
+    if (first === "OPTIONAL" || first === "UNIQUE") return this.takes(words.slice(1), kind);
+    if (this.entities.has(first)) return kind === "reference";
+    if (first === "SELECT") {
+      const members = words.slice(2, -1).filter((word) => word !== ",");
+      return members.some((word) => (this.isSelect(word) ? this.takes([word], kind) : kind === "typed"));
+    }
+    return this.types.has(first) && this.takes(this.definition(first), kind);
+  }
+
+  /** Is a member of a SELECT an entity or another SELECT, so that no name of a type stands in front of its values? */
+  isSelect(name) {
+    return this.entities.has(name) || this.definition(name)[0] === "SELECT";
+  }
+
+  /** The words that say what a type is. */
+  definition(name) {
+    const words = texts(this.types.get(name).words);
+    return words.slice(3, words.indexOf(";"));
   }
 
   /** The statements of an entity that declare an attribute, or declare it anew or derive it. */
@@ -531,7 +563,7 @@ export function numberOf(line) {
 }
 
 /** The least number from 1 to a count of which something is true that stays true for all greater ones. */
-export function firstCount(count, isTrue) {
+function firstCount(count, isTrue) {
   let low = 0;
   let high = count;
   while (high - low > 1) {
