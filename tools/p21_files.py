@@ -231,6 +231,7 @@ class Checked:
         self.known: Dict[int, int] = {}
         self.keys_of = functools.lru_cache(maxsize=1024)(self.keys_of_instance)
         self.parts = functools.lru_cache(maxsize=1)(self.parts_of)
+        self.places = functools.lru_cache(maxsize=None)(self.places_of)
         self.missing_in = functools.lru_cache(maxsize=None)(self.missing_by_kinds)
         self.declared = functools.lru_cache(maxsize=None)(self.declared_of)
 
@@ -283,20 +284,20 @@ class Checked:
 
     # The schema
 
-    def places(self, part: Part, alone: bool) -> Iterator[Attribute]:
+    def places_of(self, key: str, alone: bool) -> List[Attribute]:
         """What the values of a part stand for: all attributes of the entity, or among other parts those of its own."""
         if alone:
-            return self.outline.places(part.key)
-        return ((part.key, attribute) for attribute in self.outline.own_attributes(part.key))
+            return list(self.outline.places(key))
+        return [(key, attribute) for attribute in self.outline.own_attributes(key)]
 
-    def declared_of(self, keys: Sequence[str], attribute: Attribute) -> List[str]:
+    def declared_of(self, keys: Sequence[str], attribute: Attribute) -> Tuple[str, ...]:
         """What the schema says of an attribute in an instance of these entities."""
-        return self.outline.explained(keys, attribute) if attribute[0] in self.outline.entities else []
+        return tuple(self.outline.explained(keys, attribute)) if attribute[0] in self.outline.entities else ()
 
     def missing_by_kinds(self, key: str, kinds: Sequence[str]) -> Optional[Sequence[int]]:
         """Which attributes of an entity have no value where values of these kinds stand, if these can stand for the others in one
         way alone, and None else."""
-        places = list(self.outline.places(key))
+        places = self.places(key, True)
         if math.comb(len(places), len(kinds)) > MOST_WAYS:
             return None
         above = self.outline.derived(key)
@@ -372,10 +373,10 @@ class Refused:
         part = next((part for part in parts if part.start <= at < part.end), None)
         if part is None or part.key not in self.outline.entities:
             return None
-        beside = zip(self.checked.places(part, len(parts) == 1), part.values)
+        beside = zip(self.checked.places(part.key, len(parts) == 1), part.values)
         return next((attribute for attribute, value in beside if value.start <= at < value.end), None)
 
-    def declared(self, attribute: Attribute) -> List[str]:
+    def declared(self, attribute: Attribute) -> Tuple[str, ...]:
         """What the schema says of an attribute of the instance."""
         assert self.told.byte is not None
         return self.checked.declared(self.checked.keys_at(self.told.byte), attribute)
@@ -547,7 +548,7 @@ class Refused:
         the `)` behind the values."""
         assert self.told.byte is not None
         alone = len(parts) == 1
-        places = list(self.checked.places(part, alone))
+        places = self.checked.places(part.key, alone)
         wanted, count = len(places), len(part.values)
         said = {"expected": counted(wanted, "value"), "found": counted(count, "value")}
         counts = f"{part.key} has {counted(wanted, 'attribute')}, and here {'is' if count == 1 else 'are'} {said['found']}"

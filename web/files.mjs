@@ -203,8 +203,8 @@ export class GivenFile {
     this.name = this.outline.words[1]?.text ?? "";
     this.lines = new Lines(bytes);
     this.known = new Map();
-    this.missing = new Map();
-    this.kept = null;
+    this.answers = new Map();
+    this.parted = null;
     this.begin();
   }
 
@@ -232,11 +232,11 @@ export class GivenFile {
 
   /** The text of an instance with its parts, which are kept of the last one. */
   partsOf(statement) {
-    if (this.kept?.statement !== statement) {
+    if (this.parted?.statement !== statement) {
       const text = this.text(statement);
-      this.kept = { statement, text, parts: readParts(text) };
+      this.parted = { statement, text, parts: readParts(text) };
     }
-    return this.kept;
+    return this.parted;
   }
 
   /** The statement in front of the one that begins at a place. */
@@ -264,10 +264,21 @@ export class GivenFile {
     }
   }
 
+  /** What the schema text says when it is asked so, which is kept for the next refusal. */
+  kept(asked, tell) {
+    if (!this.answers.has(asked)) this.answers.set(asked, tell());
+    return this.answers.get(asked);
+  }
+
   /** What the values of a part stand for: all attributes of the entity, or among other parts those of its own. */
-  places(part, alone) {
-    if (alone) return this.outline.places(part.key);
-    return this.outline.ownAttributes(part.key).map((attribute) => ({ entity: part.key, attribute }));
+  places({ key }, alone) {
+    const own = () => this.outline.ownAttributes(key).map((attribute) => ({ entity: key, attribute }));
+    return this.kept(`places ${key} ${alone}`, alone ? () => this.outline.places(key) : own);
+  }
+
+  /** What the schema says of an attribute in an instance of these entities. */
+  declared(keys, place) {
+    return this.kept(`declared ${keys} ${place.entity} ${place.attribute}`, () => this.outline.explained(keys, place));
   }
 
   /**
@@ -275,13 +286,11 @@ export class GivenFile {
    * alone, and null else.
    */
   missingIn(key, kinds) {
-    const asked = [key, ...kinds].join(" ");
-    if (!this.missing.has(asked)) this.missing.set(asked, this.missingByKinds(key, kinds));
-    return this.missing.get(asked);
+    return this.kept(`missing ${key} ${kinds}`, () => this.missingByKinds(key, kinds));
   }
 
   missingByKinds(key, kinds) {
-    const places = this.outline.places(key);
+    const places = this.places({ key }, true);
     if (waysOf(places.length, kinds.length) > MOST_WAYS) return null;
     const above = this.outline.derived(key);
     const types = places.map((place) =>

@@ -93,7 +93,7 @@ function shownPart(refused, text, keys, part, at, most) {
     const isMarked = !value || (refused.missing.length === 0 && value.start <= at && at < value.end);
     const isExplained = isMarked && entity !== null && explained < most;
     explained += Number(isExplained);
-    const lines = isExplained ? refused.outline.explained(keys, { entity, attribute }) : [];
+    const lines = isExplained ? refused.given.declared(keys, { entity, attribute }) : [];
     return {
       name: attribute,
       value: value ? excerpt(text, value, at) : "(no value)",
