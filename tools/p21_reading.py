@@ -626,38 +626,6 @@ class Row(Sequence[Found]):
         return map(self.thing, self.places(self.first))
 
 
-def first_repeated(items: Callable[[], Iterable[Tuple[Hashable, Found]]], size: int) -> Optional[Tuple[Found, Found]]:
-    """The first of some items whose key another one has before it, with that one; or None. `items` gives them anew, as pairs
-    of a key and an item. It takes about `size` bytes, whatever the items are.
-
-    Keys are marked by a bit each. Two may have one bit: those whose bit is marked already are suspects, and compared."""
-    bits = 8 * size + 64
-    marked = bytearray(size + 8)
-    suspects, taken = set(), 0
-
-    def confirmed() -> Optional[Tuple[Found, Found]]:
-        known: Dict[Hashable, Found] = {}
-        for key, item in itertools.islice(items(), taken):
-            if hash(key) % bits in suspects:
-                if key in known:
-                    return known[key], item
-                known[key] = item
-        return None
-
-    for key, _ in items():
-        taken += 1
-        bit = hash(key) % bits
-        if marked[bit // 8] >> bit % 8 & 1:
-            suspects.add(bit)
-        marked[bit // 8] |= 1 << bit % 8
-        if len(suspects) > 64 + size // 1024:
-            found = confirmed()
-            if found:
-                return found
-            suspects.clear()
-    return confirmed() if suspects else None
-
-
 def matched(pattern: Pattern[bytes], text: Union[Text, Piece], at: int, end: int = sys.maxsize) -> Match[bytes]:
     """What a pattern finds at a place, where it finds something."""
     found = pattern.match(text, at, end)
