@@ -107,7 +107,8 @@ class Refusal(NamedTuple):
         """The line that the program prints of it for people."""
         if isinstance(self.number, str):
             return f"schema refused {self.number} {self.name}"
-        return f"refused {self.number} {self.name} " + (f"at statement {self.statement}" if self.instance is None else f"in #{self.instance}")
+        where = f"at statement {self.statement}" if self.instance is None else f"in #{self.instance}"
+        return f"refused {self.number} {self.name} {where}"
 
 
 def refusal_of(line: str) -> Refusal:

@@ -38,7 +38,6 @@ from typing import (
     Callable,
     Dict,
     Generator,
-    Hashable,
     Iterable,
     Iterator,
     List,
@@ -823,15 +822,6 @@ def values_of_all(text: Text, parts: Sequence[Part]) -> Row[Value]:
     """The values of all parts, one behind the other."""
     start = parts[0].start
     return Row(lambda sign: signs_in_parts(text, sign), lambda sign: value_behind(text, sign), start)
-
-
-def references_of(text: Text, parts: Sequence[Part]) -> Row[Value]:
-    """The references of an instance in their order."""
-
-    def places(place: int) -> Iterator[int]:
-        return (found.start() for found in outside(REFERENCE, text, place))
-
-    return Row(places, lambda place: Value(text, *matched(REFERENCE, text, place).span()), parts[0].start)
 
 
 def read_parts(text: Text, start: int = 0) -> Sequence[Part]:

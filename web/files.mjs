@@ -415,7 +415,8 @@ export class RefusedFile {
     const shape = `wanted here: ${name}(${parameters.map(([, form]) => form).join(", ")})`;
     if (key !== name) return placeOf(start, start + Math.max(key.length, 1), [shape]);
     const [{ values }] = readParts(this.given.text(this.statement));
-    const counts = `${name} has ${counted(parameters.length, "parameter")}, and here ${values.length === 1 ? "is" : "are"} ${values.length}`;
+    const verb = values.length === 1 ? "is" : "are";
+    const counts = `${name} has ${counted(parameters.length, "parameter")}, and here ${verb} ${values.length}`;
     if (values.length < parameters.length) {
       const missing = listed(parameters.slice(values.length).map(([parameter]) => parameter));
       return placeOf(at, at + 1, [`${counts}; without one: ${missing}`, shape]);

@@ -135,11 +135,6 @@ export class Outline {
     return this.above.get(name);
   }
 
-  /** Does an entity want a subtype? */
-  isAbstract(name) {
-    return this.entities.get(name).words[2].text === "ABSTRACT";
-  }
-
   /** The attributes of an entity that it or a supertype derives, each behind the entity that declares it and a point. */
   derived(name) {
     const found = new Set();

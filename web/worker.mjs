@@ -251,7 +251,10 @@ class Job {
     return { accepted: true, name, line, canonical };
   }
 
-  /** What the program lists of a file, each refusal still without what is around it; the first one alone where there is no list, as for want of memory. */
+  /**
+   * What the program lists of a file, each refusal still without what is around it; the first one alone where there is no list, as
+   * for want of memory.
+   */
   refused(name, files, error, heard) {
     const told = toldOf(this.program, ["--all"], files, heard);
     const isAll = told.count !== null;
