@@ -235,13 +235,13 @@ def stopped_on_the_way(page):
     fillers = "".join(f"ENTITY filler_{number} SUBTYPE OF (shape); a, b : OPTIONAL REAL; END_ENTITY;\n" for number in range(6000))
     end = demo.rindex("END_SCHEMA")
     page.tests.make("large.exp", demo[:end] + fillers + demo[end:])
-    rows = [f"#{number}=POINT($,1.,'two');" for number in range(1, 5001)]
+    rows = [f"#{number}=POINT($,1.,'two');" for number in range(1, 60_001)]
     page.tests.make("stopped.step", file_of("\n".join(rows), [("PRODUCT_MODEL", "DEMO")]))
     ask, bar = page.browser.ask, "document.getElementById('progress').value"
     page.browser.drop([page.folder / "large.exp", page.folder / "stopped.step"])
-    page.browser.wait(f"document.querySelectorAll('.refusals .where').length === 20 && {bar} > 0 && {bar} < 5000")
+    page.browser.wait(f"document.querySelectorAll('.refusals .where').length === 20 && {bar} > 0 && {bar} < 60000")
     said = ask("document.getElementById('doing').textContent")
-    wanted = r"stopped\.step: looking for the places of 5,000 refusals, [\d,]+ found"
+    wanted = r"stopped\.step: looking for the places of 60,000 refusals, [\d,]+ found"
     page.tests.judge("how many places are found", True, re.fullmatch(wanted, said) is not None)
     ask("document.getElementById('stop').click()")
     page.tests.judge("stopped on the way", "Stopped. Start again", ask(SAID))

@@ -22,7 +22,6 @@ sys.path.insert(0, str(ROOT / "tools"))
 
 import p21_files as files  # noqa: E402
 import p21_reading as reading  # noqa: E402
-import p21_seeking as sought  # noqa: E402
 from p21_schemas import Outline, name_of  # noqa: E402
 
 DEMO = "examples/demo.exp"
@@ -242,9 +241,10 @@ def schemas(tests):
     for name, text in SCHEMAS:
         text, place, marked = unmarked(text)
         path = tests.make("refused.exp", text)
-        line = subprocess.run([tests.program, "schema", path], capture_output=True, check=False).stderr.decode()
+        said = subprocess.run([tests.program, "schema", path], capture_output=True, check=False).stderr.decode()
+        line = texts.without_notes(said.rstrip("\n"))
         output, error, status = tests.run([path])
-        tests.judge(name, (line.rstrip("\n"), place, marked, "", 1), (*parts(output)[:3], error, status))
+        tests.judge(name, (line, place, marked, "", 1), (*parts(output)[:3], error, status))
 
 
 # A schema in which attributes are derived through two supertypes and by a supertype of them.
@@ -458,7 +458,8 @@ def expected(tests):
 
 # What is said of the texts of docs/FAULTS.md stands there in the section of the refusal, and so do these words.
 IN_SECTIONS = {
-    20: [words for words, _ in [*files.VALUES, *files.SIGNS]] + ["a value", "a keyword"],
+    20: [*files.VALUES_OF_HEADER, files.VALUE, files.NAME_OF_INSTANCE]
+    + [files.OPENING, files.CLOSING, files.COMMA, files.EQUALS, files.END],
     25: [files.WANTED[25]],
     30: [files.TEXT, files.TEXTS, files.ONE_TEXT, "parameter 3 of FILE_NAME, author"]
     + [name for name, parameters in files.HEADER for name in (name, *(parameter for parameter, _ in parameters))],
@@ -808,13 +809,13 @@ def counts(tests):
     asked = tests.here / "asked"
     program = tests.rigged("rigged", f'case "$1" in check) echo "$*" >> {asked} ;; esac')
     tests.run(["--all", "--format", "sarif", SCHEMA, files[0]], program=program)
-    tests.judge("what is looked for in SARIF", f"check --all --most 25001 -- {SCHEMA} {files[0]}", asked.read_text().splitlines()[0])
+    tests.judge("what is looked for in SARIF", f"check --all --most 25001 --where --format jsonl -- {SCHEMA} {files[0]}", asked.read_text().splitlines()[0])
     asked.unlink()
     output, _, _ = tests.run(["--format", "sarif", SCHEMA, *files], program=program)
-    tests.judge("the first of each in SARIF", (f"check -- {SCHEMA} {files[0]}", 2), (asked.read_text().splitlines()[0], len(json.loads(output)["runs"][0]["results"])))
+    tests.judge("the first of each in SARIF", (f"check --where --format jsonl -- {SCHEMA} {files[0]}", 2), (asked.read_text().splitlines()[0], len(json.loads(output)["runs"][0]["results"])))
     asked.unlink()
     tests.run(["--all", "--format", "json", SCHEMA, files[0]], program=program)
-    tests.judge("what is looked for in JSON", f"check --all -- {SCHEMA} {files[0]}", asked.read_text().splitlines()[0])
+    tests.judge("what is looked for in JSON", f"check --all --where --format jsonl -- {SCHEMA} {files[0]}", asked.read_text().splitlines()[0])
     log = runpy.run_path("tools/p21-where")
     kept = log["Log"](None)
     report = log["Report"]
@@ -827,25 +828,23 @@ def counts(tests):
 
 
 def seeking(tests):
-    """Statements and instances are found where reading each statement finds them."""
+    """Statements and instances are found where reading each statement finds them, in whatever order they are asked for."""
     chance = random.Random("seeking")
     parts_of_files = ["#1=A('');", "#02 /* ; ' */ = A('a;b');", "#3=A('\\S\\';','it''s;');", "/* #4=A(); ' */", "ENDSEC;DATA;", "#5 =A('/*','ENDSEC;');", "X('*/');\n"]
-    for size in (3, 50):
-        sought.PIECE, kept = size, sought.PIECE
-        for number in range(40):
-            data = "".join(chance.choice(parts_of_files) for _ in range(chance.randrange(1, 30))).encode()
-            found = [statement for statement in files.statements(data) if statement.start < len(data) or statement.end > statement.start]
-            ends = [statement.end for statement in files.statements(data)][:-1]
-            tests.judge(f"statements {number}", [0, *ends, None], [sought.behind_statements(data, count) for count in range(len(ends) + 2)])
-            names = [(files.name_at(data, it.start), it.start) for it in found if data[it.start : it.start + 1] == b"#"]
-            wanted = [(name, start) for name, start in names if name in (1, 3, 5)]
-            tests.judge(f"instances {number}", wanted, list(sought.defined(data, {1, 3, 5, 9})))
-            tests.judge(f"an instance {number}", [row for row in names if row[0] == 2], list(sought.defined(data, {2})))
-            for name in sorted({name for name, _ in names}):
-                tests.judge(f"#{name} at once {number}", [row for row in names if row[0] == name], sought.found_at_once(data, name))
-            sections = [it.start for it in found if data[it.start : it.end] == b"ENDSEC;"]
-            tests.judge(f"sections {number}", sections, list(sought.sections(data, len(data))))
-        sought.PIECE = kept
+    for number in range(80):
+        data = "".join(chance.choice(parts_of_files) for _ in range(chance.randrange(1, 30))).encode()
+        found = [statement for statement in files.statements(data) if statement.start < len(data) or statement.end > statement.start]
+        ends = [0, *(statement.end for statement in files.statements(data))][:-1]
+        wanted = [max(end for end in ends if end <= place) for place in range(len(data) + 1)]
+        asked = files.Ends(data)
+        tests.judge(f"statements {number}", wanted, [asked.before(place) for place in range(len(data) + 1)])
+        places = [chance.randrange(len(data) + 1) for _ in range(100)]
+        tests.judge(f"statements in any order {number}", [wanted[place] for place in places], [asked.before(place) for place in places])
+        names = {files.name_at(data, it.start): it.start for it in reversed(found) if data[it.start : it.start + 1] == b"#"}
+        for looked_for in ({1, 3, 5, 9}, {2}, {*range(1, 10)}):
+            checked = files.Checked(SCHEMA, SCHEMA, data)
+            checked.look_for(looked_for)
+            tests.judge(f"instances {number}, {looked_for}", {name: names[name] for name in looked_for & set(names)}, checked.known)
 
 
 def columns(tests):
@@ -917,7 +916,7 @@ def unfinished(tests):
             tests.judge(f"{text} has no end", "the text ends inside a statement", found)
 
 
-# Programs that don't answer: in front of all, behind a line, or where something is asked about a place; and what is said.
+# Programs that don't answer: in front of all, behind a line, or where something is asked about a schema; and what is said.
 SILENT = [
     ("ends by a signal", "kill -9 $$", "ended by signal 9"),
     ("ends by a signal behind a line", "echo 'refused 45 Count in #3' >&2; kill -9 $$", "refused 45 Count in #3 ended by signal 9"),
@@ -952,43 +951,35 @@ def silent(tests):
         program = tests.rigged("silent", ASKED.format(lines))
         for path in ("WrongKind", "BadByte", "Missing", "NotUtf8"):
             for options in ([], ["--all"], ["--format", "json"], ["--format", "sarif"], ["--format", "lines", "--all"]):
-                found = tests.run([*options, SCHEMA, f"examples/refused/{path}.step"], program=program)
-                tests.judge(f"a program that {name} when asked about {path}, {options}", ("", f"p21-where: {sentence}\n", 3), found)
+                given = [*options, SCHEMA, f"examples/refused/{path}.step"]
+                tests.judge(f"a program that {name} isn't asked about {path}, {options}", tests.run(given), tests.run(given, program=program))
         schema = tests.make("twice.exp", "SCHEMA s; ENTITY a; x : REAL; x : REAL; END_ENTITY; END_SCHEMA;")
         found = tests.run([schema], program=program)
         tests.judge(f"a program that {name} when asked about a schema", ("", f"p21-where: {sentence}\n", 3), found)
 
 
 def without_proc(tests):
-    """Where /proc isn't mounted, so that the program can't be asked about a place, that is said and no place. Root alone can try it."""
+    """Where /proc isn't mounted, a file is read and placed as where it is. Root alone can try it."""
     before = ["unshare", "--mount", "sh", "-c", 'umount -l /proc && exec "$@"', "-"]
     if subprocess.run([*before, "true"], capture_output=True, check=False).returncode != 0:
         return
     for options in ([], ["--all"], ["--format", "json"]):
-        found = tests.run([*options, SCHEMA, "examples/refused/WrongKind.step"], before=before)
-        tests.judge(f"without /proc, {options}", ("", "p21-where: cannot open /dev/stdin\n", 3), found)
+        given = [*options, SCHEMA, "examples/refused/WrongKind.step"]
+        tests.judge(f"without /proc, {options}", tests.run(given), tests.run(given, before=before))
     accepted = ("accepted, instances 128, canonical bytes 4872\n", "", 0)
     tests.judge("without /proc, an accepted file", accepted, tests.run([SCHEMA, "examples/product.step"], before=before))
 
 
 def cut_short(tests):
-    """A file that is cut short: behind the first answer it has been read, and in front of that it is said."""
+    """A file that is cut short while the program reads it, which is said."""
     points = "\n".join(f"#{number}=POINT($,1.,{'2.' if number < 9000 else '2'});" for number in range(1, 9001))
-    text = file_of(points, [("PRODUCT_MODEL", "DEMO")])
-    path = tests.make("cut.step", text)
-    for options in ([], ["--all"]):
-        tests.make("cut.step", text)
-        program = tests.rigged("cutting", ASKED.format(f": > {path}"))
-        output, error, status = tests.run([*options, "--format", "lines", DEMO, path], program=program)
-        found = output.partition(": ")[0], error, status
-        tests.judge(f"a file cut short behind the answer, {options}", (f"{path}:9007:18", "", 1), found)
-    tests.make("cut.step", text)
+    path = tests.make("cut.step", file_of(points, [("PRODUCT_MODEL", "DEMO")]))
     cutting = f'"$real" "$@"; status=$?; : > {path}; exit $status'
     found = tests.run([DEMO, path], program=tests.rigged("cutting", cutting))
     tests.judge("a file cut short with the answer", ("it changed while it was read\n", "", 3), found)
 
 
-# Of the references of one instance that are refused the first 100 are placed; each row takes at most so many seconds.
+# Very many references of one instance that are refused, all of which take at most so many seconds.
 REFERRING = "SCHEMA s; ENTITY a; x : LIST OF a; END_ENTITY; ENTITY b; END_ENTITY; END_SCHEMA;"
 REFERENCES = [
     ("to another entity", 800, "#2", 57, 60),
@@ -997,9 +988,8 @@ REFERENCES = [
 
 
 def references(tests):
-    """An instance with very many references that are refused: the first ones are placed, and of the others it is said."""
+    """An instance with very many references that are refused: each has its place."""
     schema = tests.make("referring.exp", REFERRING)
-    note = "not placed: of the refused references of one instance the first 100 are"
     for name, count, reference, number, seconds in REFERENCES:
         instances = f"#1=A(({','.join([reference] * count)}));\n#2=B();"
         path = tests.make("references.step", file_of(instances, [("PRODUCT_MODEL", "S")]))
@@ -1007,21 +997,32 @@ def references(tests):
         output, error, status = tests.run(["--all", "--format", "json", schema, path])
         took = time.monotonic() - begun
         rows = [json.loads(line) for line in output.splitlines()]
-        places = [(number, 8, 7 + 3 * at) if at < 100 else (number, None, None) for at in range(count)]
+        places = [(number, 8, 7 + 3 * at) for at in range(count)]
         found = [(row["number"], row["line"], row["column"]) for row in rows]
         wrong = [pair for pair in zip(places, found) if pair[0] != pair[1]]
         tests.judge(f"{count} references {name}", (count, [], "", 1), (len(rows), wrong[:3], error, status))
-        tests.judge(f"{count} references {name}, notes", {(note,)}, {tuple(row["notes"]) for row in rows[100:]})
         tests.judge(f"{count} references {name}: {took:.1f} s", True, took < seconds)
-    lines = tests.run(["--all", "--format", "lines", schema, path])[0].splitlines()
-    tests.judge("a line without a place", f"{path}: 56 Dangling in #1: {note}", lines[-1])
-    text = tests.run(["--all", schema, path])[0].splitlines()
-    tests.judge("a text without a place", ["refused 56 Dangling in #1", f"  {note}", "refusals 8000"], text[-3:])
     path = tests.make("references.step", file_of(f"#1=A(({','.join(['#3'] * 400_000)}));", [("PRODUCT_MODEL", "S")]))
     rows = [json.loads(line) for line in tests.run(["--most", "3", "--format", "json", schema, path])[0].splitlines()]
-    note = "not placed: of the refused references of one instance of more than 1048576 bytes the first is"
-    found = [(row["line"], note in row["notes"]) for row in rows]
-    tests.judge("a long instance", [(8, False), (None, True), (None, True)], found)
+    tests.judge("a long instance", [(8, 7), (8, 10), (8, 13)], [(row["line"], row["column"]) for row in rows])
+
+
+# What the program tells of a refusal without a place, in place of its answer.
+UNPLACED = '{"file":"x","number":56,"name":"Dangling","instance":3}'
+
+
+def unplaced(tests):
+    """Where the program tells no place, none is shown, and the tool says so."""
+    program = tests.rigged("unplaced", f"case \"$*\" in *--where*) echo '{UNPLACED}' >&2; exit 1 ;; esac")
+    note, path = "the program tells no place of it", "examples/refused/Dangling.step"
+    wanted = (f"refused 56 Dangling in #3\n  {note}\n", "", 1)
+    tests.judge("a text without a place", wanted, tests.run([SCHEMA, path], program=program))
+    wanted = (f"{path}: 56 Dangling in #3: {note}\n", "", 1)
+    tests.judge("a line without a place", wanted, tests.run(["--format", "lines", SCHEMA, path], program=program))
+    row = json.loads(tests.run(["--format", "json", SCHEMA, path], program=program)[0])
+    tests.judge("JSON without a place", (56, "#3", None, None), (row["number"], row["instance"], row["line"], row["column"]))
+    result = json.loads(tests.run(["--format", "sarif", SCHEMA, path], program=program)[0])["runs"][0]["results"][0]
+    tests.judge("SARIF without a place", False, "region" in result["locations"][0]["physicalLocation"])
 
 
 def lists(tests):
@@ -1141,7 +1142,7 @@ def main():
     tests = Tests("p21-where")
     groups = [faults, refused, values, schemas, attributes, explained, hints, kinds, others, renaming, changed]
     groups += [expected, documented, missing, forms, several, first_of_all, many, helps, counts, seeking, columns, equals]
-    for group in [*groups, strings, unfinished, silent, without_proc, cut_short, references, lists, strange, controls, limits, memory, speed]:
+    for group in [*groups, strings, unfinished, silent, without_proc, cut_short, references, unplaced, lists, strange, controls, limits, memory, speed]:
         group(tests)
     tests.end()
 

@@ -1,52 +1,53 @@
-"""Where a STEP file is refused, and what there is to say of the place.
+"""What there is to say of a place where a STEP file is refused.
 
-The program says whether a file is refused, by which number, and at which statement or in which instance. The place inside
-is found by asking it about files that are made for the purpose: of a statement that is cut, or of an instance in which a
-value is replaced by one that is refused by another number.
+The program says by which number a file is refused, at which statement or in which instance, and where: the byte, the line and the
+column, and of a value of a record the attribute. What is shown beside it is read from the file and the schema text: how far goes what
+stands there, what is wrong with it, and what would be right.
 """
 
-# A missing value is looked for by an entity that has the same attributes, all optional, in a copy of the schema. At
-# most 100 ways are tried; where several fit, the last attributes are named, as the values are read from the front.
+# A missing value is named by what the values look like: where they can stand for the attributes in one way alone, by
+# their kinds and those of the types, the attribute that is left has none, and the place is that where it would stand.
+# At most 100 ways are tried. Where several fit, the last attributes are named, as the values are read from the front,
+# and the place is the one of the program.
 
-# The tools copy what can be read only once, because they ask the program more than once about a text. A pipe, or what
+# The tools copy what can be read only once, because they read a text more than once. A pipe, or what
 # only the tool has open, such as `/dev/stdin`, is first copied into a file without a name, and the program reads the
 # same each time.
 #
 # `p21-where` keeps the bytes of a file, which take no more memory than the file where it lies, of which all is looked
-# at: a file that is mapped and cut short meanwhile ends the tool by a signal. What is found of a place is found in
-# these bytes; a file that was changed while the program read it is said to be, and nothing else.
+# at: a file that is mapped and cut short meanwhile ends the tool by a signal. What is said of a place is read
+# in these bytes; a file that was changed while the program read it is said to be, and nothing else.
 
-import array
 import collections
 import difflib
 import functools
 import hashlib
 import itertools
+import json
 import math
 import os
 import re
-import tempfile
-from typing import Callable, Collection, Counter, Dict, Iterable, Iterator, List, Mapping, NamedTuple, Optional, Sequence, Set, Tuple
+from typing import Any, Callable, Dict, Iterable, Iterator, List, NamedTuple, Optional, Sequence, Set, Tuple, Union
 
-import p21_asking
 import p21_reading as reading
-import p21_seeking as seeking
-from p21_reading import Part, Piece, Text, Value
-from p21_schemas import Attribute, Outline, Place, brief, first_count, items_in, name_of
+from p21_reading import Part, Text, Value
+from p21_schemas import Attribute, Outline, Place, brief, items_in, name_of
 
 # What ends a statement, and what hides an end.
 STATEMENT_MARK = re.compile(rb"[;']|/\*")
 NAME = re.compile(rb"#(?=\d)0*(\d{0,21})")
+# So many names are sought by a pattern of their own.
+FEW = 8
 NUMBER = re.compile(rb"([+-]?)(\d+)(?:\.(\d*))?(?:E([+-]?)0*(\d{1,9}))?")
 FIRST_WORD = re.compile(rb"[!#]?[\w-]*")
+# The keyword of an instance of one entity, from the `#` of its name on.
+ONE_KEYWORD = re.compile(rb"#\d+[\0- \x7f]*=[\0- \x7f]*([A-Z]\w*)[\0- \x7f]*\(")
 NAMES_WORD = re.compile(rb"[A-Za-z0-9_]*")
+LINE_END = re.compile(rb"\r\n|\n|\r")
 OF_BYTES = (1, 4, 5, 6, 7, 9, 10, 11)
 OF_END = (2, 3, 24)
 OF_WHOLE = (22, 23, 25, 27, 32)
-# These look at what an instance refers to.
-OF_REFERENCES = (45, 56, 57)
-# Of these one instance, or one name, may have several; and these are of references.
-OF_SEVERAL = (40, 56, 57)
+# These are of references.
 OF_TARGETS = (56, 57)
 WANTED = {
     25: "nothing but blanks and remarks behind END-ISO-10303-21;",
@@ -70,29 +71,54 @@ HEADER = [
     ),
     ("FILE_SCHEMA", [("schema_identifiers", ONE_TEXT)]),
 ]
-# A token of each kind, by the words for it. Those of the first list are values, which mostly may stand together.
-VALUES = [
-    ("a number", b"1"),
-    ("a text", b"''"),
-    ("an item", b".T."),
-    ("a binary", b'"0"'),
-    ("the name of an instance", b"#1"),
-    ('"$"', b"$"),
-    ('"*"', b"*"),
-]
-SIGNS = [('"("', b"("), ('")"', b")"), ('","', b","), ('"="', b"="), ('";"', b";")]
-WORDS = [b"ISO-10303-21", b"HEADER", b"ENDSEC", b"DATA", b"END-ISO-10303-21"]
-DANGLING = 2**64 - 1
+# The words for what may stand in a statement. In the header no value is the name of an instance.
+VALUE, KEYWORD, NAME_OF_INSTANCE = "a value", "a keyword", "the name of an instance"
+VALUES_OF_HEADER = ["a number", "a text", "an item", "a binary", '"$"', '"*"', KEYWORD]
+OPENING, CLOSING, COMMA, EQUALS, END = '"("', '")"', '","', '"="', '";"'
+FIRST_WORDS = ["ISO-10303-21", "HEADER"]
+# The words that begin a statement and no record.
+OF_SECTIONS = (b"ISO-10303-21", b"HEADER", b"ENDSEC", b"DATA", b"END-ISO-10303-21")
+# What a parenthesis holds: the parts of an instance, the one value of a typed parameter, or values.
+PARTS, TYPED, LIST = range(3)
 # Of a text of a file so many characters are said of a place, and so many names are listed.
 LONGEST, MOST = 60, 8
-# Of many instances together so many names that they refer to are kept.
-MOST_NAMES = 1 << 18
 # So many ways in which values may stand for attributes are tried.
 MOST_WAYS = 100
-# Of the references of one instance that are refused so many are placed, since each is looked for among all; of one with more bytes than
-# these the first alone.
-MOST_PLACED, LONGEST_PLACED = 100, 1 << 20
-NOTHING: Mapping[int, bytes] = {}
+# Of the instance that was looked at last so many parts are kept, and so many values of each.
+MOST_KEPT = 1000
+
+
+class Refusal(NamedTuple):
+    """A refusal as the program tells it: by its number, which of a schema text is a word as S4, and its name; what it names; and where
+    that is known the byte, the line and the column in characters, with the attribute by the entity that declares it."""
+
+    number: Union[int, str]
+    name: str
+    statement: Optional[int]
+    instance: Optional[int]
+    byte: Optional[int]
+    line: Optional[int]
+    column: Optional[int]
+    entity: Optional[str]
+    attribute: Optional[str]
+
+    @property
+    def answer(self) -> str:
+        """The line that the program prints of it for people."""
+        if isinstance(self.number, str):
+            return f"schema refused {self.number} {self.name}"
+        where = f"at statement {self.statement}" if self.instance is None else f"in #{self.instance}"
+        return f"refused {self.number} {self.name} {where}"
+
+
+def refusal_of(line: str) -> Refusal:
+    """The refusal that a line of the program's tells, which is an object."""
+    told: Dict[str, Any] = json.loads(line)
+    get = told.get
+    column = get("column_in_characters") or get("column")
+    return Refusal(
+        told["number"], told["name"], get("statement"), get("instance"), get("byte"), get("line"), column, get("entity"), get("attribute")
+    )
 
 
 class Statement(NamedTuple):
@@ -129,282 +155,322 @@ def name_at(text: Text, start: int) -> Optional[int]:
     return int(found[1] or b"0") if found and len(found[1]) <= 20 else None
 
 
+class Ahead:
+    """Where a mark stands next, which is sought again only when its place is passed."""
+
+    def __init__(self, data: Text, mark: bytes) -> None:
+        self.data = data
+        self.mark = mark
+        self.place = -1
+
+    def behind(self, at: int) -> int:
+        """The first place of the mark from a place on, or the end of the text."""
+        if self.place < at:
+            found = self.data.find(self.mark, at)
+            self.place = len(self.data) if found < 0 else found
+        return self.place
+
+
+class Ends:
+    """Where statements end in front of places, which are asked for from the front to the back: what stands between two places is
+    passed over by searches for single bytes. Up to a place the program has read the file, so that strings and remarks end."""
+
+    def __init__(self, data: bytes) -> None:
+        self.data = data
+        self.begin()
+
+    def begin(self) -> None:
+        """Goes back to the beginning."""
+        self.remark, self.paged = Ahead(self.data, b"/*"), Ahead(self.data, reading.PAGED)
+        # So far the text was passed over, where the last statement before ends, and whether a string is open.
+        self.at, self.end, self.inside = 0, 0, False
+
+    def before(self, place: int) -> int:
+        """The place behind the last statement that ends in front of a place; 0 where none does."""
+        if place < self.at:
+            self.begin()
+        while self.at < place:
+            stop = min(place, self.remark.behind(self.at), self.paged.behind(self.at))
+            self.pass_over(stop)
+            if stop < place:
+                self.pass_mark()
+        return self.end
+
+    def pass_over(self, stop: int) -> None:
+        """Passes over a text without remarks in which each apostrophe begins or ends a string."""
+        data, at = self.data, self.at
+        end = data.rfind(b";", at, stop)
+        while end >= 0 and self.inside ^ (data.count(b"'", at, end) % 2 == 1):
+            # It stands in a string, in front of which the end is sought.
+            end = data.rfind(b";", at, max(data.rfind(b"'", at, end), at))
+        self.end = self.end if end < 0 else end + 1
+        self.inside ^= data.count(b"'", at, stop) % 2 == 1
+        self.at = stop
+
+    def pass_mark(self) -> None:
+        """Passes over a remark, or over what in a string looks like one, or like the end of the string."""
+        if self.inside:
+            self.at += len(reading.PAGED) if self.at == self.paged.place else 1
+        elif self.at == self.remark.place:
+            self.at = reading.end_of_remark(self.data, self.at) or len(self.data)
+        else:
+            self.at += 1
+
+
 class Checked:
     """A file and the schema by which it is checked, which the command line names so: what the refusals of a file share."""
 
-    def __init__(self, program: str, schema: str, named: str, data: Text) -> None:
-        self.program = program
+    def __init__(self, schema: str, named: str, data: bytes) -> None:
         self.schema = schema
         self.named = named
         self.data = data
         self.name = name_of(reading.text_of(schema))
         self.lines = reading.Lines(data)
-        # Where instances stand, of those that were looked for together.
-        self.known: Dict[int, List[int]] = {}
-        # The references of an instance into nothing, of those that were looked for.
-        self.dangling: Dict[int, Sequence[int]] = {}
-        self.together: Optional[p21_asking.Together] = None
+        self.ends = Ends(data)
+        self.last = Statement(0, 0, None)
+        # Where the first instances of these names stand, of those that were looked for.
+        self.known: Dict[int, int] = {}
+        self.keys_of = functools.lru_cache(maxsize=1024)(self.keys_of_instance)
+        self.parts = functools.lru_cache(maxsize=1)(self.parts_of)
+        self.places = functools.lru_cache(maxsize=None)(self.places_of)
+        self.missing_in = functools.lru_cache(maxsize=None)(self.missing_by_kinds)
+        self.declared = functools.lru_cache(maxsize=None)(self.declared_of)
 
     @functools.cached_property
     def outline(self) -> Outline:
         """The declarations of the schema."""
         return Outline(reading.text_of(self.schema))
 
-    # What the program says
-
-    def answer(self, *pieces: Piece, schema: Optional[str] = None) -> Optional[int]:
-        """The number by which a text is refused, 0 where it is accepted and None where the schema is refused."""
-        answer = reading.answered(reading.run(self.program, "check", schema or self.schema, "/dev/stdin", text=pieces))
-        found = re.match(r"refused (\d+)", answer.error)
-        return int(found[1]) if found else None if answer.status else 0
-
-    def check_all(self, *instances: Piece, schema: Optional[str] = None) -> reading.Answer:
-        """The answer of `p21 check --all` on a file of these instances."""
-        text = self.with_instances(*instances)
-        return reading.run(self.program, "check", schema or self.schema, "/dev/stdin", options=["--all"], text=text)
-
-    def with_instances(self, *pieces: Piece) -> List[Piece]:
-        """A file of instances, whose text is these pieces."""
-        name = self.name.encode("ascii")
-        header = b"FILE_DESCRIPTION($,$);FILE_NAME($,$,$,$,$,$,$);FILE_SCHEMA(('" + name + b"'));"
-        return [b"ISO-10303-21;HEADER;" + header + b"ENDSEC;DATA;\n", *pieces, b"\nENDSEC;END-ISO-10303-21;"]
-
-    # Where instances stand
+    # The file
 
     def text(self, statement: Statement) -> bytes:
         """The text of a statement."""
         return bytes(self.data[statement.start : statement.end])
 
-    def defined(self, names: Collection[int]) -> Iterable[Tuple[int, int]]:
-        """Where instances of these names stand, as pairs of a name and the place of its `#`, in the order of the file."""
-        if all(name in self.known for name in names):
-            return sorted(((name, at) for name in names for at in self.known[name]), key=lambda found: found[1])
-        return seeking.defined(self.data, names)
+    def statement_at(self, place: int) -> Statement:
+        """The statement at a place."""
+        if not self.last.start <= place < self.last.end:
+            self.last = next(statements(self.data, self.ends.before(place)))
+        return self.last
 
-    def texts(self, names: Collection[int]) -> Dict[int, bytes]:
-        """The texts of the instances of these names."""
-        return {name: self.text(next(statements(self.data, place))) for name, place in self.defined(names)}
+    def parts_of(self, statement: Statement) -> Sequence[Part]:
+        """The parts of an instance, with their values as they are read once, where they are few."""
+        parts = reading.read_parts(self.data, statement.start)
+        if len(parts) > MOST_KEPT:
+            return parts
+        return [part._replace(values=list(part.values)) if len(part.values) <= MOST_KEPT else part for part in parts]
 
-    def definition(self, name: int, number: int) -> Optional[Statement]:
-        """The instance of a name that so many others of that name stand in front of, or None."""
-        if name in self.known:
-            places = iter(self.known[name][number : number + 1])
-        else:
-            found = seeking.found_at_once(self.data, name) if number == 0 else seeking.defined(self.data, {name})
-            places = (place for _, place in itertools.islice(found, number, None))
-        return next((next(statements(self.data, place)) for place in places), None)
+    def keys_at(self, place: int) -> Tuple[str, ...]:
+        """The keywords of the instance at a place."""
+        found = ONE_KEYWORD.match(self.data, reading.behind_blanks(self.data, self.ends.before(place)))
+        return (found[1].decode("ascii"),) if found else tuple(part.key for part in self.parts(self.statement_at(place)))
 
-    # Many refusals
+    def keys_of_instance(self, start: int) -> Tuple[str, ...]:
+        """The keywords of the instance that begins at a place."""
+        return tuple(part.key for part in reading.read_parts(self.data, start))
 
-    @functools.lru_cache(maxsize=1)
-    def most_placed(self, instance: int) -> int:
-        """How many refused references of an instance are placed."""
-        found = self.definition(instance, 0)
-        return 1 if found and found.end - found.start > LONGEST_PLACED else MOST_PLACED
-
-    def places(self, refusals: Sequence["Refused"]) -> Iterator[Tuple[Optional[Statement], Optional[Place]]]:
-        """The place of each refusal, with its statement. The file is passed over twice for all of them."""
-        self.together = self.together or p21_asking.Together(self.check_all)
-        self.known.clear()
-        self.dangling.clear()
-        self.look_for({refused.instance for refused in refusals if refused.instance is not None}, are_there=True)
-        of_references = (refused for refused in refusals if refused.number in OF_REFERENCES and refused.instance is not None)
-        texts = (self.text_of_first(instance) for instance in dict.fromkeys(refused.instance for refused in of_references))
-        names = (name for text in texts if 0 < len(text) <= reading.PIECE for name in referred_in(text))
-        self.look_for(set(itertools.islice(names, MOST_NAMES)))
-        yield from self.together.map(lambda refused: refused.place() if refused.is_placed else (None, None), refusals)
-
-    def text_of_first(self, instance: Optional[int]) -> bytes:
-        """The text of the first instance of a name; nothing where there is none."""
-        found = self.definition(instance, 0) if instance is not None else None
-        return self.text(found) if found else b""
-
-    def look_for(self, names: Set[int], are_there: bool = False) -> None:
-        """Looks where the instances of these names stand. One name that an instance has is found in less time."""
+    def look_for(self, names: Set[int]) -> None:
+        """Looks where the first instances of these names stand. The file is passed over once for all of them."""
         wanted = names - self.known.keys()
-        for name in wanted:
-            self.known[name] = []
-        is_one = are_there and len(wanted) == 1
-        for name, place in seeking.found_at_once(self.data, *wanted) if is_one else seeking.defined(self.data, wanted):
-            self.known[name].append(place)
+        if not wanted:
+            return
+        digits = b"|".join(b"%d" % name for name in wanted) if len(wanted) <= FEW else rb"\d{1,20}"
+        for found in re.finditer(rb"#0*(%s)(?=[\0- \x7f=/])" % digits, self.data):
+            name = int(found[1])
+            if name in wanted and is_defined(self.data, found.end()) and self.statement_at(found.start()).start == found.start():
+                self.known[name] = found.start()
+                wanted.discard(name)
+                if not wanted:
+                    return
+
+    # The schema
+
+    def places_of(self, key: str, alone: bool) -> List[Attribute]:
+        """What the values of a part stand for: all attributes of the entity, or among other parts those of its own."""
+        if alone:
+            return list(self.outline.places(key))
+        return [(key, attribute) for attribute in self.outline.own_attributes(key)]
+
+    def declared_of(self, keys: Sequence[str], attribute: Attribute) -> Tuple[str, ...]:
+        """What the schema says of an attribute in an instance of these entities."""
+        return tuple(self.outline.explained(keys, attribute)) if attribute[0] in self.outline.entities else ()
+
+    def missing_by_kinds(self, key: str, kinds: Sequence[str]) -> Optional[Sequence[int]]:
+        """Which attributes of an entity have no value where values of these kinds stand, if these can stand for the others in one
+        way alone, and None else."""
+        places = self.places(key, True)
+        if math.comb(len(places), len(kinds)) > MOST_WAYS:
+            return None
+        above = self.outline.derived(key)
+        types = [None if place in above else self.outline.type_of([key], place).split() for place in places]
+        found = []
+        for missing in itertools.combinations(range(len(places)), len(places) - len(kinds)):
+            given = (words for at, words in enumerate(types) if at not in missing)
+            if all((kind == "*") if words is None else self.outline.takes(words, kind) for kind, words in zip(kinds, given)):
+                found.append(missing)
+        return found[0] if len(found) == 1 else None
 
 
 class Refused:
-    """A refusal of a file by a number: at a statement, or in an instance. Of those that are alike by number and instance it is the
-    one with so many in front of it."""
+    """A refusal of a file, with what there is to say of its place."""
 
-    def __init__(self, checked: Checked, line: str, before: int = 0) -> None:
+    def __init__(self, checked: Checked, refusal: Refusal) -> None:
         self.checked = checked
         self.data = checked.data
-        parts = reading.refusal(line)
-        self.number = int(parts["number"])
-        self.statement = parts["statement"]
-        self.instance = parts["instance"] and int(parts["instance"][1:])
-        self.before = before
-        # Is the place looked for?
-        self.is_placed = True
-        # Which attributes of the part with too few values have none.
+        self.told = refusal
+        self.number = refusal.number
+        # Which attributes of the part with too few values have none, and which is the first of them.
         self.missing: Sequence[int] = ()
+        self.lacking: Optional[Attribute] = None
 
     @property
     def outline(self) -> Outline:
         """The declarations of the schema."""
         return self.checked.outline
 
-    # What the program says
+    def names(self) -> Iterator[int]:
+        """The names of the instances that are spoken of beside the place."""
+        if self.number == 40 and self.told.instance is not None:
+            yield self.told.instance
+        if self.number == 57 and self.told.byte is not None:
+            target = name_at(self.data, self.told.byte)
+            if target is not None:
+                yield target
 
-    def answer(self, *pieces: Piece) -> Optional[int]:
-        """The number by which a text is refused, 0 where it is accepted and None where the schema is refused."""
-        return self.checked.answer(*pieces)
+    @property
+    def statement(self) -> Statement:
+        """The statement at the place, where the program tells one."""
+        assert self.told.byte is not None
+        return self.checked.statement_at(self.told.byte)
 
-    def numbers_of(self, *record: Piece, others: Mapping[int, bytes] = NOTHING) -> List[Optional[int]]:
-        """The numbers by which an instance is refused, whose text is these pieces, in a file that has others too, by their names;
-        where one refusal is looked for the first one alone, which is 0 where there is none."""
-        if self.checked.together:
-            behind = reading.matched(NAME, record[0], 0).end()
-            return [*self.checked.together.numbers([record[0][behind:], *record[1:]], others)]
-        texts = (text for name, text in others.items() if name != self.instance)
-        return [self.answer(*self.checked.with_instances(*record, b"\n", *texts))]
+    def place(self) -> Optional[Place]:
+        """The place with what there is to say of it, or None where the program tells none."""
+        if self.told.byte is None:
+            return None
+        return self.place_in_statement(self.told.byte) if self.told.instance is None else self.place_in_instance(self.told.byte)
 
-    def is_refused_otherwise(self, *record: Piece) -> bool:
-        """Is an instance, whose text is these pieces, refused by another number, or not at all?"""
-        return self.number not in self.numbers_of(*record)
+    def position(self, start: int) -> Tuple[Optional[int], Optional[int]]:
+        """The line and the column of a place near the one that the program tells."""
+        at, line, column = self.told.byte, self.told.line, self.told.column
+        if at is None or line is None or start == at:
+            return line, column
+        between = LINE_END.findall(self.data[min(at, start) : max(at, start)])
+        return line + len(between) * (1 if start > at else -1), self.checked.lines.place(start)[1]
 
-    # Where it is
+    def attribute(self) -> Optional[Attribute]:
+        """The attribute at the place, or None where the program tells none."""
+        if self.lacking is not None:
+            return self.lacking
+        entity, attribute = self.told.entity, self.told.attribute
+        if entity is not None and attribute is not None:
+            return entity, attribute
+        return self.attribute_of_reference() if self.number in OF_TARGETS else None
 
-    def place(self) -> Tuple[Optional[Statement], Optional[Place]]:
-        """The place of the refusal, and the statement that it stands in."""
-        if self.statement is None:
-            return self.place_in_instance()
-        start = seeking.behind_statements(self.data, self.statement - 1)
-        if start is None:
-            return None, None
-        statement = next(statements(self.data, start))
-        return statement, self.place_in_statement(self.front(start), statement)
+    def attribute_of_reference(self) -> Optional[Attribute]:
+        """The attribute in whose value the reference at the place stands, which the program doesn't tell."""
+        assert self.told.byte is not None
+        at = self.told.byte
+        parts = self.checked.parts(self.statement)
+        part = next((part for part in parts if part.start <= at < part.end), None)
+        if part is None or part.key not in self.outline.entities:
+            return None
+        beside = zip(self.checked.places(part.key, len(parts) == 1), part.values)
+        return next((attribute for attribute, value in beside if value.start <= at < value.end), None)
 
-    def front(self, end: int) -> bytearray:
-        """The statements in front of a place that aren't instances: those before the first one, and behind each section."""
-        front = bytearray()
-        behind = 0
-        for section in itertools.chain([0], seeking.sections(self.data, end)):
-            for statement in statements(self.data, section) if section >= behind else ():
-                if statement.end > end or self.data[statement.start : statement.start + 1] == b"#":
-                    break
-                front += self.text(statement)
-                behind = statement.end
-        return front
+    def declared(self, attribute: Attribute) -> Tuple[str, ...]:
+        """What the schema says of an attribute of the instance."""
+        assert self.told.byte is not None
+        return self.checked.declared(self.checked.keys_at(self.told.byte), attribute)
 
     # At a statement
 
-    def place_in_statement(self, front: bytearray, statement: Statement) -> Place:
-        """The place in a statement. `front` are those before it that aren't instances."""
+    def place_in_statement(self, at: int) -> Place:
+        """The place in a statement."""
         if self.number in OF_END:
-            return self.place_of_end(statement)
-        if self.number == 30:
-            return moved(self.place_in_header(front, self.text(statement)), statement.start)
-        if self.number in OF_WHOLE:
-            end = reading.matched(FIRST_WORD, self.data, statement.start).end()
-            wanted = WANTED.get(self.number)
-            return Place(statement.start, end, [f"wanted here: {wanted}"] if wanted else [], wanted)
-        if self.number == 31:
-            return self.place_of_schema(statement)
-        if self.number == 33:
-            value = reading.read_parts(self.text(statement))[0].values[0]
-            return moved(Place(value.start, value.end, []), statement.start)
-        return self.place_of_byte(front, statement)
-
-    def text(self, statement: Statement) -> bytes:
-        """The text of a statement."""
-        return self.checked.text(statement)
-
-    def line_number(self, at: int) -> int:
-        """The number of the line in which a place stands."""
-        return self.checked.lines.number(at)
-
-    def place_of_end(self, statement: Statement) -> Place:
-        """The end of the file, or where the string or the remark begins that is open there."""
-        if statement.open is not None:
-            return Place(statement.open, statement.open + 1, ["it begins here and ends nowhere"])
-        end = len(self.data)
-        notes = [f"the statement begins in line {self.line_number(statement.start)}"]
-        return Place(end, end, ["the file ends here"] + (notes if statement.start < end else []))
-
-    def place_of_byte(self, front: bytearray, statement: Statement) -> Place:
-        """The first byte with which the statement is refused, or the word that it ends."""
-        text = self.text(statement)
-        view = memoryview(text)
-
-        def is_refused(count: int) -> bool:
-            return self.answer(front, view[:count]) == self.number
-
-        low, size = 0, 32
-        while size < len(text) and not is_refused(size):
-            low, size = size, 2 * size
-        at = low + first_count(min(size, len(text)) - low, lambda count: is_refused(low + count)) - 1
+            return self.place_of_end(at)
         if self.number in OF_BYTES:
-            start = lead(text, at) if self.number == 6 else at
-            notes = [about_byte(text[start], self.number), *what_helps(text[start], self.number)]
-            return moved(Place(start, at + (start == at), notes), statement.start)
-        if self.answer(front, view[:at], b" ") != self.number:
-            at += 1
-        start, end = collections.deque(reading.lexemes(text, 0, at), 1)[0]
-        wanted = self.wanted(front, view[:start]) if self.number == 20 and start < reading.PIECE else None
-        return moved(Place(start, end, [f"wanted here: {wanted}"] if wanted else [], wanted), statement.start)
+            return self.place_of_byte(at)
+        if self.number == 30:
+            return self.place_in_header(at)
+        if self.number == 31:
+            return self.place_of_schema(at)
+        if self.number in OF_WHOLE:
+            wanted = WANTED.get(self.told.number) if isinstance(self.told.number, int) else None
+            return Place(at, reading.matched(FIRST_WORD, self.data, at).end(), [f"wanted here: {wanted}"] if wanted else [], wanted)
+        wanted = self.wanted(at) if self.number == 20 else None
+        return Place(at, end_of_word(self.data, at), [f"wanted here: {wanted}"] if wanted else [], wanted)
 
-    def wanted(self, front: bytearray, before: memoryview) -> Optional[str]:
-        """The tokens that could stand behind the beginning of a statement, or None. Each is tried."""
+    def place_of_end(self, at: int) -> Place:
+        """The end of the file, or where the string or the remark begins that is open there."""
+        if self.number != 24:
+            return Place(at, at + 1, ["it begins here and ends nowhere"])
+        start = self.statement.start
+        notes = [f"the statement begins in line {self.checked.lines.number(start)}"]
+        return Place(at, at, ["the file ends here"] + (notes if start < at else []))
 
-        def could_stand(token: bytes) -> bool:
-            answer = self.answer(front, before, b" ", token, b" ")
-            return answer in (0, 24) or (answer or 0) >= 30
+    def place_of_byte(self, at: int) -> Place:
+        """The first byte with which the file is refused, or in a string the bytes that should be a character."""
+        byte, end = self.data[at], at + 1
+        while self.number == 6 and byte >= 0xC0 and 0x80 <= self.data[end] < 0xC0:
+            end += 1
+        return Place(at, end, [about_byte(byte, self.number == 6), *what_helps(byte, self.number)])
 
-        values = [words for words, token in VALUES if could_stand(token)]
-        if len(values) == len(VALUES):
-            values = ["a value"]
-        elif could_stand(b"X"):
-            values.append("a keyword")
-        signs = [words for words, token in SIGNS if could_stand(token)]
-        own = [word.decode() for word in WORDS if could_stand(word)] if not bytes(before).strip() else []
-        found = own + values + signs
+    def wanted(self, at: int) -> Optional[str]:
+        """What could stand at a place of a statement in place of what does, or None where it is very long."""
+        start = self.statement.start
+        if at - start >= reading.PIECE:
+            return None
+        words = [self.data[slice(*found)] for found in reading.lexemes(self.data, start, at)]
+        found = could_follow(words) if words else self.could_begin(start)
         return " or ".join(filter(None, [", ".join(found[:-1]), *found[-1:]])) or None
 
-    def place_in_header(self, front: bytearray, text: bytes) -> Place:
+    def could_begin(self, start: int) -> List[str]:
+        """With which words the statement at a place could begin, by those before it."""
+        if self.told.statement in (1, 2):
+            return [FIRST_WORDS[self.told.statement - 1]]
+        words = ((first_word(self.data, found), found) for found in statements(self.data))
+        if next(found for word, found in words if word == b"ENDSEC" or found.end >= start).end >= start:
+            return ["ENDSEC", KEYWORD]
+        first_section = next(words)[1]
+        if first_section.start >= start:
+            return ["DATA"]
+        if first_word(self.data, self.checked.statement_at(self.checked.ends.before(start) - 1)) != b"ENDSEC":
+            return ["ENDSEC", NAME_OF_INSTANCE]
+        has_name = b"(" in self.checked.text(first_section)
+        return [*(["DATA"] if has_name else []), "END-ISO-10303-21"]
+
+    def place_in_header(self, at: int) -> Place:
         """The record of the header, or the parameter in it, that has another form than it must have."""
-        at = self.statement - 3
-        key = reading.matched(FIRST_WORD, text, 0)[0].decode("latin-1")
-        if at >= len(HEADER):
-            return Place(0, len(key), [f"{brief(key)} stands a second time"], "a record of another keyword")
-        name, parameters = HEADER[at]
+        assert self.told.statement is not None
+        start, number = self.statement.start, self.told.statement - 3
+        key = first_word(self.data, self.statement).decode("latin-1")
+        if number >= len(HEADER):
+            return Place(start, start + len(key), [f"{brief(key)} stands a second time"], "a record of another keyword")
+        name, parameters = HEADER[number]
         shape = f"{name}({', '.join(shape for _, shape in parameters)})"
         if key != name:
-            return Place(0, max(len(key), 1), [f"wanted here: {shape}"], shape)
-        part = reading.read_parts(text)[0]
-        values = part.values
-        counts = f"{name} has {counted(len(parameters), 'parameter')}, and here {'is' if len(values) == 1 else 'are'} {len(values)}"
+            return Place(start, start + max(len(key), 1), [f"wanted here: {shape}"], shape)
+        values = reading.read_parts(self.data, start)[0].values
+        count = f"{name} has {counted(len(parameters), 'parameter')}, and here {'is' if len(values) == 1 else 'are'} {len(values)}"
         if len(values) < len(parameters):
             missing = listed(parameter for parameter, _ in parameters[len(values) :])
-            return Place(part.end, part.end + 1, [f"{counts}; without one: {missing}", f"wanted here: {shape}"], shape)
+            return Place(at, at + 1, [f"{count}; without one: {missing}", f"wanted here: {shape}"], shape)
         if len(values) > len(parameters):
-            value = values[len(parameters)]
-            return Place(value.start, value.end, [counts, f"wanted here: {shape}"], shape)
-        for number, (value, (parameter, wanted)) in enumerate(zip(values, parameters), 1):
-            others = [b"$"] * len(parameters)
-            others[number - 1] = text[value.start : value.end]
-            if self.answer(front, name.encode(), b"(", b",".join(others), b");") == 30:
-                notes = [f"parameter {number} of {name}, {parameter}", f"wanted here: {wanted}"]
-                return Place(value.start, value.end, notes, wanted)
-        return Place(0, len(key), [f"wanted here: {shape}"], shape)
+            return Place(at, reading.value_at(self.data, at).end, [count, f"wanted here: {shape}"], shape)
+        found = next((found for found in enumerate(zip(values, parameters), 1) if found[1][0].start <= at < found[1][0].end), None)
+        if found is None:
+            return Place(start, start + len(key), [f"wanted here: {shape}"], shape)
+        place, (value, (parameter, wanted)) = found
+        return Place(value.start, value.end, [f"parameter {place} of {name}, {parameter}", f"wanted here: {wanted}"], wanted)
 
-    def place_of_schema(self, statement: Statement) -> Place:
+    def place_of_schema(self, at: int) -> Place:
         """The text that names the schema, and how schema and file are made to agree."""
-        text = self.text(statement)
-        value = reading.read_parts(text)[0].values[-1].inner[0]
-        named = reading.matched(NAMES_WORD, text, value.start + 1)[0].decode("ascii")
+        named = reading.matched(NAMES_WORD, self.data, at + 1)[0].decode("ascii")
         notes = [f"the file is of {brief(named) or '(no name)'}, the schema text of {self.checked.name}"]
         if re.fullmatch(r"[A-Za-z]\w*", named):
             notes += ["where both are one schema by two names, this makes a schema text of the file's name:"]
             notes += [f"  {self.renaming(named)}"]
-        return moved(Place(value.start, value.end, notes, self.checked.name), statement.start)
+        return Place(at, end_of_word(self.data, at), notes, self.checked.name)
 
     def renaming(self, named: str) -> str:
         """The command that makes a schema text of another name."""
@@ -420,153 +486,47 @@ class Refused:
 
     # In an instance
 
-    def place_in_instance(self) -> Tuple[Optional[Statement], Optional[Place]]:
-        """The place in the instance that is refused, and its statement."""
-        assert self.instance is not None
-        statement = self.checked.definition(self.instance, 0)
-        if statement is None:
-            return None, None
+    def place_in_instance(self, at: int) -> Place:
+        """The place in an instance."""
         if self.number == 40:
-            return self.place_of_name(self.instance, statement)
-        text = self.text(statement)
-        return statement, moved(self.place_in_record(text, reading.read_parts(text)), statement.start)
+            first = self.checked.known.get(self.told.instance or 0)
+            notes = [f"#{self.told.instance} stands in line {self.checked.lines.number(first)} too"] if first is not None else []
+            return Place(at, reading.matched(NAME, self.data, at).end(), notes)
+        if self.data[at : at + 1] == b"#" and at == self.statement.start:
+            # A very long instance, in which the program tells no place.
+            return Place(at, reading.matched(NAME, self.data, at).end(), [])
+        if self.number in OF_PARTS:
+            parts = self.checked.parts(self.statement)
+            part = next((part for part in parts if part.start <= at <= part.end), parts[0])
+            return OF_PARTS[self.number](self, part, parts)
+        value = reading.value_at(self.data, at)
+        of_value = OF_VALUES.get(self.number)
+        return of_value(self, value) if of_value else Place(value.start, value.end, [])
 
-    def place_of_name(self, instance: int, first: Statement) -> Tuple[Optional[Statement], Optional[Place]]:
-        """The place of a name that another instance has before."""
-        statement = self.checked.definition(instance, 1 + self.before)
-        if statement is None:
-            return None, None
-        end = reading.matched(NAME, self.data, statement.start).end()
-        note = f"#{instance} stands in line {self.line_number(first.start)} too"
-        return statement, Place(statement.start, end, [note])
+    # Parts of an instance
 
-    def place_in_record(self, text: bytes, parts: Sequence[Part]) -> Place:
-        """The place in the text of an instance."""
-        for_number = {
-            41: self.unknown_entity,
-            42: self.abstract,
-            43: self.part_missing,
-            44: self.part_twice,
-            45: self.count,
-            55: self.redeclared_twice,
-            56: self.dangling,
-            57: self.wrong_target,
-            58: self.one_of,
-        }
-        found = for_number.get(self.number, self.value)(text, parts)
-        return found or Place(parts[0].start, parts[0].start + len(parts[0].key), [])
-
-    def unknown_entity(self, _: bytes, parts: Sequence[Part]) -> Place:
-        """The first keyword that the schema doesn't have."""
-        part = next(part for part in parts if part.key not in self.outline.entities)
+    def unknown_entity(self, part: Part, _: Sequence[Part]) -> Place:
+        """A keyword that the schema doesn't have."""
         near = difflib.get_close_matches(brief(part.key), self.outline.entities, 3)
         notes = [f"the schema {self.checked.name} has no entity {brief(part.key)}"]
         notes += [f"entities with a like name: {', '.join(near)}"] if near else []
         return of_key(part, notes)._replace(expected=f"an entity of {self.checked.name}")
 
-    def abstract(self, _: bytes, parts: Sequence[Part]) -> Optional[Place]:
+    def abstract(self, part: Part, _: Sequence[Part]) -> Place:
         """The keyword of an abstract entity of which no subtype is there."""
-        names = {part.key for part in parts}
-        for part in parts:
-            below = [name for name in names - {part.key} if part.key in self.outline.closure([name])]
-            if self.outline.is_abstract(part.key) and not below:
-                subtypes = [name for name in self.outline.entities if part.key in self.outline.supertypes(name)]
-                return of_key(part, [f"{brief(part.key)} is abstract; its subtypes: {listed(subtypes)}"])
-        return None
+        subtypes = [name for name in self.outline.entities if part.key in self.outline.supertypes(name)]
+        return of_key(part, [f"{brief(part.key)} is abstract; its subtypes: {listed(subtypes)}"])
 
-    def part_missing(self, _: bytes, parts: Sequence[Part]) -> Optional[Place]:
-        """The first part of which a supertype has no part."""
-        names = {part.key for part in parts}
-        for part in parts:
-            missing = sorted(self.outline.closure([part.key]) - names)
-            if missing:
-                return of_key(part, [f"a supertype without a part: {listed(missing)}"])
-        return None
+    def part_missing(self, part: Part, parts: Sequence[Part]) -> Place:
+        """A part of which a supertype has no part."""
+        missing = sorted(self.outline.closure([part.key]) - {part.key for part in parts})
+        return of_key(part, [f"a supertype without a part: {listed(missing)}"])
 
-    def part_twice(self, _: bytes, parts: Sequence[Part]) -> Optional[Place]:
+    def part_twice(self, part: Part, _: Sequence[Part]) -> Place:
         """The second part of an entity."""
-        keys = set()
-        for part in parts:
-            if part.key in keys:
-                return of_key(part, [f"{brief(part.key)} has a part already"])
-            keys.add(part.key)
-        return None
+        return of_key(part, [f"{brief(part.key)} has a part already"])
 
-    def count(self, text: bytes, parts: Sequence[Part]) -> Optional[Place]:
-        """The first value too many, or where one is missing: where the types of the attributes leave one place alone, this is
-        it, and else the `)` behind the values."""
-        for part in parts:
-            places = list(self.places(part, len(parts) == 1))
-            wanted, count = len(places), len(part.values)
-            said = {"expected": counted(wanted, "value"), "found": counted(count, "value")}
-            counts = f"{part.key} has {counted(wanted, 'attribute')}, and here {'is' if count == 1 else 'are'} {said['found']}"
-            if count > wanted:
-                value = part.values[wanted]
-                return Place(value.start, value.end, [counts], **said)
-            if count < wanted:
-                self.missing = self.missing_in(text, part, places, len(parts) == 1) or range(count, wanted)
-                notes = [f"{counts}; without one: {listed(places[at][1] for at in self.missing)}"]
-                first = self.missing[0]
-                start = part.values[first].start if first < count else part.end
-                return Place(start, start + 1, notes, **said)
-        return None
-
-    def missing_in(self, text: bytes, part: Part, places: Sequence[Attribute], alone: bool) -> Optional[Sequence[int]]:
-        """Which attributes of a part have no value, where all others can have the values that are there in one way alone, and
-        None else. Each way is tried by an entity whose attributes are all optional."""
-        count = len(part.values)
-        if not alone or math.comb(len(places), count) > MOST_WAYS or part.end - part.start > reading.PIECE:
-            return None
-        above = self.outline.derived(part.key)
-        derived = [place in above for place in places]
-        types = [self.outline.type_of([part.key], place) for place in places]
-        attributes = "".join(f"a{number} : OPTIONAL {text};" for number, text in enumerate(types))
-        entity = f" ENTITY p21_where; {attributes} END_ENTITY; ".encode("latin-1")
-        values = [text[value.start : value.end] for value in part.values]
-        ways = []
-        for missing in itertools.combinations(range(len(places)), len(places) - count):
-            left = iter(values)
-            row = [b"$" if at in missing else next(left) for at in range(len(places))]
-            stars = [value == b"*" for value in row]
-            if all(star == is_derived for at, (star, is_derived) in enumerate(zip(stars, derived)) if at not in missing):
-                ways.append((missing, b",".join(b"$" if star else value for star, value in zip(stars, row))))
-        found = [missing for (missing, _), number in zip(ways, self.numbers_of_ways(text, part, entity, ways)) if number in (0, 56)]
-        return found[0] if len(found) == 1 else None
-
-    def numbers_of_ways(
-        self, text: bytes, part: Part, entity: bytes, ways: Sequence[Tuple[Sequence[int], bytes]]
-    ) -> Iterator[Optional[int]]:
-        """For each way to give the values to the attributes the number by which it is refused, 0 where it isn't. `entity` declares
-        the entity that is tried."""
-        word = next(word for word in self.outline.words if word.text == ";")
-        references = {target_of(value) for value in reading.references_of(text, [part])} - {None, self.instance}
-        others = self.checked.texts({name for name in references if name is not None})
-        with tempfile.NamedTemporaryFile(suffix=".exp") as schema:
-            schema.writelines(self.with_entity(memoryview(self.outline.text), entity, word.end))
-            schema.flush()
-            if reading.answered(reading.answer_of_schema(self.checked.program, schema.name)).status != 0:
-                return
-            if self.checked.together:
-                together = p21_asking.Together(functools.partial(self.checked.check_all, schema=schema.name))
-                yield from together.first_numbers([b"=P21_WHERE(%s);" % values for _, values in ways], others)
-                return
-            for _, values in ways:
-                record = b"#%d=P21_WHERE(%s);\n" % (self.instance or 0, values)
-                yield self.checked.answer(*self.checked.with_instances(record, *others.values()), schema=schema.name)
-
-    def with_entity(self, source: memoryview, entity: bytes, heading: int) -> Tuple[Piece, Piece, Piece]:
-        """The schema text, in pieces, with an entity behind the `;` of its heading, or behind its constants."""
-        first = next((found for found in self.outline.declarations), None)
-        at = first.start if first and first.kind != "CONSTANT" else heading
-        return source[:at], entity, source[at:]
-
-    def places(self, part: Part, alone: bool) -> Iterator[Attribute]:
-        """What the values of a part stand for: all attributes of the entity, or among other parts those of its own."""
-        if alone:
-            return self.outline.places(part.key)
-        return ((part.key, attribute) for attribute in self.outline.own_attributes(part.key))
-
-    def redeclared_twice(self, _: bytes, parts: Sequence[Part]) -> Optional[Place]:
+    def redeclared_twice(self, part: Part, parts: Sequence[Part]) -> Place:
         """Which attributes are declared anew by several entities of the instance."""
         entities = self.outline.closure(part.key for part in parts)
         by = collections.defaultdict(set)
@@ -576,141 +536,148 @@ class Refused:
                     if len(item) > 1:
                         by[item[-1].text].add(entity.name)
         twice = itertools.islice(((name, sorted(found)) for name, found in by.items() if len(found) > 1), MOST)
-        return of_key(parts[0], [f"{name} is declared anew by {listed(found, ' and ')}" for name, found in twice])
+        return of_key(part, [f"{name} is declared anew by {listed(found, ' and ')}" for name, found in twice])
 
-    def one_of(self, _: bytes, parts: Sequence[Part]) -> Optional[Place]:
+    def one_of(self, part: Part, parts: Sequence[Part]) -> Place:
         """The second of two entities of which an instance is one alone."""
         entities = self.outline.closure(part.key for part in parts)
-        for name in self.outline.entities:
-            found = [entity for entity in self.outline.oneof(name) if entity in entities]
-            if len(found) > 1:
-                notes = [f"{name} says ONEOF of {' and '.join(found[:2])}"]
-                return of_key(next((part for part in parts if part.key in found[1:]), parts[0]), notes)
-        return None
+        found = ((name, [entity for entity in self.outline.oneof(name) if entity in entities]) for name in self.outline.entities)
+        return of_key(part, [f"{name} says ONEOF of {' and '.join(both[:2])}" for name, both in found if len(both) > 1][:1])
 
-    # References
-
-    def rounds(self, references: Sequence[Value]) -> Iterator[Set[int]]:
-        """Sets of the names of an instance's references: each name in one of them, and as many sets as keep each small."""
-        count = 1 + len(references) * 128 // (len(self.data) + 2**24)
-        for number in range(count):
-            yield {name for name in map(target_of, references) if name is not None and name % count == number}
-
-    def dangling(self, text: bytes, parts: Sequence[Part]) -> Optional[Place]:
-        """The reference to an instance that isn't in the file."""
-        assert self.instance is not None
-        known = self.checked.dangling
-        if self.instance not in known:
-            known[self.instance] = self.dangling_in(reading.references_of(text, parts))
-        found = known[self.instance]
-        if len(found) <= self.before:
-            return None
-        value = Value(text, *reading.matched(reading.REFERENCE, text, found[self.before]).span())
-        return Place(value.start, value.end, [f"the file has no #{target_of(value)}"])
-
-    def dangling_in(self, references: Sequence[Value]) -> Sequence[int]:
-        """The places of the references to instances that aren't in the file."""
-        found = array.array("Q")
-        for names in self.rounds(references):
-            names.difference_update([name for name, _ in self.checked.defined(names)])
-            found.extend(value.start for value in references if target_of(value) in names)
-        return found if len(found) < 2 else array.array("Q", sorted(found))
-
-    def wrong_target(self, text: bytes, parts: Sequence[Part]) -> Optional[Place]:
-        """The reference to an instance of another entity than is wanted. Found by references into nothing, which are refused by
-        another number: all but those behind the place."""
-        references: Sequence[Value] = reading.references_of(text, parts)
-        others = {name: text for names in self.rounds(references) for name, text in self.checked.texts(names).items()}
-        whole: List[Optional[int]] = [self.number]
-        if self.checked.together:
-            # Several references may be refused, and those into nothing are, wherever they stand.
-            references = [value for value in references if target_of(value) in others]
-            whole = self.numbers_of(text, others=others)
-        at = [at for at, number in enumerate(whole) if number == self.number][self.before :][:1]
-        if not at:
-            return None
-        front = whole[: at[0] + 1]
-
-        def is_refused_elsewhere(value: Value) -> bool:
-            return self.numbers_of(*replaced(text, value, b"#%d" % DANGLING), others=others)[: len(front)] != front
-
-        value = last_of(references, is_refused_elsewhere)
-        target = target_of(value) if value else None
-        if value is None or target is None:
-            return None
-        keys = [part.key for part in reading.read_parts(others[target])]
-        return Place(value.start, value.end, [f"#{target} is of the {'entity' if len(keys) == 1 else 'entities'} {listed(keys, ' and ')}"])
+    def count(self, part: Part, parts: Sequence[Part]) -> Place:
+        """The first value too many, or where one is missing: where the kinds of the values leave one place alone, this is it, and else
+        the `)` behind the values."""
+        assert self.told.byte is not None
+        alone = len(parts) == 1
+        places = self.checked.places(part.key, alone)
+        wanted, count = len(places), len(part.values)
+        said = {"expected": counted(wanted, "value"), "found": counted(count, "value")}
+        counts = f"{part.key} has {counted(wanted, 'attribute')}, and here {'is' if count == 1 else 'are'} {said['found']}"
+        if count >= wanted:
+            value = reading.value_at(self.data, self.told.byte)
+            return Place(value.start, value.end, [counts], **said)
+        kinds = tuple(map(kind_of, part.values)) if alone and part.end - part.start <= reading.PIECE else None
+        self.missing = (kinds and self.checked.missing_in(part.key, kinds)) or range(count, wanted)
+        first = self.missing[0]
+        self.lacking = places[first]
+        start = part.values[first].start if first < count else self.told.byte
+        return Place(start, start + 1, [f"{counts}; without one: {listed(places[at][1] for at in self.missing)}"], **said)
 
     # Values
 
-    def value(self, text: bytes, parts: Sequence[Part]) -> Optional[Place]:
-        """The value that is refused."""
-        values: Sequence[Value] = reading.values_of_all(text, parts)
-        if self.number == 48:
-            return self.not_derived(text, values)
-        found = None
-        while values:
-            value = self.last_refused(text, values)
-            if value is None:
-                break
-            found, values = value, value.inner if self.number != 52 else ()
-        if found is None:
-            return None
-        if self.number == 52:
-            return self.equal_elements(text, found) or Place(found.start, found.end, [])
-        return Place(found.start, found.end, [])
+    def not_derived(self, value: Value) -> Place:
+        """A value where the schema derives one."""
+        return Place(value.start, value.end, ["the schema derives this value: only * may stand here"], expected='"*"')
 
-    def last_refused(self, text: bytes, values: Sequence[Value]) -> Optional[Value]:
-        """Of some values the last one that is looked at before the instance is refused: one of another kind in its place is
-        refused by another number."""
-        signs = [b"*", b"$"] if self.number in (49, 54) else [b"P21_WHERE(1)"]
+    def dangling(self, value: Value) -> Place:
+        """A reference to an instance that isn't in the file."""
+        return Place(value.start, value.end, [f"the file has no #{name_at(self.data, value.start)}"])
 
-        def is_refused_elsewhere(value: Value) -> bool:
-            return any(self.is_refused_otherwise(*replaced(text, value, sign)) for sign in signs)
+    def wrong_target(self, value: Value) -> Place:
+        """A reference to an instance of another entity than is wanted."""
+        target = name_at(self.data, value.start)
+        start = None if target is None else self.checked.known.get(target)
+        keys = () if start is None else self.checked.keys_of(start)
+        notes = [f"#{target} is of the {'entity' if len(keys) == 1 else 'entities'} {listed(keys, ' and ')}"]
+        return Place(value.start, value.end, notes if keys else [])
 
-        return last_of(values, is_refused_elsewhere)
+    def not_distinct(self, value: Value) -> Place:
+        """The second of two elements that mean the same, with the first one where both look alike."""
+        meant = meaning(self.data, value)
+        for element in self.elements_before(value.start):
+            if meaning(self.data, element) == meant:
+                like = self.data[element.start : min(element.end, element.start + 4 * LONGEST)].decode("latin-1")
+                return Place(value.start, value.end, [f"the same as {brief(like)}"])
+        return Place(value.start, value.end, [])
 
-    def not_derived(self, text: bytes, values: Sequence[Value]) -> Optional[Place]:
-        """The first value that isn't `*` where the schema derives one: with `*` in its place it isn't refused for that."""
-        for value in values:
-            if text[value.start : value.end] != b"*" and 47 not in self.numbers_of(*replaced(text, value, b"*")):
-                return Place(value.start, value.end, ["the schema derives this value: only * may stand here"], expected='"*"')
-        return None
-
-    def equal_elements(self, text: bytes, value: Value) -> Optional[Place]:
-        """The second of two elements that look the same, in a list or in the one of its elements that is looked at last."""
-        inside: Optional[Value] = value
-        while inside and inside.inner:
-            elements = inside.inner
-            last = self.last_refused(text, elements)
-            if last is None or last == elements[-1]:
-                found = reading.first_repeated(
-                    lambda: ((meaning(text, element), element) for element in elements),
-                    inside.end - inside.start,
-                )
-                if found:
-                    first, second = found
-                    like = text[first.start : min(first.end, first.start + 4 * LONGEST)].decode("latin-1")
-                    return Place(second.start, second.end, [f"the same as {brief(like)}"])
-            inside = last
-        return None
+    def elements_before(self, at: int) -> Iterator[Value]:
+        """The elements in front of a place of the list that it stands in."""
+        parts = self.checked.parts(self.statement)
+        values: Sequence[Value] = reading.values_of_all(self.data, parts)
+        holding = next((value for value in values if value.start <= at < value.end), None)
+        while holding is not None and holding.start != at:
+            values = holding.inner
+            holding = next((value for value in values if value.start <= at < value.end), None)
+        return itertools.takewhile(lambda value: value.start < at, values)
 
 
-def refusals_of(checked: Checked, lines: Iterable[str]) -> Iterator[Refused]:
-    """The refusals of a file by the lines of the program, each of which knows how many that are alike stand in front of it, and
-    whether it is placed."""
-    before: Counter[Tuple[int, int]] = collections.Counter()
-    of_references: Counter[int] = collections.Counter()
-    for line in lines:
-        refused = Refused(checked, line)
-        instance, number = refused.instance, refused.number
-        if instance is not None and number in OF_SEVERAL:
-            refused.before = before[instance, number]
-            before[instance, number] += 1
-        if instance is not None and number in OF_TARGETS:
-            of_references[instance] += 1
-            refused.is_placed = of_references[instance] <= checked.most_placed(instance)
-        yield refused
+# What there is to say of a part of an instance, and of a value, by the number of the refusal.
+OF_PARTS: Dict[Union[int, str], Callable[[Refused, Part, Sequence[Part]], Place]] = {
+    41: Refused.unknown_entity,
+    42: Refused.abstract,
+    43: Refused.part_missing,
+    44: Refused.part_twice,
+    45: Refused.count,
+    55: Refused.redeclared_twice,
+    58: Refused.one_of,
+}
+OF_VALUES: Dict[Union[int, str], Callable[[Refused, Value], Place]] = {
+    48: Refused.not_derived,
+    52: Refused.not_distinct,
+    56: Refused.dangling,
+    57: Refused.wrong_target,
+}
+
+
+def is_defined(data: Text, end: int) -> bool:
+    """Does a `=` stand behind a name?"""
+    at = reading.behind_blanks(data, end)
+    return data[at : at + 1] == b"="
+
+
+def first_word(data: Text, statement: Statement) -> bytes:
+    """The word that a statement begins with."""
+    return reading.matched(FIRST_WORD, data, statement.start)[0]
+
+
+def end_of_word(data: Text, at: int) -> int:
+    """The place behind the word or sign at a place."""
+    return next(reading.lexemes(data, at, len(data)), (at, at))[1]
+
+
+def could_follow(words: Sequence[bytes]) -> List[str]:
+    """What could stand behind the words that a statement begins with."""
+    first, last = words[0], words[-1]
+    values = [VALUE] if first[:1] == b"#" or first == b"DATA" else VALUES_OF_HEADER
+    within: List[int] = []
+    for before, word in zip([b"", *words], words):
+        if word == b"(":
+            within.append(PARTS if before == b"=" else TYPED if is_keyword(before) and LIST in within else LIST)
+        elif word == b")":
+            within.pop()
+    if last == b"(":
+        return {PARTS: [KEYWORD], TYPED: [*values, OPENING], LIST: [*values, OPENING, CLOSING]}[within[-1]]
+    if last == b"," or last == b"=":
+        return [*values, OPENING] if last == b"," else [KEYWORD, OPENING]
+    if len(words) == 1 and not is_record(first):
+        return [EQUALS] if first[:1] == b"#" else [*([OPENING] if first == b"DATA" else []), END]
+    if is_keyword(last):
+        return [OPENING]
+    return {PARTS: [KEYWORD, CLOSING], TYPED: [CLOSING], LIST: [CLOSING, COMMA]}[within[-1]] if within else [END]
+
+
+def is_keyword(word: bytes) -> bool:
+    """Is a word the keyword of a record or a type?"""
+    return word[:1].isalpha() or word[:1] == b"!"
+
+
+def is_record(word: bytes) -> bool:
+    """Is the first word of a statement the keyword of a record of the header?"""
+    return is_keyword(word) and word not in OF_SECTIONS
+
+
+# What a value of each kind begins with.
+KINDS = {"'": "text", '"': "binary", ".": "item", "#": "reference", "(": "(", "$": "$", "*": "*"}
+
+
+def kind_of(value: Value) -> str:
+    """What kind of value stands somewhere: of a list the kind of its first element behind a parenthesis."""
+    first = chr(value.text[value.start])
+    if first == "(":
+        return first + "".join(map(kind_of, itertools.islice(value.inner, 1)))
+    if first in "+-0123456789":
+        return "real" if b"." in value.text[value.start : value.end] else "integer"
+    return KINDS.get(first, "typed")
 
 
 def counted(number: int, word: str) -> str:
@@ -718,37 +685,9 @@ def counted(number: int, word: str) -> str:
     return f"{number} {word}{'s' * (number != 1)}"
 
 
-def moved(place: Place, by: int) -> Place:
-    """A place in a part of a text as a place in the text."""
-    return place._replace(start=place.start + by, end=place.end + by)
-
-
 def of_key(part: Part, notes: List[str]) -> Place:
     """The place of a keyword."""
     return Place(part.start, part.start + len(part.key), notes)
-
-
-def replaced(text: bytes, value: Value, by: bytes) -> Tuple[Piece, Piece, Piece]:
-    """The text with something in place of a value, in pieces."""
-    view = memoryview(text)
-    return view[: value.start], by, view[value.end :]
-
-
-def last_of(values: Sequence[Value], is_true: Callable[[Value], bool]) -> Optional[Value]:
-    """The last of the values of which something is true that is true of those before it; None where it's true of none."""
-    if not values or not is_true(values[0]):
-        return None
-    return values[first_count(len(values), lambda count: count == len(values) or not is_true(values[count])) - 1]
-
-
-def target_of(reference: Value) -> Optional[int]:
-    """The name that a reference has."""
-    return name_at(reference.text, reference.start)
-
-
-def referred_in(text: Text) -> Iterator[int]:
-    """The names of the references of an instance."""
-    return (name for name in map(target_of, reading.references_of(text, reading.read_parts(text))) if name is not None)
 
 
 def listed(names: Iterable[str], between: str = ", ") -> str:
@@ -757,7 +696,7 @@ def listed(names: Iterable[str], between: str = ", ") -> str:
     return between.join(first[:MOST]) + (" .." if len(first) > MOST else "")
 
 
-def meaning(text: bytes, value: Value) -> bytes:
+def meaning(text: Text, value: Value) -> bytes:
     """What a value means as far as its text tells: lists in their order, numbers by their ratio, strings as they stand."""
     lexemes = (scalar(text[start:end]) for start, end in reading.lexemes(text, value.start, value.end))
     if text[value.end - 1 : value.end] != b")":
@@ -782,14 +721,14 @@ def scalar(written: bytes) -> bytes:
     return b"%s%sE%d" % (sign.replace(b"+", b""), kept, power) if kept else b"0"
 
 
-def about_byte(byte: int, number: int) -> str:
+def about_byte(byte: int, is_of_character: bool) -> str:
     """A byte by its number, and the sign that it is."""
-    if number == 6:
+    if is_of_character:
         return f"the byte {byte:02X}, which is {chr(byte)} in ISO 8859-1" if byte >= 0xA0 else f"the byte {byte:02X}"
     return f"the byte {byte:02X}, {chr(byte)}" if 0x20 < byte < 0x7F else f"the byte {byte:02X}"
 
 
-def what_helps(byte: int, number: int) -> Iterator[str]:
+def what_helps(byte: int, number: Union[int, str]) -> Iterator[str]:
     """What to do about a byte that is refused by a number, where that is mostly the same."""
     if number == 1 and chr(byte).islower() and byte < 0x80:
         yield "keywords are written in upper case"
@@ -797,11 +736,3 @@ def what_helps(byte: int, number: int) -> Iterator[str]:
         yield "a backslash that is meant as a character is written twice"
     if number == 6:
         yield "where the file is in ISO 8859-1, iconv -f ISO-8859-1 -t UTF-8 makes UTF-8 of it"
-
-
-def lead(text: bytes, at: int) -> int:
-    """Where the character in UTF-8 begins that can't go on with the byte at a place."""
-    start = at
-    while start > 0 and at - start < 3 and 0x80 <= text[start - 1] < 0xC0:
-        start -= 1
-    return start - 1 if start > 0 and text[start - 1] >= 0xC0 else at

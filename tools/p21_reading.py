@@ -38,7 +38,6 @@ from typing import (
     Callable,
     Dict,
     Generator,
-    Hashable,
     Iterable,
     Iterator,
     List,
@@ -626,38 +625,6 @@ class Row(Sequence[Found]):
         return map(self.thing, self.places(self.first))
 
 
-def first_repeated(items: Callable[[], Iterable[Tuple[Hashable, Found]]], size: int) -> Optional[Tuple[Found, Found]]:
-    """The first of some items whose key another one has before it, with that one; or None. `items` gives them anew, as pairs
-    of a key and an item. It takes about `size` bytes, whatever the items are.
-
-    Keys are marked by a bit each. Two may have one bit: those whose bit is marked already are suspects, and compared."""
-    bits = 8 * size + 64
-    marked = bytearray(size + 8)
-    suspects, taken = set(), 0
-
-    def confirmed() -> Optional[Tuple[Found, Found]]:
-        known: Dict[Hashable, Found] = {}
-        for key, item in itertools.islice(items(), taken):
-            if hash(key) % bits in suspects:
-                if key in known:
-                    return known[key], item
-                known[key] = item
-        return None
-
-    for key, _ in items():
-        taken += 1
-        bit = hash(key) % bits
-        if marked[bit // 8] >> bit % 8 & 1:
-            suspects.add(bit)
-        marked[bit // 8] |= 1 << bit % 8
-        if len(suspects) > 64 + size // 1024:
-            found = confirmed()
-            if found:
-                return found
-            suspects.clear()
-    return confirmed() if suspects else None
-
-
 def matched(pattern: Pattern[bytes], text: Union[Text, Piece], at: int, end: int = sys.maxsize) -> Match[bytes]:
     """What a pattern finds at a place, where it finds something."""
     found = pattern.match(text, at, end)
@@ -680,6 +647,8 @@ LEXEME = re.compile(rb"[\0- \x7f]+|'|/\*|([^\0- \x7f(),;='\"/]+|\"[^\"]*\"|.)", 
 SIGN = re.compile(rb"[(),]")
 PARENTHESIS = re.compile(rb"[()]")
 REFERENCE = re.compile(rb"#\d+")
+# A value that is one word, and the sign behind it.
+WORD_IN_LIST = re.compile(rb"[^\0- \x7f(),;='\"/]+(?=[,)])")
 HIDDEN = re.compile(rb"['\"]|/\*")
 
 
@@ -773,7 +742,7 @@ class Part(NamedTuple):
 
     key: str
     start: int
-    values: Row[Value]
+    values: Sequence[Value]
     end: int
 
 
@@ -828,8 +797,15 @@ def signs_in_parts(text: Text, at: int) -> Iterator[int]:
 
 def value_behind(text: Text, sign: int) -> Value:
     """The value behind a `(` or a `,`."""
-    start = end = behind_blanks(text, sign + 1)
-    found = sign_behind(text, start)
+    return value_at(text, behind_blanks(text, sign + 1))
+
+
+def value_at(text: Text, start: int) -> Value:
+    """The value that begins here."""
+    word = WORD_IN_LIST.match(text, start)
+    if word:
+        return Value(text, start, word.end())
+    found, end = sign_behind(text, start), start
     if found[0] == b"(":
         return Value(text, start, closing(text, found.start()) + 1)
     for _, end in lexemes(text, start, found.start()):
@@ -846,15 +822,6 @@ def values_of_all(text: Text, parts: Sequence[Part]) -> Row[Value]:
     """The values of all parts, one behind the other."""
     start = parts[0].start
     return Row(lambda sign: signs_in_parts(text, sign), lambda sign: value_behind(text, sign), start)
-
-
-def references_of(text: Text, parts: Sequence[Part]) -> Row[Value]:
-    """The references of an instance in their order."""
-
-    def places(place: int) -> Iterator[int]:
-        return (found.start() for found in outside(REFERENCE, text, place))
-
-    return Row(places, lambda place: Value(text, *matched(REFERENCE, text, place).span()), parts[0].start)
 
 
 def read_parts(text: Text, start: int = 0) -> Sequence[Part]:

@@ -1,22 +1,23 @@
 """Where a schema text is refused, and what its declarations are.
 
-The program says whether a text is refused and by which number. The place is found by asking it about texts that are cut
-or changed: cut behind a word, with some declarations replaced by empty ones of the same name, or without redeclarations.
+The program says whether a text is refused, by which number, and at which byte. How far goes what stands there, and in which declaration,
+is read from the text.
 """
 
 # `P21_SCHEMAS` counts only where the first name of the command line is no schema. So a command line that names a schema
 # means the same on each machine.
 
-import array
 import collections
 import dataclasses
 import functools
 import itertools
+import json
+import os
 import re
 from typing import Callable, Deque, Iterable, Iterator, List, Mapping, NamedTuple, Optional, Sequence, Set, Tuple
 
 import p21_reading as reading
-from p21_reading import Piece, Text
+from p21_reading import Text
 
 LEXEME = re.compile(
     rb"[\0- \x7f]+|--[^\n]*|(?P<remark>\(\*)|(?P<string>')"
@@ -24,20 +25,31 @@ LEXEME = re.compile(
     re.S,
 )
 REMARK_MARK = re.compile(rb"\(\*|\*\)")
-STRAY = b" \x80"
 TEXT_LIMIT = 16_777_216
 MOST_DECLARATIONS = 65_535
 DECLARATIONS = ("ENTITY", "TYPE", "FUNCTION", "PROCEDURE", "RULE", "CONSTANT", "SUBTYPE_CONSTRAINT")
 # What stands in a heading before and behind the names of supertypes, and those of a ONEOF with nothing beside it.
 OF_SUBTYPE = ["SUBTYPE", "OF", "("], [")"]
 OF_ONEOF = ["SUPERTYPE", "OF", "(", "ONEOF", "("], [")", ")"]
+# How the program tells a place.
+LINES = ["--where", "--format", "jsonl"]
+# Of these the place may be a statement that declares an attribute anew.
+OF_REDECLARATIONS = (3, 8)
 # So many texts are said of an attribute, and of each so many bytes.
 MOST_TEXTS, LONGEST_TEXT = 8, 4096
 GROUPS = ("DERIVE", "INVERSE", "UNIQUE", "WHERE", "END_ENTITY", "END_TYPE")
-NO_NAMES = set(
-    "ABSTRACT ARRAY BAG BINARY BOOLEAN ENTITY ENUMERATION FIXED INTEGER LIST LOGICAL NUMBER OF ONEOF OPTIONAL REAL SELECT"
-    " SELF SET STRING SUBTYPE SUPERTYPE TYPE UNIQUE".split()
-)
+# The kinds of values that simple types and enumerations have, and what a list of values is of.
+KINDS = {
+    "INTEGER": ("integer",),
+    "REAL": ("real",),
+    "NUMBER": ("integer", "real"),
+    "STRING": ("text",),
+    "BINARY": ("binary",),
+    "BOOLEAN": ("item",),
+    "LOGICAL": ("item",),
+    "ENUMERATION": ("item",),
+}
+AGGREGATES = ("ARRAY", "BAG", "LIST", "SET")
 
 
 # An attribute: the entity that declares it, and its name.
@@ -120,17 +132,6 @@ def words_of(text: Text, start: Optional[int] = 0, end: Optional[int] = None) ->
             return
 
 
-def stray_of(text: Text, start: int) -> Optional[int]:
-    """Behind the last word of a text: where a byte, a string or a remark stands that makes no word, or None."""
-    while start < len(text):
-        found = reading.matched(LEXEME, text, start)
-        end = end_of_remark(text, found.start()) if found["remark"] else found.end()
-        if end is None or found["other"] or found["string"]:
-            return found.start()
-        start = end
-    return None
-
-
 def end_of_string(text: Text, start: int) -> Optional[int]:
     """The place behind a string, in which two apostrophes are one, or None where it doesn't end."""
     end = text.find(b"'", start + 1)
@@ -147,11 +148,6 @@ def end_of_remark(text: Text, start: int) -> Optional[int]:
         if depth == 0:
             return mark.end()
     return None
-
-
-def is_name(word: Word) -> bool:
-    """Could the word be a name?"""
-    return word.text[:1].isalpha() and word.text not in NO_NAMES
 
 
 # What gives some words, as often as it is asked.
@@ -194,10 +190,6 @@ class Outline:
                 depth += (nested and last.text == kind) - (last.text == f"END_{kind}")
             if named and count > 2:
                 yield Declaration(kind, named.text, named, Stretch(self.text, word.start, last.end))
-
-    def source(self, declaration: Declaration) -> memoryview:
-        """The text of a declaration."""
-        return memoryview(self.text)[declaration.start : declaration.end]
 
     def listed(self, name: str, around: Around) -> List[str]:
         """The entities that stand in a list of the heading of an entity, each once."""
@@ -247,53 +239,6 @@ class Outline:
             for group, statement in self.statements(entity):
                 if group in ("", "DERIVE") and is_anew(statement):
                     yield entity, statement
-
-    def repeated(self, declaration: Declaration) -> Optional[Word]:
-        """The second of two equal names among the attributes of an entity, or in a list of a declaration."""
-        if declaration.kind == "ENTITY":
-            listed = (names_between(declaration, around) for around in (OF_SUBTYPE, OF_ONEOF))
-            lists = [lambda: self.new_names(declaration), *listed]
-        else:
-            lists = [lambda: itertools.islice(heading_of(declaration), 3, None)]
-        for words in filter(None, lists):
-            found = reading.first_repeated(
-                lambda: ((word.text, word) for word in words() if is_name(word)), declaration.end - declaration.start
-            )
-            if found:
-                return found[1]
-        return None
-
-    def new_names(self, declaration: Declaration) -> Iterator[Word]:
-        """The names that an entity gives to attributes of its own."""
-        for group, statement in self.statements(declaration):
-            if group in ("", "DERIVE") and not is_anew(statement):
-                yield from names_in(statement)
-
-    def unknown(self, declaration: Declaration) -> Optional[Word]:
-        """The first name in a declaration that is declared nowhere, or not as what it has to be."""
-        if declaration.kind == "TYPE":
-            body, behind = itertools.islice(declaration.words, 3, 5)
-            if behind.text == ";" and body.text in self.entities:
-                return body
-            if body.text == "ENUMERATION":
-                return None
-            words = itertools.islice(declaration.words, 3, None)
-            return self.undeclared(itertools.takewhile(lambda word: word.text not in GROUPS, words))
-        for names in filter(None, (names_between(declaration, around) for around in (OF_ONEOF, OF_SUBTYPE))):
-            for word in names():
-                if word.text != "," and word.text not in self.entities:
-                    return word
-        for group, statement in self.statements(declaration):
-            front = self.undeclared(owners_in(statement)) if group in ("", "DERIVE") else None
-            found = front or (self.undeclared(type_in(statement)) if group == "" else None)
-            if found:
-                return found
-        return None
-
-    def undeclared(self, words: Iterable[Word]) -> Optional[Word]:
-        """The first of these words that is a name and declared nowhere."""
-        names = (word for word in words if is_name(word))
-        return next((word for word in names if word.text not in self.entities and word.text not in self.types), None)
 
     def own_attributes(self, name: str) -> Iterator[str]:
         """The names of the explicit attributes that an entity declares itself, redeclarations apart."""
@@ -379,6 +324,31 @@ class Outline:
                         found = " ".join(words).partition(" : = ")[0]
         return found
 
+    def takes(self, words: Sequence[str], kind: str) -> bool:
+        """Could a value of a kind, as `p21_files.kind_of` tells it, be of a type, of which these are the words?"""
+        first = words[0]
+        if kind == "$" or first in KINDS:
+            return kind == "$" or kind in KINDS[first]
+        if first in AGGREGATES:
+            return kind == "(" or (kind[0] == "(" and self.takes(words[words.index("OF") + 1 :], kind[1:]))
+        if first in ("OPTIONAL", "UNIQUE"):
+            return self.takes(words[1:], kind)
+        if first in self.entities:
+            return kind == "reference"
+        if first == "SELECT":
+            members = (word for word in words[2:-1] if word != ",")
+            return any(self.takes([word], kind) if self.is_select(word) else kind == "typed" for word in members)
+        return first in self.types and self.takes(self.definition(first), kind)
+
+    def is_select(self, name: str) -> bool:
+        """Is a member of a SELECT an entity or another SELECT, so that no name of a type stands in front of its values?"""
+        return name in self.entities or self.definition(name)[0] == "SELECT"
+
+    def definition(self, name: str) -> List[str]:
+        """The words that say what a type is."""
+        words = (word.text for word in itertools.islice(self.types[name].words, 3, None))
+        return list(itertools.takewhile(lambda text: text != ";", words))
+
     def body(self, declaration: Declaration) -> str:
         """The text of a type without its words around."""
         return self.plain(declaration.named.start, next(word.end for word in declaration.words if word.text == ";"))
@@ -441,15 +411,6 @@ def is_anew(statement: Stretch) -> bool:
     return any(word.text == "SELF" for word in names_in(statement))
 
 
-def owners_in(statement: Stretch) -> Iterator[Word]:
-    """The word behind the one behind each SELF: the entity whose attribute is declared anew."""
-    before, last = "", ""
-    for word in statement:
-        if before == "SELF":
-            yield word
-        before, last = last, word.text
-
-
 # --- Refusals ---
 
 
@@ -466,18 +427,28 @@ class Refused:
         """The declarations of the text."""
         return Outline(self.text)
 
-    def answers(self, *pieces: Piece) -> bool:
-        """Is a text, which is these pieces, refused by the same number?"""
-        found = reading.answer_of_schema(self.program, "/dev/stdin", pieces)
-        return number_of(reading.answered(found).error) == self.number
+    def byte(self) -> Optional[int]:
+        """How many bytes stand in front of the place, or None where the program tells none."""
+        answer = reading.run(self.program, "check", "/dev/stdin", os.devnull, options=LINES, text=[memoryview(self.text)])
+        told = reading.answered(answer).error
+        found = json.loads(told).get("byte") if told.startswith("{") else None
+        return found if isinstance(found, int) else None
 
     def place(self) -> Optional[Place]:
         """The place where the text is refused, or None where it can't be told."""
         if len(self.text) > TEXT_LIMIT:
             return Place(TEXT_LIMIT, TEXT_LIMIT, [f"a schema text has at most {TEXT_LIMIT} bytes"])
+        at = self.byte()
+        if at is None:
+            return None
         if self.number == 1:
-            return self.place_of_byte()
-        return self.place_of_word() or self.place_in_whole()
+            return self.place_of_byte(at)
+        word = next(words_of(self.text, at), None)
+        if word is None:
+            return Place(at, at, ["the text ends too early"] if self.number == 2 else [])
+        anew = (statement for _, statement in self.outline.redeclarations()) if self.number in OF_REDECLARATIONS else iter(())
+        end = next((statement.end for statement in anew if statement.start == word.start), word.end)
+        return Place(word.start, end, self.notes_on(word))
 
     def around(self, place: Place) -> Tuple[int, int]:
         """The declaration that a place stands in, or the line, by its start and end."""
@@ -488,101 +459,28 @@ class Refused:
         end = self.text.find(b"\n", place.start)
         return start, end if end >= 0 else len(self.text)
 
-    def place_of_byte(self) -> Optional[Place]:
+    def place_of_byte(self, start: int) -> Place:
         """The byte, the string or the remark that makes no word."""
-        last = collections.deque(self.outline.words, 1)
-        start = stray_of(self.text, last[0].end if last else 0)
-        if start is None:
-            return None
         end = start + 1
         while end < len(self.text) and 0x80 <= self.text[end] < 0xC0:
             end += 1
         return Place(start, end, [])
 
-    def place_of_word(self) -> Optional[Place]:
-        """The first word behind which the text is refused even where it is cut there.
-
-        A byte that no word has is put behind the cut: it is refused by another number, but only where the words in front
-        of it aren't refused.
-        """
-        words = reading.Row(
-            lambda start: (word.start for word in words_of(self.text, start)),
-            lambda start: next(words_of(self.text, start)),
-            0,
-        )
-
-        def is_refused(count: int) -> bool:
-            return self.answers(memoryview(self.text)[: words[count - 1].end], STRAY)
-
-        if not words or not is_refused(len(words)):
-            end = words[-1].end if words else 0
-            return Place(end, end, ["the text ends too early"]) if self.number == 2 else None
-        word = words[first_count(len(words), is_refused) - 1]
-        return Place(word.start, word.end, self.notes_on(word))
-
     def notes_on(self, word: Word) -> List[str]:
-        """In which declaration a word stands."""
-        for found in reversed(self.outline.declarations):
-            if found.start <= word.start <= found.end:
-                return [f"in {found.kind} {brief(found.name)}, {self.line(found.start)}"]
-        return []
+        """In which declaration a word stands, and where of a name that is declared twice the others are."""
+        found = next((found for found in reversed(self.outline.declarations) if found.start <= word.start <= found.end), None)
+        if found is None:
+            return []
+        notes = [f"in {found.kind} {brief(found.name)}, {self.line(found.start)}"]
+        if self.number == 3:
+            alike = (other for other in self.outline.declarations if other.name == found.name and other is not found and is_kept(other))
+            first = itertools.islice(alike, MOST_TEXTS)
+            notes += [f"{other.kind} {brief(other.name)} stands in {self.line(other.start)} too" for other in first]
+        return notes
 
     def line(self, start: int) -> str:
         """The line in which a place stands."""
         return f"line {reading.line_number(self.text, start)}"
-
-    def place_in_whole(self) -> Optional[Place]:
-        """The place of a refusal that comes of several declarations."""
-        if self.number == 6:
-            return self.place_of_renamed_select()
-        if self.number == 8:
-            return self.place_of_redeclaration()
-        if self.number not in (3, 4, 5):
-            return None
-        declarations = self.outline.declarations
-
-        def is_refused(count: int) -> bool:
-            sources = map(self.outline.source, declarations[:count])
-            others = map(empty, declarations[count:] if self.number != 3 else ())
-            pieces = itertools.chain.from_iterable((b"\n", source) for source in itertools.chain(sources, others))
-            return self.answers(b"SCHEMA s;", *pieces, b"\nEND_SCHEMA;")
-
-        if not declarations or not is_refused(len(declarations)):
-            return None
-        found = declarations[first_count(len(declarations), is_refused) - 1]
-        word = {3: self.outline.repeated, 4: self.outline.unknown}.get(self.number, lambda _: None)(found)
-        others = [other for other in declarations if other.name == found.name and other is not found and is_kept(other)]
-        if self.number == 3 and not word and not others:
-            return self.place_of_redeclaration()
-        word = word or found.named
-        notes = [f"{other.kind} {brief(other.name)} stands in {self.line(other.start)} too" for other in others[:MOST_TEXTS]]
-        return Place(word.start, word.end, self.notes_on(word) + (notes if self.number == 3 else []))
-
-    def place_of_renamed_select(self) -> Optional[Place]:
-        """The first type that is just the name of a select."""
-        for found in self.outline.types.values():
-            body, behind = itertools.islice(found.words, 3, 5)
-            if behind.text == ";" and body.text in self.outline.types:
-                if next(itertools.islice(self.outline.types[body.text].words, 3, None)).text == "SELECT":
-                    return Place(body.start, body.end, self.notes_on(body))
-        return None
-
-    def place_of_redeclaration(self) -> Optional[Place]:
-        """The first statement with which the text is refused, where those behind it are blanked."""
-        places = array.array("Q")
-        for _, statement in self.outline.redeclarations():
-            places.extend((statement.start, statement.end))
-
-        def is_refused(count: int) -> bool:
-            text = bytearray(self.text)
-            for start, end in zip(places[2 * count :: 2], places[2 * count + 1 :: 2]):
-                text[start:end] = b" " * (end - start)
-            return self.answers(text)
-
-        if not places or not is_refused(len(places) // 2):
-            return None
-        start, end = places[2 * first_count(len(places) // 2, is_refused) - 2 :][:2]
-        return Place(start, end, self.notes_on(next(words_of(self.text, start))))
 
 
 class AttributeNames(Mapping[str, List[str]]):
@@ -627,23 +525,6 @@ def brief(text: str) -> str:
     return reading.shown(reading.shortened(text, 0, 60)[0])
 
 
-def first_count(count: int, is_true: Callable[[int], bool]) -> int:
-    """The least number from 1 to a count of which something is true that stays true for all greater ones."""
-    low, high = 0, count
-    while high - low > 1:
-        middle = (low + high) // 2
-        low, high = (low, middle) if is_true(middle) else (middle, high)
-    return high
-
-
 def is_kept(declaration: Declaration) -> bool:
     """Is it a declaration of an entity or a type?"""
     return declaration.kind in ("ENTITY", "TYPE")
-
-
-def empty(declaration: Declaration) -> bytes:
-    """A declaration of the same name with nothing in it."""
-    name = declaration.name.encode("ascii")
-    if declaration.kind == "ENTITY":
-        return b"ENTITY " + name + b"; END_ENTITY;"
-    return b"TYPE " + name + b" = INTEGER; END_TYPE;" if declaration.kind == "TYPE" else b""

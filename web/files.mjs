@@ -1,8 +1,8 @@
 // Where a STEP file is refused, and what there is to say of the place, as in tools/p21_files.py.
 //
-// The program says whether a file is refused, by which number, and at which statement or in which instance. The place inside
-// is found by asking it about files that are made for the purpose: of a statement that is cut, or of an instance in which a
-// value is replaced by one that is refused by another number.
+// The program says by which number a file is refused, at which statement or in which instance, and where: the byte, the line and the
+// column, and of a value of a record the attribute. What is shown beside it is read from the file and the schema text: how far goes
+// what stands there, what is wrong with it, and what would be right.
 //
 // Files are read as they stand when a job begins. A file that is mended can be chosen once more, as its field is
 // cleared each time, or looked at anew by the button "Check again". Browsers keep of a file what it was when it was
@@ -12,11 +12,9 @@
 // to the end. A file that was chosen in a field in Chromium has to be chosen again, and the page says so;
 // `showOpenFilePicker` would give a handle there, but answers on pages from a disk that the user has cancelled it.
 
-import { oneByOne, together } from "./asking.mjs";
 import { alike } from "./likeness.mjs";
-import { Text, Trouble } from "./program.mjs";
-import { Lines, QUOTE, behindString, brief, bytesOf, lexemes, lineNumber, listed, readParts, textOf } from "./reading.mjs";
-import { Outline, firstCount } from "./schemas.mjs";
+import { Lines, QUOTE, behindString, brief, lexemes, lineNumber, listed, readParts, textOf } from "./reading.mjs";
+import { Outline } from "./schemas.mjs";
 
 const STAR = 0x2a;
 const SLASH = 0x2f;
@@ -25,12 +23,6 @@ const HASH = 0x23;
 const OF_BYTES = [1, 4, 5, 6, 7, 9, 10, 11];
 const OF_END = [2, 3, 24];
 const OF_WHOLE = [22, 23, 25, 27, 32];
-// These look at what an instance refers to.
-const OF_REFERENCES = [45, 56, 57];
-// Of these one instance, or one name, may have several; and these are of references.
-const OF_SEVERAL = [40, 56, 57];
-const OF_TARGETS = [56, 57];
-const REFUSED = /^refused (\d+) \S.*? (?:at statement (\d+)|in #(\d+))/;
 const WANTED = {
   25: "nothing but blanks and remarks behind END-ISO-10303-21;",
   32: "DATA; or DATA('name',('SCHEMA'));",
@@ -53,47 +45,55 @@ const HEADER = [
   ],
   ["FILE_SCHEMA", [["schema_identifiers", ONE_TEXT]]],
 ];
-// A token of each kind, by the words for it. Those of the first list are values, which mostly may stand together.
-const VALUES = [
-  ["a number", "1"],
-  ["a text", "''"],
-  ["an item", ".T."],
-  ["a binary", '"0"'],
-  ["the name of an instance", "#1"],
-  ['"$"', "$"],
-  ['"*"', "*"],
-];
-const SIGNS = ["(", ")", ",", "=", ";"];
-const WORDS = ["ISO-10303-21", "HEADER", "ENDSEC", "DATA", "END-ISO-10303-21"];
+// The words for what may stand in a statement. In the header no value is the name of an instance.
+const [VALUE, KEYWORD, NAME_OF_INSTANCE] = ["a value", "a keyword", "the name of an instance"];
+const VALUES_OF_HEADER = ["a number", "a text", "an item", "a binary", '"$"', '"*"', KEYWORD];
+const [OPENING, CLOSING, COMMA, EQUALS, END] = ['"("', '")"', '","', '"="', '";"'];
+const FIRST_WORDS = ["ISO-10303-21", "HEADER"];
+// The words that begin a statement and no record.
+const OF_SECTIONS = ["ISO-10303-21", "HEADER", "ENDSEC", "DATA", "END-ISO-10303-21"];
+// What a parenthesis holds: the parts of an instance, the one value of a typed parameter, or values.
+const [PARTS, TYPED, LIST] = ["parts", "typed", "list"];
 const FIRST_WORD = /^[!#]?[\w-]*/;
-const DANGLING = `#${2n ** 64n - 1n}`;
+const LINE_END = /\r\n|\n|\r/g;
 // So many ways in which values may stand for attributes are tried, and texts of so many bytes.
 const MOST_WAYS = 100;
 const LONGEST = 1 << 20;
-// Of the references of one instance that are refused so many are placed, since each is looked for among all; of one with more bytes
-// than these the first alone.
-export const MOST_PLACED = 100;
-export const LONGEST_PLACED = 1 << 20;
+// What a value of each kind begins with.
+const KINDS = { "'": "text", '"': "binary", ".": "item", "#": "reference", $: "$", "*": "*" };
+const REFUSAL = /^\{"file".*\}$/;
+const OBJECT = /\{.*\} ?/;
+// How the program ends a list of refusals, and what it says for people.
+const EXTENTS = { whole: "", part: ", the rest was not read", most: ", no more were looked for" };
+
+// --- What the program tells ---
+
+/** The refusal that a line of the program's tells, which is an object. A name is a text, since it can be greater than a number keeps. */
+export function refusalOf(line) {
+  const told = JSON.parse(line);
+  const instance = /,"instance":(\d+)/.exec(line)?.[1] ?? null;
+  const front = typeof told.number === "string" ? "schema refused" : "refused";
+  const where = instance !== null ? ` in #${instance}` : told.statement ? ` at statement ${told.statement}` : "";
+  const column = told.column_in_characters ?? told.column;
+  return { ...told, instance, statement: told.statement ?? null, column, answer: `${front} ${told.number} ${told.name}${where}` };
+}
 
 /**
- * The refusals of a file by the lines of the program, each of which knows how many that are alike stand in front of it, and how many
- * references of its instance are refused up to it.
+ * What the program says of a file: its refusals, each as an object in a line, what else it says, and with `--all` the line with the
+ * count, which is null where there is no list.
  */
-export function refusalsOf(given, lines) {
-  const before = new Map();
-  const ofReferences = new Map();
-  return lines.map((line) => {
-    const refused = new RefusedFile(given, line);
-    if (refused.instance === null || !OF_SEVERAL.includes(refused.number)) return refused;
-    const key = `${refused.number} ${refused.instance}`;
-    refused.before = before.get(key) ?? 0;
-    before.set(key, refused.before + 1);
-    if (OF_TARGETS.includes(refused.number)) {
-      refused.ofReferences = (ofReferences.get(refused.instance) ?? 0) + 1;
-      ofReferences.set(refused.instance, refused.ofReferences);
-    }
-    return refused;
-  });
+export function toldOf(program, options, files, heard) {
+  const words = ["check", ...options, "--where", "--format", "jsonl", "--", "schema", "file"];
+  const { error, status } = program.run(words, files, heard);
+  const lines = error.split("\n");
+  let count = null;
+  if (options.length > 0 && lines.at(-1).startsWith('{"refusals"')) {
+    const { refusals, extent } = JSON.parse(lines.pop());
+    count = `refusals ${refusals}${EXTENTS[extent]}`;
+  }
+  const isTold = status === 1 || count !== null;
+  const plain = lines.map((line) => line.replace(OBJECT, "")).filter(Boolean);
+  return { refusals: isTold ? lines.filter((line) => REFUSAL.test(line)) : [], error: plain.join("\n"), count, status };
 }
 
 // --- Statements ---
@@ -151,10 +151,15 @@ export function* statements(bytes) {
 
 /** The name of the instance that a statement is, without zeros in front, or null. */
 function nameOf(bytes, statement) {
-  if (bytes[statement.start] !== HASH) return null;
-  let end = statement.start + 1;
+  return nameAt(bytes, statement.start);
+}
+
+/** The name of an instance that stands at a place, without zeros in front, or null. */
+function nameAt(bytes, start) {
+  if (bytes[start] !== HASH) return null;
+  let end = start + 1;
   while (bytes[end] >= 0x30 && bytes[end] <= 0x39) end++;
-  return end > statement.start + 1 ? plainName(textOf(bytes.subarray(statement.start + 1, end))) : null;
+  return end > start + 1 ? plainName(textOf(bytes.subarray(start + 1, end))) : null;
 }
 
 /** The number that is the name of an instance, rounded above 2^53; -1 where the statement is none. */
@@ -167,6 +172,20 @@ function numberOfName(bytes, statement) {
   return Number(nameOf(bytes, statement));
 }
 
+/** The reference of an instance that names none of a file, as `p21 syntax` finds it, by its start and end; null where there is none. */
+export function danglingIn(bytes, instance) {
+  const names = new Set();
+  let found = null;
+  for (const statement of statements(bytes)) {
+    const name = nameOf(bytes, statement);
+    if (name !== null) names.add(name);
+    if (name === instance) found = statement;
+  }
+  const words = found ? lexemes(textOf(bytes.subarray(found.start, found.end))).slice(2) : [];
+  const word = words.find(({ text }) => text.startsWith("#") && !names.has(plainName(text.slice(1))));
+  return word ? { start: found.start + word.start, end: found.start + word.end } : null;
+}
+
 /** The digits of a name without zeros in front. */
 function plainName(digits) {
   return digits.replace(/^0+(?=\d)/, "");
@@ -176,23 +195,23 @@ function plainName(digits) {
 
 /** A file that is refused and its schema, which is called `named`: what all of its refusals share. */
 export class GivenFile {
-  constructor(program, schema, named, bytes, looksForAll = false) {
-    this.program = program;
-    this.schema = schema;
+  constructor(schema, named, bytes) {
     this.named = named;
     this.bytes = bytes;
-    this.looksForAll = looksForAll;
-    this.isAlone = false;
-    this.outline = new Outline(schema.bytes);
+    this.isAlone = schema === null;
+    this.outline = new Outline(schema?.bytes ?? new Uint8Array(0));
     this.name = this.outline.words[1]?.text ?? "";
-    this.known = new Map();
-    this.numbered = new Map();
     this.lines = new Lines(bytes);
+    this.known = new Map();
+    this.answers = new Map();
+    this.parted = null;
+    this.begin();
   }
 
-  /** What the program says of a text under the schema, or under another one: its line and its status. */
-  asked(text, schema = this.schema) {
-    return this.program.run(["check", "--", "schema", "file"], { schema, file: new Text(bytesOf(text)) });
+  /** Goes back to the beginning of the file. */
+  begin() {
+    this.left = statements(this.bytes);
+    this.last = this.left.next().value;
   }
 
   /** The text of a statement. */
@@ -200,287 +219,227 @@ export class GivenFile {
     return textOf(this.bytes.subarray(statement.start, statement.end));
   }
 
-  /** The schema with entities that have these attributes, P21_WHERE0 and so on. */
-  schemaWith(made) {
-    const entities = made.map((attributes, at) => ` ENTITY p21_where${at}; ${attributes} END_ENTITY; `);
-    return new Text(bytesOf(this.outline.withEntities(entities.join(""))));
+  /** The statement at a place, or behind it. */
+  statementAt(place) {
+    if (place < this.last.start) this.begin();
+    while (this.last.end <= place) {
+      const { done, value } = this.left.next();
+      if (done) break;
+      this.last = value;
+    }
+    return this.last;
   }
 
-  /** A file of these instances. */
-  withInstances(instances) {
-    const header = `FILE_DESCRIPTION($,$);FILE_NAME($,$,$,$,$,$,$);FILE_SCHEMA(('${this.name}'));`;
-    return `ISO-10303-21;HEADER;${header}ENDSEC;DATA;\n${instances.join("\n")}\nENDSEC;END-ISO-10303-21;`;
+  /** The text of an instance with its parts, which are kept of the last one. */
+  partsOf(statement) {
+    if (this.parted?.statement !== statement) {
+      const text = this.text(statement);
+      this.parted = { statement, text, parts: readParts(text) };
+    }
+    return this.parted;
   }
 
-  /** Looks for all instances of these names at once. */
-  want(names) {
+  /** The statement in front of the one that begins at a place. */
+  statementBefore(start) {
+    let before = null;
+    for (const statement of statements(this.bytes)) {
+      if (statement.start >= start) break;
+      before = statement;
+    }
+    return before;
+  }
+
+  /** Looks where the first instances of these names stand. The file is passed over once for all of them. */
+  lookFor(names) {
     const wanted = new Set([...names].filter((name) => !this.known.has(name)));
     if (wanted.size === 0) return;
-    for (const name of wanted) this.known.set(name, []);
     // Most names are told by their numbers; only long ones, which are rounded, may have one number.
     const numbers = new Set([...wanted].map(Number));
     for (const statement of statements(this.bytes)) {
       if (!numbers.has(numberOfName(this.bytes, statement))) continue;
       const name = nameOf(this.bytes, statement);
-      if (wanted.has(name)) this.known.get(name).push({ name, statement });
-    }
-  }
-
-  /** Looks for the statements of these numbers at once, each with the text of those before it that aren't instances. */
-  wantStatements(numbers) {
-    const wanted = new Set(numbers.filter((number) => !this.numbered.has(number)));
-    const front = [];
-    let number = 0;
-    for (const statement of wanted.size > 0 ? statements(this.bytes) : []) {
-      number++;
-      if (wanted.delete(number)) this.numbered.set(number, { statement, front: front.join("") });
+      if (!wanted.delete(name)) continue;
+      this.known.set(name, statement);
       if (wanted.size === 0) return;
-      if (this.bytes[statement.start] !== HASH) front.push(this.text(statement));
     }
-    for (const missing of wanted) this.numbered.set(missing, null);
   }
 
-  /** The statement of a number with the text before it, or null where there is none. */
-  statementOf(number) {
-    this.wantStatements([number]);
-    return this.numbered.get(number);
+  /** What the schema text says when it is asked so, which is kept for the next refusal. */
+  kept(asked, tell) {
+    if (!this.answers.has(asked)) this.answers.set(asked, tell());
+    return this.answers.get(asked);
   }
 
-  /** The place of a refusal, and its statement; null where that can't be told. Each question is a run of the program. */
-  placeOf(refused) {
-    const first = ({ text, others, attributes }) => {
-      const instances = [...others].filter(([name]) => name !== refused.instance).map(([, found]) => found);
-      const schema = attributes ? this.schemaWith([attributes]) : this.schema;
-      return [refused.answer(this.withInstances([text, ...instances]), schema)];
-    };
-    return oneByOne(refused.place(), first);
+  /** What the values of a part stand for: all attributes of the entity, or among other parts those of its own. */
+  places({ key }, alone) {
+    const own = () => this.outline.ownAttributes(key).map((attribute) => ({ entity: key, attribute }));
+    return this.kept(`places ${key} ${alone}`, alone ? () => this.outline.places(key) : own);
   }
 
-  /** The places of many refusals, as the program lists them, in their order. */
-  placesOf(refusals) {
-    this.wantAll(refusals);
-    return together(
-      this,
-      refusals.map((refused) => (refused.isPlaced ? refused.place() : [].values())),
+  /** What the schema says of an attribute in an instance of these entities. */
+  declared(keys, place) {
+    return this.kept(`declared ${keys} ${place.entity} ${place.attribute}`, () => this.outline.explained(keys, place));
+  }
+
+  /**
+   * Which attributes of an entity have no value where values of these kinds stand, if these can stand for the others in one way
+   * alone, and null else.
+   */
+  missingIn(key, kinds) {
+    return this.kept(`missing ${key} ${kinds}`, () => this.missingByKinds(key, kinds));
+  }
+
+  missingByKinds(key, kinds) {
+    const places = this.places({ key }, true);
+    if (waysOf(places.length, kinds.length) > MOST_WAYS) return null;
+    const above = this.outline.derived(key);
+    const types = places.map((place) =>
+      above.has(`${place.entity}.${place.attribute}`) ? null : this.outline.typeOf([key], place).split(" "),
     );
-  }
-
-  /** Forgets what was looked for. */
-  forget() {
-    this.known.clear();
-    this.numbered.clear();
-  }
-
-  /** How many refused references of an instance are placed. */
-  mostPlaced(instance) {
-    const statement = this.statementsOf([instance])[0]?.statement;
-    return statement && statement.end - statement.start > LONGEST_PLACED ? 1 : MOST_PLACED;
-  }
-
-  /** Looks for all statements and instances that these refusals are about, and for those that they refer to. */
-  wantAll(refusals) {
-    this.wantStatements(refusals.map(({ statement }) => statement).filter((number) => number !== null));
-    const about = refusals.filter(({ instance }) => instance !== null);
-    this.want(about.map(({ instance }) => instance));
-    const texts = about
-      .filter(({ number }) => OF_REFERENCES.includes(number))
-      .map(({ instance }) => this.known.get(instance)[0]?.statement)
-      .filter((statement) => statement && statement.end - statement.start <= LONGEST)
-      .map((statement) => this.text(statement));
-    this.want(texts.flatMap((text) => referencesIn(text, readParts(text)).map(({ target }) => target)));
-  }
-
-  /** The texts of the instances of these names; of a name that several have all of them. */
-  textsOf(names) {
-    const found = new Map();
-    for (const { name, statement } of this.statementsOf(names)) {
-      found.set(name, [...(found.has(name) ? [found.get(name)] : []), this.text(statement)].join("\n"));
-    }
-    return found;
-  }
-
-  /** The statements of the instances of these names, in the order of the file. */
-  statementsOf(names) {
-    this.want(names);
-    const found = [...names].flatMap((name) => this.known.get(name));
-    return found.sort((one, other) => one.statement.start - other.statement.start);
+    const takes = (words, kind) => (words === null ? kind === "*" : this.outline.takes(words, kind));
+    const found = [...combinations(places.length, places.length - kinds.length)].filter((missing) => {
+      const given = types.filter((_, at) => !missing.includes(at));
+      return kinds.every((kind, at) => takes(given[at], kind));
+    });
+    return found.length === 1 ? found[0] : null;
   }
 }
 
-/** A file that is read by itself: the program is asked without a schema. */
-export class GivenAlone extends GivenFile {
-  constructor(program, bytes) {
-    super(program, new Text(bytesOf("SCHEMA none; END_SCHEMA;")), "", bytes);
-    this.isAlone = true;
-  }
-
-  asked(text) {
-    return this.program.run(["syntax", "--", "file"], { file: new Text(bytesOf(text)) });
-  }
-}
-
-/**
- * A refusal of a file by a number: at a statement, or in an instance. Of those that are alike by number and instance it is the
- * one with so many in front of it.
- */
+/** A refusal of a file, with what there is to say of its place. */
 export class RefusedFile {
-  constructor(given, line, before = 0) {
-    const [, number, statement, instance] = REFUSED.exec(line);
+  constructor(given, told) {
     this.given = given;
-    this.before = before;
     this.bytes = given.bytes;
     this.outline = given.outline;
-    this.ofReferences = 0;
-    this.number = Number(number);
-    this.statement = statement ? Number(statement) : null;
-    this.instance = instance ?? null;
+    this.told = told;
+    this.number = told.number;
     // Which attributes of the part with too few values have none.
     this.missing = [];
   }
 
-  /** Is the place looked for? */
-  get isPlaced() {
-    return this.ofReferences <= 1 || this.ofReferences <= this.given.mostPlaced(this.instance);
+  /** The names of the instances that are spoken of beside the place. */
+  names() {
+    if (this.number === 40) return [this.told.instance];
+    const target = this.number === 57 && this.told.byte !== undefined ? nameAt(this.bytes, this.told.byte) : null;
+    return target === null ? [] : [target];
   }
 
-  // What the program says
-
-  /** The number by which a text is refused, 0 where it is accepted and null where the schema is refused. */
-  answer(text, schema = this.given.schema) {
-    const { error, status } = this.given.asked(text, schema);
-    if (status > 1) throw new Trouble(error);
-    const found = /^refused (\d+)/.exec(error);
-    return found ? Number(found[1]) : status === 0 ? 0 : null;
+  /** The statement at the place, where the program tells one. */
+  get statement() {
+    return this.given.statementAt(this.told.byte);
   }
 
-  /**
-   * Asks by which numbers an instance is refused, whose text this is, in a file that has others too, by their names; where one
-   * refusal is looked for it is the first number alone, which is 0 where there is none.
-   */
-  *numbersOf(text, others = new Map()) {
-    return (yield [{ text, others, attributes: null }])[0];
+  /** The place with what there is to say of it, or null where the program tells none. */
+  place() {
+    const { byte, instance } = this.told;
+    if (byte === undefined) return null;
+    return instance === null ? this.placeInStatement(byte) : this.placeInInstance(byte);
   }
 
-  /** Asks whether an instance, whose text this is, is refused by another number, or not at all. */
-  *isRefusedOtherwise(text) {
-    return !(yield* this.numbersOf(text)).includes(this.number);
-  }
-
-  // Where it is
-
-  /** The place where the file is refused, and the statement that it stands in; null where it can't be told. */
-  *place() {
-    if (this.statement === null) return yield* this.placeInInstance();
-    const found = this.given.statementOf(this.statement);
-    return found && { statement: found.statement, place: this.placeInStatement(found.front, found.statement) };
-  }
-
-  /** The text of a statement. */
-  text(statement) {
-    return this.given.text(statement);
+  /** The line and the column of a place near the one that the program tells. */
+  position(start) {
+    const { byte, line, column } = this.told;
+    if (start === byte) return { line, column };
+    const between = textOf(this.bytes.subarray(Math.min(byte, start), Math.max(byte, start))).match(LINE_END) ?? [];
+    return { line: line + (start > byte ? 1 : -1) * between.length, column: this.given.lines.place(start).column };
   }
 
   // At a statement
 
-  /** The place in a statement. `front` are those before it that aren't instances. */
-  placeInStatement(front, statement) {
-    if (OF_END.includes(this.number)) return this.placeOfEnd(statement);
-    const text = this.text(statement);
-    if (this.number === 30) return moved(this.placeInHeader(front, text), statement.start);
+  /** The place in a statement. */
+  placeInStatement(at) {
+    if (OF_END.includes(this.number)) return this.placeOfEnd(at);
+    if (OF_BYTES.includes(this.number)) return this.placeOfByte(at);
+    if (this.number === 30) return this.placeInHeader(at);
+    if (this.number === 31) return this.placeOfSchema(at);
     if (OF_WHOLE.includes(this.number)) {
       const wanted = WANTED[this.number];
-      const notes = wanted ? [`wanted here: ${wanted}`] : [];
-      return moved(placeOf(0, FIRST_WORD.exec(text)[0].length, notes), statement.start);
+      return placeOf(at, at + firstWord(this.bytes, at).length, wanted ? [`wanted here: ${wanted}`] : []);
     }
-    if (this.number === 31) return moved(this.placeOfSchema(text), statement.start);
-    if (this.number === 33) {
-      const value = readParts(text)[0].values[0];
-      return moved(placeOf(value.start, value.end), statement.start);
-    }
-    return moved(this.placeOfByte(front, text), statement.start);
+    const wanted = this.number === 20 ? this.wanted(at) : null;
+    return placeOf(at, this.endOfWord(at), wanted ? [`wanted here: ${wanted}`] : []);
+  }
+
+  /** The place behind the word or sign at a place. */
+  endOfWord(at) {
+    const [word] = lexemes(textOf(this.bytes.subarray(at, this.statement.end)));
+    return at + (word?.end ?? 0);
   }
 
   /** The end of the file, or where the string or the remark begins that is open there. */
-  placeOfEnd(statement) {
-    if (statement.open !== null) return placeOf(statement.open, statement.open + 1, ["it begins here and ends nowhere"]);
-    const end = this.bytes.length;
-    const begins = `the statement begins in line ${lineNumber(this.bytes, statement.start)}`;
-    return placeOf(end, end, ["the file ends here", ...(statement.start < end ? [begins] : [])]);
+  placeOfEnd(at) {
+    if (this.number !== 24) return placeOf(at, at + 1, ["it begins here and ends nowhere"]);
+    const { start } = this.statement;
+    const begins = `the statement begins in line ${this.given.lines.number(start)}`;
+    return placeOf(at, at, ["the file ends here", ...(start < at ? [begins] : [])]);
   }
 
-  /** The first byte with which the statement is refused, or the word that it ends. */
-  placeOfByte(front, text) {
-    const isRefused = (count) => this.answer(front + text.slice(0, count)) === this.number;
-    let low = 0;
-    let size = 32;
-    while (size < text.length && !isRefused(size)) [low, size] = [size, 2 * size];
-    let at = low + firstCount(Math.min(size, text.length) - low, (count) => isRefused(low + count)) - 1;
-    if (OF_BYTES.includes(this.number)) {
-      const start = this.number === 6 ? lead(text, at) : at;
-      const byte = text.charCodeAt(start);
-      return placeOf(start, at + Number(start === at), [aboutByte(byte, this.number), ...whatHelps(byte, this.number)]);
-    }
-    if (this.answer(`${front}${text.slice(0, at)} `) !== this.number) at++;
-    const word = lexemes(text.slice(0, at)).at(-1);
-    const wanted = this.number === 20 && word.start < LONGEST ? this.wanted(front, text.slice(0, word.start)) : null;
-    return placeOf(word.start, word.end, wanted ? [`wanted here: ${wanted}`] : []);
+  /** The first byte with which the file is refused, or in a string the bytes that should be a character. */
+  placeOfByte(at) {
+    const byte = this.bytes[at];
+    let end = at + 1;
+    while (this.number === 6 && byte >= 0xc0 && this.bytes[end] >= 0x80 && this.bytes[end] < 0xc0) end++;
+    return placeOf(at, end, [aboutByte(byte, this.number), ...whatHelps(byte, this.number)]);
   }
 
-  /** The tokens that could stand behind the beginning of a statement, or null. Each is tried. */
-  wanted(front, before) {
-    const couldStand = (token) => {
-      const answer = this.answer(`${front}${before} ${token} `);
-      return answer === 0 || answer === 24 || (answer ?? 0) >= 30;
-    };
-    let values = VALUES.filter(([, token]) => couldStand(token)).map(([words]) => words);
-    if (values.length === VALUES.length) values = ["a value"];
-    else if (couldStand("X")) values.push("a keyword");
-    const signs = SIGNS.filter(couldStand).map((sign) => `"${sign}"`);
-    const own = before.trim() === "" ? WORDS.filter(couldStand) : [];
-    const found = [...own, ...values, ...signs];
-    if (found.length === 0) return null;
+  /** What could stand at a place of a statement in place of what does, or null where it is very long. */
+  wanted(at) {
+    const { start } = this.statement;
+    if (at - start >= LONGEST) return null;
+    const words = lexemes(textOf(this.bytes.subarray(start, at))).map(({ text }) => text);
+    const found = words.length > 0 ? couldFollow(words) : this.couldBegin(start);
     return [found.slice(0, -1).join(", "), found.at(-1)].filter(Boolean).join(" or ");
   }
 
+  /** With which words the statement at a place could begin, by those before it. */
+  couldBegin(start) {
+    const { bytes } = this;
+    if (this.told.statement <= 2) return [FIRST_WORDS[this.told.statement - 1]];
+    const left = statements(bytes);
+    let found = left.next().value;
+    while (found.end < start && firstWord(bytes, found.start) !== "ENDSEC") found = left.next().value;
+    if (found.end >= start) return ["ENDSEC", KEYWORD];
+    const section = left.next().value;
+    if (section.start >= start) return ["DATA"];
+    if (firstWord(bytes, this.given.statementBefore(start).start) !== "ENDSEC") return ["ENDSEC", NAME_OF_INSTANCE];
+    return [...(this.given.text(section).includes("(") ? ["DATA"] : []), "END-ISO-10303-21"];
+  }
+
   /** The record of the header, or the parameter in it, that has another form than it must have. */
-  placeInHeader(front, text) {
-    const key = FIRST_WORD.exec(text)[0];
-    if (this.statement - 3 >= HEADER.length) return placeOf(0, key.length, [`${brief(key)} stands a second time`]);
-    const [name, parameters] = HEADER[this.statement - 3];
+  placeInHeader(at) {
+    const { start } = this.statement;
+    const key = firstWord(this.bytes, start);
+    const number = this.told.statement - 3;
+    if (number >= HEADER.length) return placeOf(start, start + key.length, [`${brief(key)} stands a second time`]);
+    const [name, parameters] = HEADER[number];
     const shape = `wanted here: ${name}(${parameters.map(([, form]) => form).join(", ")})`;
-    if (key !== name) return placeOf(0, Math.max(key.length, 1), [shape]);
-    const [part] = readParts(text);
-    const { values } = part;
-    const counts = `${name} has ${counted(parameters.length, "parameter")}, and here ${values.length === 1 ? "is" : "are"} ${values.length}`;
+    if (key !== name) return placeOf(start, start + Math.max(key.length, 1), [shape]);
+    const [{ values }] = readParts(this.given.text(this.statement));
+    const verb = values.length === 1 ? "is" : "are";
+    const counts = `${name} has ${counted(parameters.length, "parameter")}, and here ${verb} ${values.length}`;
     if (values.length < parameters.length) {
       const missing = listed(parameters.slice(values.length).map(([parameter]) => parameter));
-      return placeOf(part.end, part.end + 1, [`${counts}; without one: ${missing}`, shape]);
+      return placeOf(at, at + 1, [`${counts}; without one: ${missing}`, shape]);
     }
-    if (values.length > parameters.length) {
-      const value = values[parameters.length];
-      return placeOf(value.start, value.end, [counts, shape]);
-    }
-    const isRefused = (value, at) => {
-      const written = parameters.map((_, number) => (number === at ? text.slice(value.start, value.end) : "$"));
-      return this.answer(`${front}${name}(${written.join(",")});`) === 30;
-    };
-    const at = values.findIndex(isRefused);
-    if (at < 0) return placeOf(0, key.length, [shape]);
-    const notes = [`parameter ${at + 1} of ${name}, ${parameters[at][0]}`, `wanted here: ${parameters[at][1]}`];
-    return placeOf(values[at].start, values[at].end, notes);
+    const place = values.findIndex((value) => start + value.start <= at && at < start + value.end);
+    if (place < 0) return placeOf(start, start + key.length, [shape]);
+    const value = moved(values[place], start);
+    if (values.length > parameters.length) return placeOf(value.start, value.end, [counts, shape]);
+    const [parameter, wanted] = parameters[place];
+    return placeOf(value.start, value.end, [`parameter ${place + 1} of ${name}, ${parameter}`, `wanted here: ${wanted}`]);
   }
 
   /** The text that names the schema, and how schema and file are made to agree. */
-  placeOfSchema(text) {
-    const value = readParts(text)[0].values.at(-1).inner[0];
-    const named = /^[A-Za-z0-9_]*/.exec(text.slice(value.start + 1))[0];
-    if (this.given.isAlone) return placeOf(value.start, value.end);
+  placeOfSchema(at) {
+    const end = this.endOfWord(at);
+    if (this.given.isAlone) return placeOf(at, end);
+    const named = /^[A-Za-z0-9_]*/.exec(textOf(this.bytes.subarray(at + 1, end)))[0];
     const notes = [`the file is of ${brief(named) || "(no name)"}, the schema text of ${this.given.name}`];
     if (/^[A-Za-z]\w*$/.test(named)) {
       notes.push("where both are one schema by two names, this makes a schema text of the file's name:");
       notes.push(`  ${this.renaming(named)}`);
     }
-    return placeOf(value.start, value.end, notes);
+    return placeOf(at, end, notes);
   }
 
   /** The command that makes a schema text of another name. */
@@ -497,137 +456,90 @@ export class RefusedFile {
 
   // In an instance
 
-  /** The place in the instance that is refused, and its statement. */
-  *placeInInstance() {
-    const found = this.given.statementsOf([this.instance]);
-    if (found.length === 0) return null;
-    const first = found[0].statement;
+  /** The place in an instance. */
+  placeInInstance(at) {
+    const { statement } = this;
     if (this.number === 40) {
-      const second = found[1 + this.before]?.statement;
-      if (!second) return null;
-      const end = second.start + /^#\d+/.exec(this.text(second))[0].length;
-      const line = this.given.lines.number(first.start);
-      return { statement: second, place: placeOf(second.start, end, [`#${this.instance} stands in line ${line} too`]) };
+      const first = this.given.known.get(this.told.instance);
+      const notes = first ? [`#${this.told.instance} stands in line ${this.given.lines.number(first.start)} too`] : [];
+      return placeOf(statement.start, statement.start + /^#\d+/.exec(this.given.text(statement))[0].length, notes);
     }
-    const text = this.text(first);
-    return { statement: first, place: moved(yield* this.placeInRecord(text, readParts(text)), first.start) };
+    const { text, parts } = this.given.partsOf(statement);
+    // In a very long instance the program tells no place.
+    if (at === statement.start) return placeOf(at, at + /^#\d+/.exec(text)[0].length);
+    return moved(this.placeInRecord(text, parts, at - statement.start), statement.start);
   }
 
-  /** The place in the text of an instance. */
-  *placeInRecord(text, parts) {
-    const known = {
+  /** The place in the text of an instance, which has these parts. */
+  placeInRecord(text, parts, at) {
+    const ofPart = {
       41: this.unknownEntity,
       42: this.abstract,
       43: this.partMissing,
       44: this.partTwice,
+      45: this.count,
       55: this.redeclaredTwice,
-      56: this.dangling,
       58: this.oneOf,
     }[this.number];
-    const asked = { 45: this.count, 57: this.wrongTarget }[this.number] ?? this.value;
-    const found = known ? known.call(this, text, parts) : yield* asked.call(this, text, parts);
-    return found ?? ofKey(parts[0]);
+    if (ofPart) {
+      const part = parts.find(({ start, end }) => start <= at && at <= end) ?? parts[0];
+      return ofPart.call(this, part, parts, text, at);
+    }
+    const { value, values } = valueAt(parts, at);
+    if (!value) return placeOf(at, at + 1);
+    const notes = { 48: this.notDerived, 52: this.notDistinct, 56: this.dangling, 57: this.wrongTarget }[this.number];
+    return placeOf(value.start, value.end, notes ? notes.call(this, text, value, values) : []);
   }
 
-  /** The first keyword that the schema doesn't have. */
-  unknownEntity(_, parts) {
-    const part = parts.find(({ key }) => !this.outline.entities.has(key));
+  // Parts of an instance
+
+  /** A keyword that the schema doesn't have. */
+  unknownEntity(part) {
     const near = alike(brief(part.key), this.outline.entities.keys());
     const notes = [`the schema ${this.given.name} has no entity ${brief(part.key)}`];
     return ofKey(part, near.length > 0 ? [...notes, `entities with a like name: ${near.join(", ")}`] : notes);
   }
 
   /** The keyword of an abstract entity of which no subtype is there. */
-  abstract(_, parts) {
-    const names = parts.map(({ key }) => key);
-    for (const part of parts) {
-      const hasBelow = names.some((name) => name !== part.key && this.outline.closure([name]).has(part.key));
-      if (!this.outline.isAbstract(part.key) || hasBelow) continue;
-      const subtypes = [...this.outline.entities.keys()].filter((name) => this.outline.supertypes(name).includes(part.key));
-      return ofKey(part, [`${brief(part.key)} is abstract; its subtypes: ${listed(subtypes)}`]);
-    }
-    return null;
+  abstract(part) {
+    const subtypes = [...this.outline.entities.keys()].filter((name) => this.outline.supertypes(name).includes(part.key));
+    return ofKey(part, [`${brief(part.key)} is abstract; its subtypes: ${listed(subtypes)}`]);
   }
 
-  /** The first part of which a supertype has no part. */
-  partMissing(_, parts) {
+  /** A part of which a supertype has no part. */
+  partMissing(part, parts) {
     const names = parts.map(({ key }) => key);
-    for (const part of parts) {
-      const missing = [...this.outline.closure([part.key])].filter((name) => !names.includes(name)).sort();
-      if (missing.length > 0) return ofKey(part, [`a supertype without a part: ${listed(missing)}`]);
-    }
-    return null;
+    const missing = [...this.outline.closure([part.key])].filter((name) => !names.includes(name)).sort();
+    return ofKey(part, [`a supertype without a part: ${listed(missing)}`]);
   }
 
   /** The second part of an entity. */
-  partTwice(_, parts) {
-    const keys = parts.map(({ key }) => key);
-    const second = parts.find(({ key }, at) => keys.indexOf(key) < at);
-    return ofKey(second, [`${brief(second.key)} has a part already`]);
+  partTwice(part) {
+    return ofKey(part, [`${brief(part.key)} has a part already`]);
   }
 
   /**
-   * The first value too many, or where one is missing: where the types of the attributes leave one place alone, this is it,
-   * and else the `)` behind the values.
+   * The first value too many, or where one is missing: where the kinds of the values leave one place alone, this is it, and else the
+   * `)` behind the values.
    */
-  *count(text, parts) {
-    for (const part of parts) {
-      const places = this.places(part, parts.length === 1);
-      const [wanted, count] = [places.length, part.values.length];
-      const counts = `${part.key} has ${counted(wanted, "attribute")}, and here ${count === 1 ? "is" : "are"} ${counted(count, "value")}`;
-      if (count > wanted) {
-        const value = part.values[wanted];
-        return placeOf(value.start, value.end, [counts]);
-      }
-      if (count < wanted) {
-        const missing = yield* this.missingIn(text, part, places, parts.length === 1);
-        this.missing = missing ?? places.map((_, at) => at).slice(count);
-        const [first] = this.missing;
-        const start = first < count ? part.values[first].start : part.end;
-        const names = this.missing.map((at) => places[at].attribute);
-        return placeOf(start, start + 1, [`${counts}; without one: ${listed(names)}`]);
-      }
+  count(part, parts, text, at) {
+    const isAlone = parts.length === 1;
+    const places = this.given.places(part, isAlone);
+    const [wanted, count] = [places.length, part.values.length];
+    const counts = `${part.key} has ${counted(wanted, "attribute")}, and here ${count === 1 ? "is" : "are"} ${counted(count, "value")}`;
+    if (count >= wanted) {
+      const { value } = valueAt(parts, at);
+      return placeOf(at, value?.end ?? at + 1, [counts]);
     }
-    return null;
-  }
-
-  /**
-   * Which attributes of a part have no value, where all others can have the values that are there in one way alone, and null
-   * else. Each way is tried by an entity whose attributes are all optional.
-   */
-  *missingIn(text, part, places, isAlone) {
-    const count = part.values.length;
-    if (!isAlone || waysOf(places.length, count) > MOST_WAYS || part.end - part.start > LONGEST) return null;
-    const above = this.outline.derived(part.key);
-    const derived = places.map(({ entity, attribute }) => above.has(`${entity}.${attribute}`));
-    const types = places.map((place) => this.outline.typeOf([part.key], place));
-    const attributes = types.map((type, number) => `a${number} : OPTIONAL ${type};`).join("");
-    const values = part.values.map((value) => text.slice(value.start, value.end));
-    const references = new Set(referencesIn(text, [part]).map(({ target }) => target));
-    references.delete(this.instance);
-    const others = this.given.textsOf(references);
-    const ways = [];
-    for (const missing of combinations(places.length, places.length - count)) {
-      const left = values.values();
-      const row = places.map((_, at) => (missing.includes(at) ? "$" : left.next().value));
-      const isWrong = (value, at) => !missing.includes(at) && at < derived.length && (value === "*") !== derived[at];
-      if (row.some(isWrong)) continue;
-      const written = row.map((value) => (value === "*" ? "$" : value)).join(",");
-      ways.push({ missing, text: `#${this.instance}=P21_WHERE0(${written});`, others, attributes });
-    }
-    const answers = yield ways;
-    const found = ways.filter((_, at) => [0, 56].includes(answers[at][0] ?? 0));
-    return found.length === 1 ? found[0].missing : null;
-  }
-
-  /** What the values of a part stand for: all attributes of the entity, or among other parts those of its own. */
-  places(part, alone) {
-    if (alone) return this.outline.places(part.key);
-    return this.outline.ownAttributes(part.key).map((attribute) => ({ entity: part.key, attribute }));
+    const kinds = isAlone && part.end - part.start <= LONGEST ? part.values.map((value) => kindOf(text, value)) : null;
+    this.missing = (kinds && this.given.missingIn(part.key, kinds)) ?? places.map((_, number) => number).slice(count);
+    const [first] = this.missing;
+    const start = first < count ? part.values[first].start : at;
+    return placeOf(start, start + 1, [`${counts}; without one: ${listed(this.missing.map((number) => places[number].attribute))}`]);
   }
 
   /** Which attributes are declared anew by several entities of the instance. */
-  redeclaredTwice(_, parts) {
+  redeclaredTwice(part, parts) {
     const entities = this.outline.closure(parts.map(({ key }) => key));
     const by = new Map();
     for (const { entity, words } of this.outline.redeclarations()) {
@@ -637,122 +549,109 @@ export class RefusedFile {
     }
     const twice = [...by].filter(([, found]) => found.size > 1).slice(0, 8);
     return ofKey(
-      parts[0],
+      part,
       twice.map(([name, found]) => `${name} is declared anew by ${listed([...found].sort(), " and ")}`),
     );
   }
 
   /** The second of two entities of which an instance is one alone. */
-  oneOf(_, parts) {
+  oneOf(part, parts) {
     const entities = this.outline.closure(parts.map(({ key }) => key));
     for (const name of this.outline.entities.keys()) {
       const found = this.outline.oneof(name).filter((entity) => entities.has(entity));
-      if (found.length < 2) continue;
-      const part = parts.find(({ key }) => found.slice(1).includes(key)) ?? parts[0];
-      return ofKey(part, [`${name} says ONEOF of ${found.slice(0, 2).join(" and ")}`]);
+      if (found.length > 1) return ofKey(part, [`${name} says ONEOF of ${found.slice(0, 2).join(" and ")}`]);
     }
-    return null;
-  }
-
-  // References
-
-  /** The reference to an instance that isn't in the file. */
-  dangling(text, parts) {
-    const references = referencesIn(text, parts);
-    const there = new Set(this.given.statementsOf(new Set(references.map(({ target }) => target))).map(({ name }) => name));
-    const found = references.filter(({ target }) => !there.has(target))[this.before];
-    return found ? placeOf(found.value.start, found.value.end, [`the file has no #${found.target}`]) : null;
-  }
-
-  /**
-   * The reference to an instance of another entity than is wanted. Found by references into nothing, which are refused by
-   * another number: all but those behind the place.
-   */
-  *wrongTarget(text, parts) {
-    const all = referencesIn(text, parts);
-    const targets = this.given.textsOf(new Set(all.map(({ target }) => target)));
-    // Several references may be refused, and those into nothing are, wherever they stand.
-    const references = this.given.looksForAll ? all.filter(({ target }) => targets.has(target)) : all;
-    const whole = this.given.looksForAll ? yield* this.numbersOf(text, targets) : [this.number];
-    const at = [...whole.keys()].filter((number) => whole[number] === this.number)[this.before];
-    if (at === undefined) return null;
-    const front = whole.slice(0, at + 1).join();
-    const numbersOf = (value) => this.numbersOf(replaced(text, value, DANGLING), targets);
-    const values = references.map((found) => found.value);
-    const value = yield* lastOf(values, function* isRefusedElsewhere(each) {
-      return (yield* numbersOf(each)).slice(0, at + 1).join() !== front;
-    });
-    if (!value) return null;
-    const { target } = references.find((found) => found.value === value);
-    const keys = readParts(targets.get(target)).map(({ key }) => key);
-    return placeOf(value.start, value.end, [`#${target} is of the ${keys.length === 1 ? "entity" : "entities"} ${listed(keys, " and ")}`]);
+    return ofKey(part);
   }
 
   // Values
 
-  /** The value that is refused. */
-  *value(text, parts) {
-    let values = parts.flatMap((part) => part.values);
-    if (this.number === 48) return yield* this.notDerived(text, values);
-    let found = null;
-    for (;;) {
-      const next = yield* this.lastRefused(text, values);
-      if (!next) break;
-      found = next;
-      values = this.number === 52 ? [] : next.inner;
-    }
-    if (!found) return null;
-    return (this.number === 52 && (yield* this.equalElements(text, found))) || placeOf(found.start, found.end);
+  /** What there is to say of a value where the schema derives one. */
+  notDerived() {
+    return ["the schema derives this value: only * may stand here"];
   }
 
-  /**
-   * Of some values the last one that is looked at before the instance is refused: one of another kind in its place is refused
-   * by another number.
-   */
-  *lastRefused(text, values) {
-    const signs = this.number === 49 || this.number === 54 ? ["*", "$"] : ["P21_WHERE(1)"];
-    const isRefusedBy = (value, sign) => this.isRefusedOtherwise(replaced(text, value, sign));
-    return yield* lastOf(values, function* isRefusedElsewhere(value) {
-      for (const sign of signs) if (yield* isRefusedBy(value, sign)) return true;
-      return false;
-    });
+  /** The same of a reference to an instance that isn't in the file. */
+  dangling(text, value) {
+    return [`the file has no #${plainName(text.slice(value.start + 1, value.end))}`];
   }
 
-  /** The first value that isn't `*` where the schema derives one: with `*` in its place it isn't refused for that. */
-  *notDerived(text, values) {
-    for (const value of values) {
-      if (text.slice(value.start, value.end) === "*") continue;
-      const numbers = yield* this.numbersOf(replaced(text, value, "*"));
-      if (!numbers.includes(47)) return placeOf(value.start, value.end, ["the schema derives this value: only * may stand here"]);
-    }
-    return null;
+  /** The same of a reference to an instance of another entity than is wanted. */
+  wrongTarget(text, value) {
+    const target = plainName(text.slice(value.start + 1, value.end));
+    const statement = this.given.known.get(target);
+    if (!statement) return [];
+    const keys = readParts(this.given.text(statement)).map(({ key }) => key);
+    return [`#${target} is of the ${keys.length === 1 ? "entity" : "entities"} ${listed(keys, " and ")}`];
   }
 
-  /** The second of two elements that look the same, in a list or in the one of its elements that is looked at last. */
-  *equalElements(text, value) {
-    for (let within = value; within && within.inner.length > 0; ) {
-      const last = yield* this.lastRefused(text, within.inner);
-      const found = !last || last === within.inner.at(-1) ? firstRepeated(text, within.inner) : null;
-      if (found) return found;
-      within = last;
-    }
-    return null;
+  /** The same of the second of two elements that mean the same: the first one, where both look alike. */
+  notDistinct(text, value, values) {
+    const meant = meaning(text, value);
+    const first = values.find((element) => element === value || meaning(text, element) === meant);
+    return first !== value ? [`the same as ${brief(text.slice(first.start, Math.min(first.end, first.start + 240)))}`] : [];
   }
 }
 
-/** The first of some elements that looks like one before it. */
-function firstRepeated(text, elements) {
-  const seen = new Map();
-  for (const element of elements) {
-    const meant = meaning(text, element);
-    const first = seen.get(meant);
-    if (first) {
-      const like = text.slice(first.start, Math.min(first.end, first.start + 240));
-      return placeOf(element.start, element.end, [`the same as ${brief(like)}`]);
+/** The value that begins at a place of some parts, with the values of its list; null where none does. */
+function valueAt(parts, at) {
+  let values = parts.flatMap((part) => part.values);
+  for (;;) {
+    let [low, high] = [0, values.length];
+    while (high - low > 1) {
+      const middle = Math.floor((low + high) / 2);
+      if (values[middle].start <= at) low = middle;
+      else high = middle;
     }
-    seen.set(meant, element);
+    const value = values[low];
+    if (!value || at < value.start || at >= value.end) return { value: null, values };
+    if (value.start === at) return { value, values };
+    values = value.inner;
   }
-  return null;
+}
+
+/** What kind of value stands somewhere: of a list the kind of its first element behind a parenthesis. */
+function kindOf(text, value) {
+  const first = text[value.start];
+  if (first === "(") return first + value.inner.slice(0, 1).map((element) => kindOf(text, element)).join("");
+  if (/[-+\d]/.test(first)) return text.slice(value.start, value.end).includes(".") ? "real" : "integer";
+  return KINDS[first] ?? "typed";
+}
+
+/** What could stand behind the words that a statement begins with. */
+function couldFollow(words) {
+  const [first] = words;
+  const last = words.at(-1);
+  const values = first.startsWith("#") || first === "DATA" ? [VALUE] : VALUES_OF_HEADER;
+  const within = [];
+  words.forEach((word, at) => {
+    const before = words[at - 1] ?? "";
+    if (word === "(") within.push(before === "=" ? PARTS : isKeyword(before) && within.includes(LIST) ? TYPED : LIST);
+    else if (word === ")") within.pop();
+  });
+  if (last === "(") {
+    return { [PARTS]: [KEYWORD], [TYPED]: [...values, OPENING], [LIST]: [...values, OPENING, CLOSING] }[within.at(-1)];
+  }
+  if (last === "," || last === "=") return last === "," ? [...values, OPENING] : [KEYWORD, OPENING];
+  if (words.length === 1 && !isRecord(first)) return first.startsWith("#") ? [EQUALS] : [...(first === "DATA" ? [OPENING] : []), END];
+  if (isKeyword(last)) return [OPENING];
+  if (within.length === 0) return [END];
+  return { [PARTS]: [KEYWORD, CLOSING], [TYPED]: [CLOSING], [LIST]: [CLOSING, COMMA] }[within.at(-1)];
+}
+
+/** Is a word the keyword of a record or a type? */
+function isKeyword(word) {
+  return /^[A-Za-z!]/.test(word);
+}
+
+/** Is the first word of a statement the keyword of a record of the header? */
+function isRecord(word) {
+  return isKeyword(word) && !OF_SECTIONS.includes(word);
+}
+
+/** The word that begins at a place. */
+function firstWord(bytes, at) {
+  return FIRST_WORD.exec(textOf(bytes.subarray(at, at + 4096)))[0];
 }
 
 /** What a value means as far as its text tells: lists in their order, numbers by their ratio, strings as they stand. */
@@ -798,37 +697,6 @@ function ofKey(part, notes = []) {
   return placeOf(part.start, part.start + part.key.length, notes);
 }
 
-/** The text with something in place of a value. */
-function replaced(text, value, by) {
-  return text.slice(0, value.start) + by + text.slice(value.end);
-}
-
-/** The last of the values of which something is true that is true of those before it; null where it's true of none. */
-function* lastOf(values, isTrue) {
-  if (values.length === 0 || !(yield* isTrue(values[0]))) return null;
-  let low = 0;
-  let high = values.length;
-  while (high - low > 1) {
-    const middle = Math.floor((low + high) / 2);
-    if (yield* isTrue(values[middle])) low = middle;
-    else high = middle;
-  }
-  return values[low];
-}
-
-/** The references of an instance in their order, each with the name that it says. */
-function referencesIn(text, parts) {
-  const found = [];
-  const waiting = parts.flatMap((part) => part.values).reverse();
-  while (waiting.length > 0) {
-    const value = waiting.pop();
-    const written = text.slice(value.start, value.end);
-    if (/^#\d+$/.test(written)) found.push({ target: plainName(written.slice(1)), value });
-    waiting.push(...[...value.inner].reverse());
-  }
-  return found;
-}
-
 /** In how many ways so many of some things can be taken. */
 function waysOf(things, taken) {
   let ways = 1;
@@ -858,14 +726,6 @@ function whatHelps(byte, number) {
   if (number === 4) return ["a backslash that is meant as a character is written twice"];
   if (number === 6) return ["where the file is in ISO 8859-1, iconv -f ISO-8859-1 -t UTF-8 makes UTF-8 of it"];
   return [];
-}
-
-/** Where the character in UTF-8 begins that can't go on with the byte at a place. */
-function lead(text, at) {
-  const byte = (place) => text.charCodeAt(place);
-  let start = at;
-  while (start > 0 && at - start < 3 && byte(start - 1) >= 0x80 && byte(start - 1) < 0xc0) start--;
-  return start > 0 && byte(start - 1) >= 0xc0 ? start - 1 : at;
 }
 
 /** A word as a shell reads it. */

@@ -1,13 +1,13 @@
 // Where a schema text is refused, and what its declarations are, as in tools/p21_schemas.py.
 //
-// The program says whether a text is refused and by which number. The place is found by asking it about texts that are cut
-// or changed: cut behind a word, with some declarations replaced by empty ones of the same name, or without redeclarations.
+// The program says whether a text is refused, by which number, and at which byte. How far goes what stands there, and in which
+// declaration, is read from the text.
 //
 // Where a listing is published the page says by the table of `docs/SCHEMAS.md`, which `making/build-page` reads. The
 // link opens only when it is followed.
 
 import { Text, Trouble } from "./program.mjs";
-import { brief, bytesOf, lineNumber, textOf } from "./reading.mjs";
+import { brief, lineNumber, textOf } from "./reading.mjs";
 
 const SCHEMA_LEXEME = new RegExp(
   [
@@ -19,7 +19,6 @@ const SCHEMA_LEXEME = new RegExp(
   "sy",
 );
 const REMARK_MARK = /\(\*|\*\)/g;
-const STRAY = " \x80";
 const TEXT_LIMIT = 16_777_216;
 // So many texts are said of an attribute, and of each so many bytes.
 const MOST_TEXTS = 8;
@@ -28,24 +27,33 @@ const DECLARATIONS = ["ENTITY", "TYPE", "FUNCTION", "PROCEDURE", "RULE", "CONSTA
 const ONLY_ONEOF = /\bSUPERTYPE OF \( ONEOF \( ([\w ,]+) \) \)/;
 const SUBTYPE_OF = /\bSUBTYPE OF \( ([\w ,]+) \)$/;
 const GROUPS = ["DERIVE", "INVERSE", "UNIQUE", "WHERE", "END_ENTITY", "END_TYPE"];
-const NO_NAMES = new Set(
-  (
-    "ABSTRACT ARRAY BAG BINARY BOOLEAN ENTITY ENUMERATION FIXED INTEGER LIST LOGICAL NUMBER OF ONEOF OPTIONAL REAL SELECT" +
-    " SELF SET STRING SUBTYPE SUPERTYPE TYPE UNIQUE"
-  ).split(" "),
-);
+// Of these the place may be a statement that declares an attribute anew.
+const OF_REDECLARATIONS = [3, 8];
 
-/** The words of a text in upper case, and the place of a byte, string or remark that makes none, or null. */
+// The kinds of values that simple types and enumerations have, and what a list of values is of.
+const KINDS = {
+  INTEGER: ["integer"],
+  REAL: ["real"],
+  NUMBER: ["integer", "real"],
+  STRING: ["text"],
+  BINARY: ["binary"],
+  BOOLEAN: ["item"],
+  LOGICAL: ["item"],
+  ENUMERATION: ["item"],
+};
+const AGGREGATES = ["ARRAY", "BAG", "LIST", "SET"];
+
+/** The words of a text in upper case, up to a byte, string or remark that makes none. */
 function wordsOf(text) {
   const words = [];
   for (let at = 0; at < text.length; ) {
     SCHEMA_LEXEME.lastIndex = at;
     const { index, groups } = SCHEMA_LEXEME.exec(text);
     at = groups.remark ? endOfRemark(text, index) : SCHEMA_LEXEME.lastIndex;
-    if (groups.other || at === null) return { words, stray: index };
+    if (groups.other || at === null) return words;
     if (groups.word) words.push({ text: groups.word.toUpperCase(), start: index, end: at });
   }
-  return { words, stray: null };
+  return words;
 }
 
 /** The place behind a remark, in which others may stand, or null where it doesn't end. */
@@ -57,11 +65,6 @@ function endOfRemark(text, start) {
     if (depth === 0) return REMARK_MARK.lastIndex;
   }
   return null;
-}
-
-/** Could the word be a name? */
-function isName(word) {
-  return /^[A-Z]/.test(word.text) && !NO_NAMES.has(word.text);
 }
 
 /** The words as texts. */
@@ -81,23 +84,12 @@ function itemsIn(statement) {
   return items.map((item) => item.split(" ").slice(0, 5)).filter(([first]) => first !== "");
 }
 
-/** The names in the heading of an entity behind SUBTYPE OF, and those of a ONEOF with nothing beside it, as words. */
-function listedIn(heading) {
-  const found = texts(heading);
-  const starts = found.flatMap((_, at) => (found.slice(at, at + 3).join(" ") === "SUBTYPE OF (" ? [at + 3] : []));
-  if (ONLY_ONEOF.test(found.join(" "))) starts.push(found.indexOf("ONEOF") + 2);
-  return starts.map((start) => {
-    const end = found.indexOf(")", start);
-    return heading.slice(start, end < 0 ? undefined : end);
-  });
-}
-
 /** The declarations of a schema text. */
 export class Outline {
   constructor(bytes) {
     this.bytes = bytes;
     this.text = textOf(bytes);
-    Object.assign(this, wordsOf(this.text));
+    this.words = wordsOf(this.text);
     this.declarations = [];
     for (let at = 0; at < this.words.length; ) {
       const kind = this.words[at].text;
@@ -128,11 +120,6 @@ export class Outline {
     return at;
   }
 
-  /** The text of a declaration. */
-  source(declaration) {
-    return this.text.slice(declaration.words[0].start, declaration.words.at(-1).end);
-  }
-
   /** The heading of an entity, word by word with blanks between. */
   heading(name) {
     const words = texts(this.entities.get(name).words);
@@ -146,11 +133,6 @@ export class Outline {
       this.above.set(name, found ? found[1].split(" , ").filter((word) => this.entities.has(word)) : []);
     }
     return this.above.get(name);
-  }
-
-  /** Does an entity want a subtype? */
-  isAbstract(name) {
-    return this.entities.get(name).words[2].text === "ABSTRACT";
   }
 
   /** The attributes of an entity that it or a supertype derives, each behind the entity that declares it and a point. */
@@ -232,61 +214,6 @@ export class Outline {
     );
   }
 
-  /** The second of two equal names among the attributes of an entity, or in a list of a declaration. */
-  repeated(declaration) {
-    const heading = declaration.words.slice(0, texts(declaration.words).indexOf(";"));
-    for (const words of this.listsOf(declaration, heading)) {
-      const seen = new Set();
-      for (const word of words.filter(isName)) {
-        if (seen.has(word.text)) return word;
-        seen.add(word.text);
-      }
-    }
-    return null;
-  }
-
-  /** The lists of a declaration in which no name stands twice. */
-  listsOf(declaration, heading) {
-    if (declaration.kind !== "ENTITY") return [heading.slice(3)];
-    const own = this.statements(declaration)
-      .filter(({ group, words }) => (group === "" || group === "DERIVE") && !namesIn(words).includes("SELF"))
-      .flatMap(({ words }) => words.slice(0, namesIn(words).length));
-    return [own, ...listedIn(heading)];
-  }
-
-  /** The first name in a declaration that is declared nowhere, or not as what it has to be. */
-  unknown(declaration) {
-    const { kind, words } = declaration;
-    if (kind === "TYPE") {
-      if (words[4].text === ";" && this.entities.has(words[3].text)) return words[3];
-      const end = words.findIndex((word) => GROUPS.includes(word.text));
-      return this.undeclared(words[3].text === "ENUMERATION" ? [] : words.slice(3, end));
-    }
-    const listed = SUBTYPE_OF.exec(this.heading(declaration.name));
-    const needed = new Set([...this.oneof(declaration.name), ...(listed ? listed[1].split(" , ") : [])]);
-    for (const word of words) {
-      if (word.text === ";") break;
-      if (needed.has(word.text) && !this.entities.has(word.text)) return word;
-    }
-    return this.unknownInStatements(declaration);
-  }
-
-  /** The first name in the statements of an entity that is declared nowhere. */
-  unknownInStatements(declaration) {
-    for (const { group, words } of this.statements(declaration)) {
-      const behind = group === "" ? words.slice(namesIn(words).length) : [];
-      const front = words.slice(2).filter((_, at) => words[at].text === "SELF");
-      const found = this.undeclared([...(group === "" || group === "DERIVE" ? front : []), ...behind]);
-      if (found) return found;
-    }
-    return null;
-  }
-
-  /** The first of these words that is a name and declared nowhere. */
-  undeclared(words) {
-    return words.find((word) => isName(word) && !this.entities.has(word.text) && !this.types.has(word.text)) ?? null;
-  }
-
   /** The names of the explicit attributes that an entity declares itself, redeclarations apart. */
   ownAttributes(name) {
     return this.statements(this.entities.get(name))
@@ -359,12 +286,31 @@ export class Outline {
     return found;
   }
 
-  /** The text with entities in front of its first declaration, or where that is of constants behind the `;` of its heading. */
-  withEntities(entities) {
-    const [first] = this.declarations;
-    const heading = this.words.find(({ text }) => text === ";");
-    const at = first && first.kind !== "CONSTANT" ? first.words[0].start : heading.end;
-    return this.text.slice(0, at) + entities + this.text.slice(at);
+  /** Could a value of a kind, as `kindOf` tells it, be of a type, of which these are the words? */
+  takes(words, kind) {
+    const [first] = words;
+    if (kind === "$" || KINDS[first]) return kind === "$" || KINDS[first].includes(kind);
+    if (AGGREGATES.includes(first)) {
+      return kind === "(" || (kind.startsWith("(") && this.takes(words.slice(words.indexOf("OF") + 1), kind.slice(1)));
+    }
+    if (first === "OPTIONAL" || first === "UNIQUE") return this.takes(words.slice(1), kind);
+    if (this.entities.has(first)) return kind === "reference";
+    if (first === "SELECT") {
+      const members = words.slice(2, -1).filter((word) => word !== ",");
+      return members.some((word) => (this.isSelect(word) ? this.takes([word], kind) : kind === "typed"));
+    }
+    return this.types.has(first) && this.takes(this.definition(first), kind);
+  }
+
+  /** Is a member of a SELECT an entity or another SELECT, so that no name of a type stands in front of its values? */
+  isSelect(name) {
+    return this.entities.has(name) || this.definition(name)[0] === "SELECT";
+  }
+
+  /** The words that say what a type is. */
+  definition(name) {
+    const words = texts(this.types.get(name).words);
+    return words.slice(3, words.indexOf(";"));
   }
 
   /** The statements of an entity that declare an attribute, or declare it anew or derive it. */
@@ -401,12 +347,12 @@ export class RefusedSchema {
     this.text = this.outline.text;
   }
 
-  /** Is this text refused by the same number? */
-  answers(text) {
-    const files = { schema: new Text(bytesOf(text)), file: new Text(new Uint8Array(0)) };
-    const { error, status } = this.program.run(["check", "--", "schema", "file"], files);
+  /** How many bytes stand in front of the place, or null where the program tells none. */
+  byte() {
+    const files = { schema: new Text(this.outline.bytes), file: new Text(new Uint8Array(0)) };
+    const { error, status } = this.program.run(["check", "--where", "--format", "jsonl", "--", "schema", "file"], files);
     if (status > 1) throw new Trouble(error);
-    return numberOf(error) === this.number;
+    return error.startsWith("{") ? (JSON.parse(error).byte ?? null) : null;
   }
 
   /** The place where the text is refused, or null where it can't be told. */
@@ -414,8 +360,14 @@ export class RefusedSchema {
     if (this.text.length > TEXT_LIMIT) {
       return { start: TEXT_LIMIT, end: TEXT_LIMIT, notes: [`a schema text has at most ${TEXT_LIMIT} bytes`] };
     }
-    if (this.number === 1) return this.placeOfByte();
-    return this.placeOfWord() ?? this.placeInWhole();
+    const at = this.byte();
+    if (at === null) return null;
+    if (this.number === 1) return this.placeOfByte(at);
+    const word = this.outline.words.find(({ start }) => start >= at);
+    if (!word) return { start: at, end: at, notes: this.number === 2 ? ["the text ends too early"] : [] };
+    const anew = OF_REDECLARATIONS.includes(this.number) ? this.outline.redeclarations() : [];
+    const { end } = anew.find(({ words }) => words[0].start === word.start)?.words.at(-1) ?? word;
+    return { start: word.start, end, notes: this.notesOn(word) };
   }
 
   /** The declaration that a place stands in, or the line, by its start and end. */
@@ -429,99 +381,27 @@ export class RefusedSchema {
   }
 
   /** The byte, the string or the remark that makes no word. */
-  placeOfByte() {
-    const start = this.outline.stray;
-    if (start === null) return null;
+  placeOfByte(start) {
     let end = start + 1;
     while (this.text.charCodeAt(end) >= 0x80 && this.text.charCodeAt(end) < 0xc0) end++;
     return { start, end, notes: [] };
   }
 
-  /**
-   * The first word behind which the text is refused even where it is cut there.
-   *
-   * A byte that no word has is put behind the cut: it is refused by another number, but only where the words in front of it
-   * aren't refused.
-   */
-  placeOfWord() {
-    const { words } = this.outline;
-    const isRefused = (count) => this.answers(this.text.slice(0, words[count - 1].end) + STRAY);
-    if (words.length === 0 || !isRefused(words.length)) {
-      const end = words.at(-1)?.end ?? 0;
-      return this.number === 2 ? { start: end, end, notes: ["the text ends too early"] } : null;
-    }
-    const word = words[firstCount(words.length, isRefused) - 1];
-    return { start: word.start, end: word.end, notes: this.notesOn(word) };
-  }
-
-  /** In which declaration a word stands. */
+  /** In which declaration a word stands, and where of a name that is declared twice the others are. */
   notesOn(word) {
+    const { declarations } = this.outline;
     const holds = ({ words }) => words[0].start <= word.start && word.start <= words.at(-1).end;
-    const found = this.outline.declarations.findLast(holds);
-    return found ? [`in ${found.kind} ${brief(found.name)}, ${this.line(found.words[0])}`] : [];
+    const found = declarations.findLast(holds);
+    if (!found) return [];
+    const others = declarations.filter((other) => other.name === found.name && other !== found && isKept(other));
+    const said = (other) => `${other.kind} ${brief(other.name)} stands in ${this.line(other.words[0])} too`;
+    const notes = this.number === 3 ? others.slice(0, MOST_TEXTS).map(said) : [];
+    return [`in ${found.kind} ${brief(found.name)}, ${this.line(found.words[0])}`, ...notes];
   }
 
   /** The line in which a word stands. */
   line(word) {
     return `line ${lineNumber(this.outline.bytes, word.start)}`;
-  }
-
-  /** The place of a refusal that comes of several declarations. */
-  placeInWhole() {
-    if (this.number === 6) return this.placeOfRenamedSelect();
-    if (this.number === 8) return this.placeOfRedeclaration();
-    if (![3, 4, 5].includes(this.number)) return null;
-    const { declarations } = this.outline;
-    const isRefused = (count) => this.answers(this.withFirst(count));
-    if (declarations.length === 0 || !isRefused(declarations.length)) return null;
-    return this.placeInDeclaration(declarations[firstCount(declarations.length, isRefused) - 1]);
-  }
-
-  /** The text of the first declarations. Where a name may stand behind its use, the others are there with nothing in them. */
-  withFirst(count) {
-    const { declarations } = this.outline;
-    const sources = declarations.slice(0, count).map((found) => this.outline.source(found));
-    if (this.number !== 3) sources.push(...declarations.slice(count).map(empty));
-    return `SCHEMA s;${sources.join("\n")}\nEND_SCHEMA;`;
-  }
-
-  /** The place in a declaration with which the text is refused. */
-  placeInDeclaration(found) {
-    const { declarations } = this.outline;
-    const looks = { 3: () => this.outline.repeated(found), 4: () => this.outline.unknown(found), 5: () => null };
-    let word = looks[this.number]();
-    const others = declarations.filter((other) => other.name === found.name && other !== found && isKept(other));
-    if (this.number === 3 && !word && others.length === 0) return this.placeOfRedeclaration();
-    word ??= found.words[1];
-    const said = (other) => `${other.kind} ${brief(other.name)} stands in ${this.line(other.words[0])} too`;
-    const notes = others.slice(0, MOST_TEXTS).map(said);
-    return { start: word.start, end: word.end, notes: [...this.notesOn(word), ...(this.number === 3 ? notes : [])] };
-  }
-
-  /** The first type that is just the name of a select. */
-  placeOfRenamedSelect() {
-    for (const found of this.outline.types.values()) {
-      const body = found.words[3];
-      const named = found.words[4].text === ";" && this.outline.types.get(body.text);
-      if (named && named.words[3].text === "SELECT") return { start: body.start, end: body.end, notes: this.notesOn(body) };
-    }
-    return null;
-  }
-
-  /** The first statement with which the text is refused, where those behind it are blanked. */
-  placeOfRedeclaration() {
-    const statements = this.outline.redeclarations().map(({ words }) => words);
-    const isRefused = (count) => this.answers(this.blanked(statements.slice(count)));
-    if (statements.length === 0 || !isRefused(statements.length)) return null;
-    const words = statements[firstCount(statements.length, isRefused) - 1];
-    return { start: words[0].start, end: words.at(-1).end, notes: this.notesOn(words[0]) };
-  }
-
-  /** The text with blanks in place of these statements. */
-  blanked(statements) {
-    const bytes = this.outline.bytes.slice();
-    for (const words of statements) bytes.fill(0x20, words[0].start, words.at(-1).end);
-    return textOf(bytes);
   }
 }
 
@@ -530,25 +410,7 @@ export function numberOf(line) {
   return Number(/^schema refused S(\d)/.exec(line)?.[1] ?? 0);
 }
 
-/** The least number from 1 to a count of which something is true that stays true for all greater ones. */
-export function firstCount(count, isTrue) {
-  let low = 0;
-  let high = count;
-  while (high - low > 1) {
-    const middle = Math.floor((low + high) / 2);
-    if (isTrue(middle)) high = middle;
-    else low = middle;
-  }
-  return high;
-}
-
 /** Is it a declaration of an entity or a type? */
 function isKept(declaration) {
   return declaration.kind === "ENTITY" || declaration.kind === "TYPE";
-}
-
-/** A declaration of the same name with nothing in it. */
-function empty({ kind, name }) {
-  if (kind === "ENTITY") return `ENTITY ${name}; END_ENTITY;`;
-  return kind === "TYPE" ? `TYPE ${name} = INTEGER; END_TYPE;` : "";
 }

@@ -5,15 +5,17 @@
 // under the same names, and `tests/page_module.py` and `tests/page.py` compare what both print, over the texts that the
 // tools themselves are tested by. What a refusal means comes from the program (`faults`).
 //
-// A file that is refused is read a second time, by `check --all`, which lists its refusals; only who has a refused file
-// waits for that. The places are looked for of 256 side by side: what looks for one waits with its
-// question until the others have theirs, and one run of the program answers all. What is found in 0.3 seconds comes
-// with the answer, and the rest while it is read; of refusals behind the first 2,000 the page has the lines alone.
+// A file that is refused is read a second time, by `check --all --where --format jsonl`, which lists its refusals with their places;
+// only who has a refused file waits for that. What is said of them in 0.3 seconds comes with the answer, and the rest while it is
+// read; of refusals behind the first 2,000 the page has the lines alone. A file without a schema is read so by a schema of its name
+// without entities, by which each instance is refused besides.
 
-import { GivenAlone, GivenFile, LONGEST_PLACED, MOST_PLACED, RefusedFile, refusalsOf } from "./files.mjs";
+import { GivenFile, RefusedFile, danglingIn, refusalOf, toldOf } from "./files.mjs";
 import { SCHEMA_TEXT, STEP_FILE } from "./kinds.mjs";
-import { Lines, clean, readParts, shortened, shown, textOf } from "./reading.mjs";
+import { Text } from "./program.mjs";
+import { Lines, bytesOf, clean, shortened, shown, textOf } from "./reading.mjs";
 import { RefusedSchema, numberOf } from "./schemas.mjs";
+import { nameIn } from "./shelf.mjs";
 
 // What a text is that begins so, and what to do with it.
 const LOOKS = [
@@ -26,16 +28,15 @@ const LOOKS = [
   [/^\x89HDF/, "this is STEP in its binary form, and not clear text"],
 ];
 const SCHEMA_LOOKS = [[STEP_FILE, "this is a STEP file: are schema and file exchanged?"], ...LOOKS];
-// For so many refusals the file is looked through once.
+// For so many refusals the instances that are spoken of beside them are looked for together.
 const PLACED_AT_ONCE = 50_000;
+const UNPLACED = "the program tells no place of it";
 // Of an instance so many parts are shown, so many values that stand for no attribute, and so many attributes explained.
 const MOST_PARTS = 100;
 const MOST_SURPLUS = 8;
 const MOST_EXPLAINED = 8;
 // Of a declaration so many signs: a SELECT of many entities has its place.
 const MOST_OF_DECLARATION = 400;
-const UNPLACED = `not placed: of the refused references of one instance the first ${MOST_PLACED} are`;
-const UNPLACED_LONG = `not placed: of the refused references of one instance of more than ${LONGEST_PLACED} bytes the first is`;
 const FILE_LOOKS = [[SCHEMA_TEXT, "this is a schema text: are schema and file exchanged?"], ...LOOKS];
 
 /** What the text looks like where it is none of the expected kind. */
@@ -45,14 +46,13 @@ function looksOf(bytes, looks) {
 }
 
 /** A place by its line and column, the text from `start` to `end` around it, and what there is to say of it. */
-function shownPlace(lines, start, end, place) {
-  const { bytes } = lines;
+function shownPlace(bytes, position, start, end, place) {
   const marked = Math.min(place.end, place.start + 60);
   const last = marked === place.end ? Math.min(end, place.end + 60) : marked;
   const text = (from, to) => clean(textOf(bytes.subarray(Math.max(from, 0), Math.max(to, 0))));
   const cut = place.start - 60 > start;
   return {
-    ...lines.place(place.start),
+    ...position,
     front: (cut ? ".. " : "") + text(Math.max(start, place.start - 60), place.start),
     mark: text(place.start, marked),
     back: text(marked, last) + (last < end ? " .." : ""),
@@ -71,9 +71,8 @@ function excerpt(text, value, at) {
 
 /** The attributes of an instance beside its values. Marked are the one at the place, and each that has no value. */
 function shownAttributes(refused, statement, place) {
-  const text = refused.text(statement);
   const at = place.start - statement.start;
-  const parts = readParts(text);
+  const { text, parts } = refused.given.partsOf(statement);
   const first = parts.slice(0, MOST_PARTS).filter(({ key }) => refused.outline.entities.has(key));
   const keys = first.map(({ key }) => key);
   let left = MOST_EXPLAINED;
@@ -94,7 +93,7 @@ function shownPart(refused, text, keys, part, at, most) {
     const isMarked = !value || (refused.missing.length === 0 && value.start <= at && at < value.end);
     const isExplained = isMarked && entity !== null && explained < most;
     explained += Number(isExplained);
-    const lines = isExplained ? refused.outline.explained(keys, { entity, attribute }) : [];
+    const lines = isExplained ? refused.given.declared(keys, { entity, attribute }) : [];
     return {
       name: attribute,
       value: value ? excerpt(text, value, at) : "(no value)",
@@ -110,7 +109,7 @@ function shownPart(refused, text, keys, part, at, most) {
 function rowsOf(refused, part, alone) {
   const values = part.values.values();
   const next = () => values.next().value ?? null;
-  const rows = refused.places(part, alone).map((place, at) => ({ ...place, value: refused.missing.includes(at) ? null : next() }));
+  const rows = refused.given.places(part, alone).map((place, at) => ({ ...place, value: refused.missing.includes(at) ? null : next() }));
   return [...rows, ...[...values].map((value) => ({ entity: null, attribute: "(none)", value }))];
 }
 
@@ -118,59 +117,69 @@ function rowsOf(refused, part, alone) {
 export function whereInSchema(program, schema, line) {
   const refused = new RefusedSchema(program, schema.bytes, numberOf(line));
   const place = refused.place();
-  const shown = place && shownPlace(new Lines(schema.bytes), ...refused.around(place), place);
+  const position = place && new Lines(schema.bytes).place(place.start);
+  const shown = place && shownPlace(schema.bytes, position, ...refused.around(place), place);
   return { line, place: shown, attributes: [], looks: looksOf(schema.bytes, SCHEMA_LOOKS) };
 }
 
-/** What there is to say of a file that is refused by this line, under a schema that is called `named`. */
-export function whereInFile(program, schema, named, bytes, line) {
-  const given = new GivenFile(program, schema, named, bytes);
-  const refused = new RefusedFile(given, line);
-  return whereRefused(line, refused, given.placeOf(refused));
+/** What there is to say of the first refusal of a file under a schema that is called `named`. */
+export function whereInFile(program, schema, named, bytes) {
+  const { refusals } = toldOf(program, [], { schema, file: new Text(bytes) });
+  const [report] = whereAll(new GivenFile(schema, named, bytes), refusals.slice(0, 1));
+  return report;
 }
 
 /** What there is to say of a file that is refused by this line where it is read by itself. */
 export function whereAlone(program, bytes, line) {
-  const given = new GivenAlone(program, bytes);
-  const refused = new RefusedFile(given, line);
-  return whereRefused(line, refused, given.placeOf(refused));
+  const file = new Text(bytes);
+  const schema = new Text(bytesOf(`SCHEMA ${nameIn(file) ?? "none"}; END_SCHEMA;`));
+  const { refusals } = toldOf(program, ["--all"], { schema, file });
+  const given = new GivenFile(null, "", bytes);
+  const told = refusals.map(refusalOf).find(({ answer }) => answer === line) ?? withDangling(line, given);
+  if (!told) return null;
+  const refused = new RefusedFile(given, told);
+  given.lookFor(refused.names());
+  return whereRefused(refused);
 }
 
-/** What there is to say of each refusal of a file, of which these are the lines of `check --all`. */
+/** The refusal of a reference to nothing, which `check` doesn't list of an instance that is refused besides. */
+function withDangling(line, given) {
+  const [, instance] = /^refused 56 \w+ in #(\d+)$/.exec(line) ?? [];
+  const found = instance ? danglingIn(given.bytes, instance) : null;
+  return found && { number: 56, instance, statement: null, byte: found.start, ...given.lines.place(found.start), answer: line };
+}
+
+/** What there is to say of each refusal of a file, of which these are the lines that the program tells. */
 export function* whereAll(given, lines) {
-  const refusals = refusalsOf(given, lines);
   for (let start = 0; start < lines.length; start += PLACED_AT_ONCE) {
-    let at = start;
-    for (const found of given.placesOf(refusals.slice(start, start + PLACED_AT_ONCE))) {
-      yield whereIfTold(lines[at], refusals[at], found);
-      at++;
-    }
-    given.forget();
+    const refusals = lines.slice(start, start + PLACED_AT_ONCE).map((line) => new RefusedFile(given, refusalOf(line)));
+    given.lookFor(refusals.flatMap((refused) => refused.names()));
+    for (const refused of refusals) yield whereIfTold(refused);
   }
 }
 
 /** The same of one, without its place where that can't be told. */
-function whereIfTold(line, refused, found) {
+function whereIfTold(refused) {
   try {
-    return whereRefused(line, refused, found);
+    return whereRefused(refused);
   } catch {
-    return { line, place: null, attributes: [], looks: null };
+    return { line: refused.told.answer, place: null, attributes: [], looks: null };
   }
 }
 
-/** What there is to say of one refusal of a file, of which this is the line, and which stands at a place. */
-function whereRefused(line, refused, found) {
-  const { bytes } = refused.given;
-  let looks = refused.statement === 1 ? looksOf(bytes, FILE_LOOKS) : null;
-  if (!refused.isPlaced) looks = refused.given.mostPlaced(refused.instance) > 1 ? UNPLACED : UNPLACED_LONG;
-  if (!found?.place) return { line, place: null, attributes: [], looks };
-  const { statement, place } = found;
+/** What there is to say of one refusal of a file. */
+function whereRefused(refused) {
+  const { told, bytes } = refused;
+  const place = refused.place();
+  const looks = told.statement === 1 ? looksOf(bytes, FILE_LOOKS) : place ? null : UNPLACED;
+  if (!place) return { line: told.answer, place: null, attributes: [], looks };
+  const { statement } = refused;
   const lastLine = bytes.length > 1 ? bytes.lastIndexOf(10, bytes.length - 2) + 1 : 0;
   const start = statement.start === bytes.length ? lastLine : statement.start;
-  const hasAttributes = refused.instance !== null && refused.number !== 40;
+  const hasAttributes = told.instance !== null && refused.number !== 40;
   return {
-    line,
-    place: shownPlace(refused.given.lines, start, statement.end, place),
+    line: told.answer,
+    place: shownPlace(bytes, refused.position(place.start), start, statement.end, place),
     attributes: hasAttributes ? shownAttributes(refused, statement, place) : [],
     looks,
   };

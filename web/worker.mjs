@@ -9,7 +9,7 @@ import { adapted } from "./adapting.mjs";
 import { headerOf, keywordsOf, syntaxOf } from "./alone.mjs";
 import { toleranceOf } from "./decimals.mjs";
 import { Files, SMALL_ENOUGH, equalBytes, tableName, whatOf } from "./differences.mjs";
-import { GivenFile } from "./files.mjs";
+import { GivenFile, refusalOf, toldOf } from "./files.mjs";
 import { Owners } from "./owners.mjs";
 import { kindOfLine } from "./kinds.mjs";
 import { LOOKED_AT, otherKindOf, unpacked } from "./packed.mjs";
@@ -251,15 +251,17 @@ class Job {
     return { accepted: true, name, line, canonical };
   }
 
-  /** What `check --all` lists of a file, each refusal still without its place; the first one alone where there is no list, as for want of memory. */
+  /**
+   * What the program lists of a file, each refusal still without what is around it; the first one alone where there is no list, as
+   * for want of memory.
+   */
   refused(name, files, error, heard) {
-    const lines = this.program.run(["check", "--all", "--", "schema", "file"], files, heard).error.split("\n");
-    const count = lines.pop();
-    const isAll = COUNT_LINE.test(count);
-    const all = isAll ? lines : [error];
-    const reports = all.slice(0, MOST_WHOLE).map((line) => ({ ...withoutPlace(line), lines: [line] }));
-    const kinds = [...Map.groupBy(all, kindOfLine)].map(([kind, each]) => [kind, each.length]);
-    return { ...notAccepted(name, 1, reports, isAll ? count : null), isAll, all, total: all.length, kinds };
+    const told = toldOf(this.program, ["--all"], files, heard);
+    const isAll = told.count !== null;
+    const lines = isAll ? [...told.refusals.map((line) => refusalOf(line).answer), ...(told.error ? [told.error] : [])] : [error];
+    const reports = lines.slice(0, MOST_WHOLE).map((line) => ({ ...withoutPlace(line), lines: [line] }));
+    const kinds = [...Map.groupBy(lines, kindOfLine)].map(([kind, each]) => [kind, each.length]);
+    return { ...notAccepted(name, 1, reports, told.count), isAll, told: told.refusals, total: lines.length, kinds };
   }
 
   /** The places of all refusals, one after the other, each with the number of its file and its own. */
@@ -278,13 +280,9 @@ class Job {
   }
 
   /** The reports of a file's refusals, one after the other. */
-  reports({ served, all, file, isAll, line }) {
-    if (!isAll) return [whereInFile(this.program, served.text, served.name, file.bytes, line)].values();
-    const given = new GivenFile(this.program, served.text, served.name, file.bytes, true);
-    return whereAll(
-      given,
-      all.filter((each) => each.startsWith("refused")),
-    );
+  reports({ served, told, file, isAll }) {
+    if (!isAll) return [whereInFile(this.program, served.text, served.name, file.bytes)].values();
+    return whereAll(new GivenFile(served.text, served.name, file.bytes), told);
   }
 
   // Differences
@@ -403,7 +401,7 @@ function sendable(answer, explained) {
 }
 
 /** What is said of a file: of a canonical file the beginning, and the whole to be saved. */
-function sendableFile({ canonical, served, file, all, from, ...others }) {
+function sendableFile({ canonical, served, file, told, from, ...others }) {
   const rest = { ...others, from: from && { ...from, listing: from.listing.path, listingUnpackedBy: from.listing.unpackedBy } };
   if (!canonical) return rest;
   const shown = canonical.subarray(0, SHOWN_CANONICAL);

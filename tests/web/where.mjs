@@ -2,7 +2,7 @@
 // the lines and the status, and of a file the lines of all of its refusals.
 
 import fs from "node:fs";
-import { GivenFile } from "../../web/files.mjs";
+import { GivenFile, toldOf } from "../../web/files.mjs";
 import { Program, Text } from "../../web/program.mjs";
 import { linesOf, whereAll, whereInFile, whereInSchema } from "../../web/where.mjs";
 
@@ -18,17 +18,14 @@ function report(schemaPath, path) {
   const said = error || new TextDecoder().decode(output).split("\n")[0];
   if (/^schema refused/.test(error)) return [linesOf(whereInSchema(program, schema, error), schemaPath), status, null];
   if (!/^refused/.test(error)) return [[said], status, null];
-  const lines = linesOf(whereInFile(program, schema, schemaPath, file.bytes, error), path);
+  const lines = linesOf(whereInFile(program, schema, schemaPath, file.bytes), path);
   return [lines, status, allOf(schema, schemaPath, file, path)];
 }
 
 /** The lines of all refusals of a file. */
 function allOf(schema, schemaPath, file, path) {
-  const { error } = program.run(["check", "--all", "--", "schema", "file"], { schema, file });
-  const lines = error.split("\n");
-  const count = lines.pop();
-  const given = new GivenFile(program, schema, schemaPath, file.bytes, true);
-  return [...whereAll(given, lines)].flatMap((found) => linesOf(found, path)).concat(count);
+  const { refusals, count } = toldOf(program, ["--all"], { schema, file });
+  return [...whereAll(new GivenFile(schema, schemaPath, file.bytes), refusals)].flatMap((found) => linesOf(found, path)).concat(count);
 }
 
 process.stdout.write(JSON.stringify(JSON.parse(fs.readFileSync(0)).map((given) => report(...given))));
