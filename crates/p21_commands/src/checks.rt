@@ -142,6 +142,7 @@ impl Checks {
         output: &mut Watched<W>,
         faults: &mut Watched<F>,
     ) -> Told
+        ensures status { IsOfCheck result.status }
         ensures consumed { ConsumesAtMost usual (R.remaining file.old.inner) (R.remaining file.new.inner) }
         ensures ends { EndsChecking self.old.declared (stream_of R.remaining file.old file.new)
             (stream_of W.contents output.old output.new) (stream_of F.contents faults.old faults.new) result.status }
