@@ -89,7 +89,7 @@ fn stand_at_marks(found: &LocatedSurvey, before: usize, marked: &[u8]) -> bool {
     let mut byte = before as u64;
     for letter in marked {
         if *letter != b'^' {
-            byte += 1;
+            byte = byte.saturating_add(1);
             continue;
         }
         let Some(located) = found.located(number) else {
