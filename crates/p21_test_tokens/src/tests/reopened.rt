@@ -49,7 +49,7 @@ fn read_behind(reader: Reader, place: u64, bytes: &[u8], size: usize) -> Option<
     }
     reader.answers.clear();
     reader.refused = None;
-    for piece in bytes.chunks(size) {
+    for piece in bytes.chunks(size.max(1)) {
         reader.feed(piece);
     }
     let byte = reader.lexer.places().byte;
