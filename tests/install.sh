@@ -109,8 +109,8 @@ rm "$tree"/tools/p21-*
 cp tools/p21-* tools/*.py "$tree/tools/"
 ln -s "$(python3 -c 'import sys; print(sys.executable)')" "$here/path/python3"
 expect 'the tools that there are' 0 "$here/prefix/lib/p21/p21-where" "$tree/making/install" "$here/prefix"
-expect 'a tool runs the program that is installed with it' 0 'stands: check -- s f' "$here/prefix/bin/p21-where" s f
-expect 'a tool runs another program where it is told to' 0 'other: check -- s f' \
+expect 'a tool runs the program that is installed with it' 0 'stands: check --where --format jsonl -- s f' "$here/prefix/bin/p21-where" s f
+expect 'a tool runs another program where it is told to' 0 'other: check --where --format jsonl -- s f' \
     env P21="$here/other" "$here/prefix/bin/p21-where" s f
 rm -rf "$here/prefix"
 
