@@ -55,12 +55,12 @@ const OF_SECTIONS = ["ISO-10303-21", "HEADER", "ENDSEC", "DATA", "END-ISO-10303-
 // What a parenthesis holds: the parts of an instance, the one value of a typed parameter, or values.
 const [PARTS, TYPED, LIST] = ["parts", "typed", "list"];
 const FIRST_WORD = /^[!#]?[\w-]*/;
-const LINE_END = /\r\n|\n|\r/g;
+const LINE_ENDS = /\r\n|\n|\r/g;
 // So many ways in which values may stand for attributes are tried, and texts of so many bytes.
 const MOST_WAYS = 100;
 const LONGEST = 1 << 20;
 // What a value of each kind begins with.
-const KINDS = { "'": "text", '"': "binary", ".": "item", "#": "reference", $: "$", "*": "*" };
+const KINDS_BY_FIRST = { "'": "text", '"': "binary", ".": "item", "#": "reference", $: "$", "*": "*" };
 const REFUSAL = /^\{"file".*\}$/;
 const OBJECT = /\{.*\} ?/;
 // How the program ends a list of refusals, and what it says for people.
@@ -340,7 +340,7 @@ export class RefusedFile {
   position(start) {
     const { byte, line, column } = this.told;
     if (start === byte) return { line, column };
-    const between = textOf(this.bytes.subarray(Math.min(byte, start), Math.max(byte, start))).match(LINE_END) ?? [];
+    const between = textOf(this.bytes.subarray(Math.min(byte, start), Math.max(byte, start))).match(LINE_ENDS) ?? [];
     return { line: line + (start > byte ? 1 : -1) * between.length, column: this.given.lines.place(start).column };
   }
 
@@ -531,7 +531,7 @@ export class RefusedFile {
       const { value } = valueAt(parts, at);
       return placeOf(at, value?.end ?? at + 1, [counts]);
     }
-    const kinds = isAlone && part.end - part.start <= LONGEST ? part.values.map((value) => kindOf(text, value)) : null;
+    const kinds = isAlone && part.end - part.start <= LONGEST ? part.values.map((value) => kindOfValue(text, value)) : null;
     this.missing = (kinds && this.given.missingIn(part.key, kinds)) ?? places.map((_, number) => number).slice(count);
     const [first] = this.missing;
     const start = first < count ? part.values[first].start : at;
@@ -611,11 +611,11 @@ function valueAt(parts, at) {
 }
 
 /** What kind of value stands somewhere: of a list the kind of its first element behind a parenthesis. */
-function kindOf(text, value) {
+function kindOfValue(text, value) {
   const first = text[value.start];
-  if (first === "(") return first + value.inner.slice(0, 1).map((element) => kindOf(text, element)).join("");
+  if (first === "(") return first + value.inner.slice(0, 1).map((element) => kindOfValue(text, element)).join("");
   if (/[-+\d]/.test(first)) return text.slice(value.start, value.end).includes(".") ? "real" : "integer";
-  return KINDS[first] ?? "typed";
+  return KINDS_BY_FIRST[first] ?? "typed";
 }
 
 /** What could stand behind the words that a statement begins with. */

@@ -8,6 +8,7 @@
 
 import { Text, Trouble } from "./program.mjs";
 import { brief, lineNumber, textOf } from "./reading.mjs";
+import { AGGREGATES } from "./sets.mjs";
 
 const SCHEMA_LEXEME = new RegExp(
   [
@@ -31,7 +32,7 @@ const GROUPS = ["DERIVE", "INVERSE", "UNIQUE", "WHERE", "END_ENTITY", "END_TYPE"
 const OF_REDECLARATIONS = [3, 8];
 
 // The kinds of values that simple types and enumerations have, and what a list of values is of.
-const KINDS = {
+const KINDS_OF_TYPES = {
   INTEGER: ["integer"],
   REAL: ["real"],
   NUMBER: ["integer", "real"],
@@ -41,7 +42,6 @@ const KINDS = {
   LOGICAL: ["item"],
   ENUMERATION: ["item"],
 };
-const AGGREGATES = ["ARRAY", "BAG", "LIST", "SET"];
 
 /** The words of a text in upper case, up to a byte, string or remark that makes none. */
 function wordsOf(text) {
@@ -289,7 +289,7 @@ export class Outline {
   /** Could a value of a kind, as `kindOf` tells it, be of a type, of which these are the words? */
   takes(words, kind) {
     const [first] = words;
-    if (kind === "$" || KINDS[first]) return kind === "$" || KINDS[first].includes(kind);
+    if (kind === "$" || KINDS_OF_TYPES[first]) return kind === "$" || KINDS_OF_TYPES[first].includes(kind);
     if (AGGREGATES.includes(first)) {
       return kind === "(" || (kind.startsWith("(") && this.takes(words.slice(words.indexOf("OF") + 1), kind.slice(1)));
     }
