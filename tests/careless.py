@@ -44,7 +44,7 @@ class LeftOut(NamedTuple):
     every: int
 
     def __call__(self, text):
-        lines = list(re.finditer(rb"\n#(\d+) ?= ?%s\([^;]*;" % self.entity, text))[:: self.every][: self.count]
+        lines = list(re.finditer(rb"\r?\n#(\d+) ?= ?%s\([^;]*;" % self.entity, text))[:: self.every][: self.count]
         assert len(lines) == self.count
         for line in reversed(lines):
             text = text[: line.start()] + text[line.end() :]

@@ -48,12 +48,12 @@ const HEADER = [
 // The words for what may stand in a statement. In the header no value is the name of an instance.
 const [VALUE, KEYWORD, NAME_OF_INSTANCE] = ["a value", "a keyword", "the name of an instance"];
 const VALUES_OF_HEADER = ["a number", "a text", "an item", "a binary", '"$"', '"*"', KEYWORD];
-const [OPENING, CLOSING, COMMA, EQUALS, END] = ['"("', '")"', '","', '"="', '";"'];
+const [OPENING, CLOSING, COMMA, EQUALS_TOKEN, SEMICOLON_TOKEN] = ['"("', '")"', '","', '"="', '";"'];
 const FIRST_WORDS = ["ISO-10303-21", "HEADER"];
 // The words that begin a statement and no record.
 const OF_SECTIONS = ["ISO-10303-21", "HEADER", "ENDSEC", "DATA", "END-ISO-10303-21"];
 // What a parenthesis holds: the parts of an instance, the one value of a typed parameter, or values.
-const [PARTS, TYPED, LIST] = ["parts", "typed", "list"];
+const [IN_PARTS, IN_TYPED, IN_LIST] = ["parts", "typed", "list"];
 const FIRST_WORD = /^[!#]?[\w-]*/;
 const LINE_ENDS = /\r\n|\n|\r/g;
 // So many ways in which values may stand for attributes are tried, and texts of so many bytes.
@@ -626,17 +626,19 @@ function couldFollow(words) {
   const within = [];
   words.forEach((word, at) => {
     const before = words[at - 1] ?? "";
-    if (word === "(") within.push(before === "=" ? PARTS : isKeyword(before) && within.includes(LIST) ? TYPED : LIST);
+    if (word === "(") within.push(before === "=" ? IN_PARTS : isKeyword(before) && within.includes(IN_LIST) ? IN_TYPED : IN_LIST);
     else if (word === ")") within.pop();
   });
   if (last === "(") {
-    return { [PARTS]: [KEYWORD], [TYPED]: [...values, OPENING], [LIST]: [...values, OPENING, CLOSING] }[within.at(-1)];
+    return { [IN_PARTS]: [KEYWORD], [IN_TYPED]: [...values, OPENING], [IN_LIST]: [...values, OPENING, CLOSING] }[within.at(-1)];
   }
   if (last === "," || last === "=") return last === "," ? [...values, OPENING] : [KEYWORD, OPENING];
-  if (words.length === 1 && !isRecord(first)) return first.startsWith("#") ? [EQUALS] : [...(first === "DATA" ? [OPENING] : []), END];
+  if (words.length === 1 && !isRecord(first)) {
+    return first.startsWith("#") ? [EQUALS_TOKEN] : [...(first === "DATA" ? [OPENING] : []), SEMICOLON_TOKEN];
+  }
   if (isKeyword(last)) return [OPENING];
-  if (within.length === 0) return [END];
-  return { [PARTS]: [KEYWORD, CLOSING], [TYPED]: [CLOSING], [LIST]: [CLOSING, COMMA] }[within.at(-1)];
+  if (within.length === 0) return [SEMICOLON_TOKEN];
+  return { [IN_PARTS]: [KEYWORD, CLOSING], [IN_TYPED]: [CLOSING], [IN_LIST]: [CLOSING, COMMA] }[within.at(-1)];
 }
 
 /** Is a word the keyword of a record or a type? */
