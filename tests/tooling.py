@@ -3,6 +3,7 @@
 import fnmatch
 import os
 import pathlib
+import resource
 import subprocess
 import sys
 import tempfile
@@ -37,6 +38,12 @@ def file_of(instances, changes=()):
         assert text.count(old) == 1, old
         text = text.replace(old, new)
     return text
+
+
+def seconds_of_runs():
+    """The seconds of a processor that the runs took that have ended, whatever else the machine does."""
+    usage = resource.getrusage(resource.RUSAGE_CHILDREN)
+    return usage.ru_utime + usage.ru_stime
 
 
 class Tests:

@@ -4,9 +4,8 @@ it names and leaves. P21 names another program than ./p21.
 """
 
 import subprocess
-import time
 
-from tooling import Tests
+from tooling import Tests, seconds_of_runs
 
 # What stands in a listing, what the copy has in its place, and the lines about it.
 EDITS = [
@@ -129,7 +128,7 @@ def taken(tests):
     tests.judge("a listing that isn't given", (lines, 1), (error.splitlines(), status))
 
 
-# A chain of so many TYPEs that are names of a SELECT, each of the one before, takes at most so many seconds.
+# A chain of so many TYPEs that are names of a SELECT, each of the one before, takes at most so many seconds of a processor.
 CHAIN, MOST_OF_CHAIN = 6_000, 30
 
 
@@ -141,9 +140,9 @@ def chain(tests):
         types = [f"TYPE t{number} = {{}}; END_TYPE;" for number in range(1, CHAIN)]
         text = whole(" ".join([front, *(line.format(f"t{number}") for number, line in enumerate(types))]))
         wanted = text if body is None else whole(" ".join([front, *(line.format(body) for line in types)]))
-        begun = time.monotonic()
+        begun = seconds_of_runs()
         output, _, status = tests.run([tests.make("chain.exp", text)])
-        took = time.monotonic() - begun
+        took = seconds_of_runs() - begun
         tests.judge(f"{name} of renamed SELECTs", (True, 0 if body else 1), (output == wanted, status))
         tests.judge(f"{name} of renamed SELECTs: {took:.1f} s", True, took < MOST_OF_CHAIN)
 

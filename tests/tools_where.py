@@ -16,7 +16,7 @@ import time
 import urllib.parse
 
 import texts
-from tooling import MOST_SECONDS, ROOT, SCHEMA, Tests, file_of
+from tooling import MOST_SECONDS, ROOT, SCHEMA, Tests, file_of, seconds_of_runs
 
 sys.path.insert(0, str(ROOT / "tools"))
 
@@ -959,15 +959,16 @@ def silent(tests):
 
 
 def without_proc(tests):
-    """Where /proc isn't mounted, a file is read and placed as where it is. Root alone can try it."""
+    """Where /proc isn't mounted, a file is read and placed as where it is. Root alone can try it: what is left out without it."""
     before = ["unshare", "--mount", "sh", "-c", 'umount -l /proc && exec "$@"', "-"]
     if subprocess.run([*before, "true"], capture_output=True, check=False).returncode != 0:
-        return
+        return "a system without /proc"
     for options in ([], ["--all"], ["--format", "json"]):
         given = [*options, SCHEMA, "examples/refused/WrongKind.step"]
         tests.judge(f"without /proc, {options}", tests.run(given), tests.run(given, before=before))
     accepted = ("accepted, instances 128, canonical bytes 4872\n", "", 0)
     tests.judge("without /proc, an accepted file", accepted, tests.run([SCHEMA, "examples/product.step"], before=before))
+    return ""
 
 
 def cut_short(tests):
@@ -979,11 +980,12 @@ def cut_short(tests):
     tests.judge("a file cut short with the answer", ("it changed while it was read\n", "", 3), found)
 
 
-# Very many references of one instance that are refused, all of which take at most so many seconds.
+# Very many references of one instance that are refused, all of which take at most so many seconds of a processor. Where each was looked for
+# by itself, it was 19 and 52.
 REFERRING = "SCHEMA s; ENTITY a; x : LIST OF a; END_ENTITY; ENTITY b; END_ENTITY; END_SCHEMA;"
 REFERENCES = [
-    ("to another entity", 800, "#2", 57, 60),
-    ("to nothing", 8_000, "#3", 56, 60),
+    ("to another entity", 800, "#2", 57, 8),
+    ("to nothing", 8_000, "#3", 56, 16),
 ]
 
 
@@ -993,9 +995,9 @@ def references(tests):
     for name, count, reference, number, seconds in REFERENCES:
         instances = f"#1=A(({','.join([reference] * count)}));\n#2=B();"
         path = tests.make("references.step", file_of(instances, [("PRODUCT_MODEL", "S")]))
-        begun = time.monotonic()
+        begun = seconds_of_runs()
         output, error, status = tests.run(["--all", "--format", "json", schema, path])
-        took = time.monotonic() - begun
+        took = seconds_of_runs() - begun
         rows = [json.loads(line) for line in output.splitlines()]
         places = [(number, 8, 7 + 3 * at) for at in range(count)]
         found = [(row["number"], row["line"], row["column"]) for row in rows]
@@ -1142,9 +1144,9 @@ def main():
     tests = Tests("p21-where")
     groups = [faults, refused, values, schemas, attributes, explained, hints, kinds, others, renaming, changed]
     groups += [expected, documented, missing, forms, several, first_of_all, many, helps, counts, seeking, columns, equals]
-    for group in [*groups, strings, unfinished, silent, without_proc, cut_short, references, unplaced, lists, strange, controls, limits, memory, speed]:
+    for group in [*groups, strings, unfinished, silent, cut_short, references, unplaced, lists, strange, controls, limits, memory, speed]:
         group(tests)
-    tests.end()
+    tests.end(without_proc(tests))
 
 
 if __name__ == "__main__":
