@@ -481,6 +481,16 @@ def lost_processes(tests):
         tests.judge(f"{name}: hashes", [word == "accepted" for word in answers], [row["sha256"] is not None for row in found])
 
 
+def without_listings(tests):
+    """The listing of a schema isn't asked for, which may be many times as long as the schema."""
+    program = tests.rigged("listing", '[ "$1" = schema ] && { echo "the listing is asked for" >&2; exit 3; }')
+    for options in ([], ["--data"], ["--names"]):
+        given = [*options, "--format", "tsv", SCHEMA, "examples/product.step", "examples/refused/Count.step"]
+        (wanted, *beside), (found, *others) = tests.run(given), tests.run(given, program=program)
+        name = f"without a listing, {options}"
+        tests.judge(name, (without_seconds(tests, name, wanted), beside), (without_seconds(tests, name, found), others))
+
+
 def databases(tests):
     """A database has a row for each answer, to which later runs add theirs, and what has no answer apart."""
     database = str(tests.here / "files.db")
@@ -716,6 +726,7 @@ def main():
     left_out = any_names(tests)
     again(tests)
     lost_processes(tests)
+    without_listings(tests)
     databases(tests)
     wrong_databases(tests)
     unanswered(tests)
