@@ -121,6 +121,8 @@ SUGGESTIONS = "of words like a mistaken one"
 # What is asked for beside the answer: bytes in which the place of a refusal is looked for, and what is known of large sets.
 BESIDE = {
     "p21_stream_statements::source::Source::": "for the place of a refusal",
+    "p21_stream_statements::marks::marks_of": "for the place of a refusal",
+    "p21_mapping::refused_shape::": "for the place of a refusal",
     "p21_stream_kept::judgements::Judgements::remember": "of what large sets don't serve",
 }
 
