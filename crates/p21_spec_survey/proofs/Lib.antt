@@ -1,2 +1,4 @@
 mod Signposts
 mod Readings
+mod Alike
+mod Kept

@@ -7,14 +7,15 @@
 -- of which the list speaks.
 use Rattle.std.specs.Prelude.{◌≡◌, ◌≢◌, ◌⊎◌, ◌<◌, ℕ, suc, List, [], ◌∷◌, ◌++◌, length, codes, Contains}
 use Rattle.std.specs.List.{AllByRecursion as Each}
-use Rattle.p21_spec_basics.specs.Digits.{IsByte}
 use Rattle.p21_spec_basics.specs.Limits.{Limits}
 use Rattle.p21_spec_exchange.specs.DataSection.{Heading, named}
 use Rattle.p21_spec_exchange.specs.Grammar.{InGrammar, IsFile}
 use Rattle.p21_spec_exchange.specs.Header.{IsFileSchema}
-use Rattle.p21_spec_exchange.specs.Laying.{Laid}
+use Rattle.p21_spec_exchange.specs.Laying.{Laid, Lexeme, tokens_in}
+use Rattle.p21_spec_exchange.specs.OpenNesting.{IsNoSemicolon}
+use Rattle.p21_spec_exchange.specs.Pending.{LaidUpTo, Tail, unfinished}
 use Rattle.p21_spec_exchange.specs.Record.{Record}
-use Rattle.p21_spec_exchange.specs.Separator.{IsSeparatorText}
+use Rattle.p21_spec_exchange.specs.Separator.{IsSeparator, IsSeparatorText, Separator, separator_bytes}
 use Rattle.p21_spec_exchange.specs.Statement.{Statement, data_start, header, instance, section, section_end, statement_tokens}
 use Rattle.p21_spec_exchange.specs.Structure.{AreFirstStatements, Structure, statements}
 use Rattle.p21_spec_file.specs.BrokenRule.{Breaks}
@@ -30,14 +31,15 @@ use Rattle.p21_spec_schema.specs.Schema.{Schema}
 use Rattle.p21_spec_schema.specs.SchemaName.{NamesSchema}
 use Rattle.p21_spec_survey.specs.Landmark.{Landmark, Signpost, file_begin, file_end, landmark}
 use Rattle.p21_spec_survey.specs.Resuming.{EndsInString, EndsInRemark, GoesBy, HasNoneInside}
-use Rattle.p21_spec_syntax.specs.FileWithin.{BeginsNoFile, IsNoFile}
+use Rattle.p21_spec_survey.specs.Whole.{BeginsNone, BeginsNoneWithin}
+use Rattle.p21_spec_syntax.specs.FileWithin.{IsNoFile}
 
 -- what a refusal names: a statement, counted from 1, with a stretch that is passed over as one; or an instance
 pub data Subject : Type 0 where
   at_statement : ℕ → Subject
   in_instance : ℕ → Subject
 
--- a refusal that is listed: its number, what it names, and how many bytes stand in front of its statement
+-- a refusal that is listed: its number, what it names, and how many bytes of the file stand in front of its statement
 pub record Listed : Type 0 where
   pub number : ℕ
   pub subject : Subject
@@ -77,7 +79,8 @@ pub data IsRefusedInstance (s : Schema) (given : List Statement) (n : ℕ) (reco
 -- behind the statements given nothing is wrong with this one: an instance means something among some others and has a name of its own, a
 -- FILE_SCHEMA and a section with a name are of the schema, and this section too has a name of its own
 abbrev pub IsRight : Schema → List Statement → Statement → Type 0
-IsRight s given (instance n record_) = ((kinds : EntitySets) × (meaning : Typed) × RecordMeans s kinds record_ meaning) × ¬ Contains (names_among given) n
+IsRight s given (instance n record_) = ((kinds : EntitySets) × (meaning : Typed) × RecordMeans s kinds record_ meaning)
+    × ¬ Contains (names_among given) n
 IsRight s given (header part) = (chars : List ℕ) → IsFileSchema part chars → NamesSchema chars s.name
 IsRight s given (section (data_start heading)) = HeadingNamesSchema s.name heading
     × ((name schema : List ℕ) → heading ≡ named name schema → ¬ Contains (section_names_among given) name)
@@ -101,40 +104,67 @@ pub record IsInData (given : List Statement) : Type 0 where
 abbrev pub BeginsWithEnd : List ℕ → Type 0
 BeginsWithEnd bytes = (gap rest : List ℕ) × IsSeparatorText gap × (bytes ≡ gap ++ (codes "ENDSEC" ++ rest))
 
--- no file begins with these bytes, whatever its size
-abbrev pub BeginsNone : List ℕ → Type 0
-BeginsNone bytes = (more : List ℕ) → Each IsByte more → IsNoFile (bytes ++ more)
+-- what is no whole token yet goes on over no `;`, a string or a remark apart
+abbrev pub IsOpenTail : Tail → Type 0
+IsOpenTail (unfinished bytes) = ((inside : List ℕ) × (bytes ≡ 39 ∷ inside)) ⊎ ¬ Contains bytes 59
+IsOpenTail other = Unit {0}
 
--- Why the next statement is passed over, with its number and what it names. `statement` are its bytes up to the refused one, and
+-- the bytes of a statement that hasn't ended: whole tokens, of which none is `;`, and what is no whole token yet
+pub record IsOpen (bytes : List ℕ) : Type 0 where
+  pub lexemes : List Lexeme
+  pub tail : Tail
+  pub laid : LaidUpTo bytes lexemes tail
+  pub not_ended : Each IsNoSemicolon (tokens_in lexemes)
+  pub open_ : IsOpenTail tail
+
+-- Why the next statement is passed over, with its number and what it names. `statement` are its bytes up to what is refused, and
 -- `behind` those from there on
 pub data IsPassedFor (s : Schema) (limits : Limits) (read : Reading) (statement behind : List ℕ) : ℕ → Subject → Type 0 where
-  -- no file begins with the kept bytes and with its own up to the refused one
-  no_file : (byte : ℕ) (rest : List ℕ) (number : ℕ) → behind ≡ byte ∷ rest → BeginsNone (read.kept ++ (statement ++ byte ∷ [])) → IsGoneOnBehind number
+  -- no file begins with the kept bytes, its own, and what is refused: a byte, or a token with the byte behind it that tells its end, of a
+  -- string the last one
+  begins_none : (refused rest : List ℕ) (number : ℕ) → behind ≡ refused ++ rest → IsOpen statement
+      → BeginsNone (read.kept ++ (statement ++ refused)) → IsGoneOnBehind number
       → IsPassedFor s limits read statement behind number (at_statement (suc read.count))
   -- the file ends within it: with number 2 in a string, with 3 in a remark
-  at_end : (number : ℕ) → behind ≡ [] → IsNoFile (read.kept ++ statement) → IsGoneOnBehind number → (number ≡ 2 → EndsInString statement)
+  ends_within : (number : ℕ) → behind ≡ [] → IsNoFile (read.kept ++ statement) → IsGoneOnBehind number
+      → (number ≡ 2 → EndsInString statement)
       → (number ≡ 3 → (inside : List ℕ) × EndsInRemark statement inside)
       → IsPassedFor s limits read statement behind number (at_statement (suc read.count))
   -- it is an instance that is refused, with a signpost in a string of it
-  wrong_record : (n : ℕ) (record_ : Record) (number : ℕ) → AreStatement statement (instance n record_) → IsRefusedInstance s read.given n record_ number
-      → ¬ HasNoneInside statement behind → IsPassedFor s limits read statement behind number (in_instance n)
+  wrong_record : (n : ℕ) (record_ : Record) (number : ℕ) → AreStatement statement (instance n record_)
+      → BeginFile (read.given ++ instance n record_ ∷ [])
+      → IsRefusedInstance s read.given n record_ number → ¬ HasNoneInside statement behind
+      → IsPassedFor s limits read statement behind number (in_instance n)
 
--- the next statement is passed over: it is one of a data section, and the reading goes by this signpost
-pub record IsPassedOver (s : Schema) (limits : Limits) (file : List ℕ) (read : Reading) (passed : List ℕ) (signpost : Signpost)
-    (rest : List ℕ) (number : ℕ) (subject : Subject) : Type 0 where
+-- the next statement is one of a data section and is to be passed over
+pub record IsToBePassed (s : Schema) (limits : Limits) (file : List ℕ) (read : Reading) (number : ℕ) (subject : Subject) : Type 0 where
   pub statement : List ℕ
   pub behind : List ℕ
   pub next_are : file ≡ read.bytes ++ (statement ++ behind)
   pub in_data : IsInData read.given
   pub no_end : ¬ BeginsWithEnd (statement ++ behind)
   pub why : IsPassedFor s limits read statement behind number subject
-  pub goes_by : GoesBy read.bytes statement behind passed signpost rest
+
+-- it is passed over, and the reading goes by this signpost
+pub record IsPassedOver (s : Schema) (limits : Limits) (file : List ℕ) (read : Reading) (passed : List ℕ) (signpost : Signpost)
+    (rest : List ℕ) (number : ℕ) (subject : Subject) : Type 0 where
+  pub passes : IsToBePassed s limits file read number subject
+  pub goes_by : GoesBy read.bytes passes.statement passes.behind passed signpost rest
 
 -- ---- a file, statement by statement
 
--- with a refusal of the next statement
-abbrev pub with_refusal : Reading → ℕ → Subject → List Listed
-with_refusal read number subject = read.listed ++ record { number = number; subject = subject; begins = length read.bytes } ∷ []
+-- behind what is read and separators the next statement begins, so many bytes behind the beginning of the file
+pub record BeginsAt (file : List ℕ) (read : Reading) (begins : ℕ) : Type 0 where
+  pub gap : List ℕ
+  pub rest : List ℕ
+  pub file_is : file ≡ read.bytes ++ (gap ++ rest)
+  pub separates : IsSeparatorText gap
+  pub no_more : (separator : Separator) (more : List ℕ) → IsSeparator separator → rest ≡ separator_bytes separator ++ more → ⊥
+  pub begins_is : begins ≡ length (read.bytes ++ gap)
+
+-- with a refusal of the statement that begins there
+abbrev pub with_refusal : Reading → ℕ → Subject → ℕ → List Listed
+with_refusal read number subject begins = read.listed ++ record { number = number; subject = subject; begins = begins } ∷ []
 
 -- the reading behind a statement that is taken
 abbrev pub taking : Reading → List ℕ → Statement → Reading
@@ -148,25 +178,25 @@ taking read bytes statement = record {
 }
 
 -- behind an instance that is refused and left out
-abbrev pub leaving_out : Reading → List ℕ → ℕ → Record → ℕ → Reading
-leaving_out read bytes n record_ number = record {
+abbrev pub leaving_out : Reading → List ℕ → ℕ → Record → ℕ → ℕ → Reading
+leaving_out read bytes n record_ number begins = record {
   bytes = read.bytes ++ bytes;
   kept = read.kept ++ bytes;
   count = suc read.count;
   given = read.given ++ instance n record_ ∷ [];
   taken = read.taken;
-  listed = with_refusal read number (in_instance n);
+  listed = with_refusal read number (in_instance n) begins;
 }
 
 -- behind bytes that are passed over
-abbrev pub passing_over : Reading → List ℕ → ℕ → Subject → Reading
-passing_over read bytes number subject = record {
+abbrev pub passing_over : Reading → List ℕ → ℕ → Subject → ℕ → Reading
+passing_over read bytes number subject begins = record {
   bytes = read.bytes ++ bytes;
   kept = read.kept;
   count = suc read.count;
   given = read.given;
   taken = read.taken;
-  listed = with_refusal read number subject;
+  listed = with_refusal read number subject begins;
 }
 
 -- so far the file is read
@@ -177,12 +207,16 @@ pub data IsRead (s : Schema) (limits : Limits) (file : List ℕ) : Reading → T
       → AreStatement bytes statement → BeginFile (read.given ++ statement ∷ []) → IsRight s read.given statement
       → IsRead s limits file (taking read bytes statement)
   -- an instance is refused, and left out: no signpost stands in a string of it
-  leaves_out : (read : Reading) (bytes rest : List ℕ) (n : ℕ) (record_ : Record) (number : ℕ) → IsRead s limits file read → file ≡ read.bytes ++ (bytes ++ rest)
-      → AreStatement bytes (instance n record_) → BeginFile (read.given ++ instance n record_ ∷ []) → IsRefusedInstance s read.given n record_ number
-      → HasNoneInside bytes rest → IsRead s limits file (leaving_out read bytes n record_ number)
+  leaves_out : (read : Reading) (bytes rest : List ℕ) (n : ℕ) (record_ : Record) (number begins : ℕ) → IsRead s limits file read
+      → file ≡ read.bytes ++ (bytes ++ rest)
+      → AreStatement bytes (instance n record_) → BeginFile (read.given ++ instance n record_ ∷ [])
+      → IsRefusedInstance s read.given n record_ number
+      → HasNoneInside bytes rest → BeginsAt file read begins → IsRead s limits file (leaving_out read bytes n record_ number begins)
   -- a statement is passed over up to a landmark
-  passes_over : (read : Reading) (passed rest : List ℕ) (found : Landmark) (number : ℕ) (subject : Subject) → IsRead s limits file read
-      → IsPassedOver s limits file read passed (landmark found) rest number subject → IsRead s limits file (passing_over read passed number subject)
+  passes_over : (read : Reading) (passed rest : List ℕ) (found : Landmark) (number : ℕ) (subject : Subject) (begins : ℕ)
+      → IsRead s limits file read
+      → IsPassedOver s limits file read passed (landmark found) rest number subject → BeginsAt file read begins
+      → IsRead s limits file (passing_over read passed number subject begins)
 
 -- ---- how the list ends
 
@@ -203,26 +237,33 @@ abbrev pub HasNoLandmark : List ℕ → List ℕ → List ℕ → Type 0
 HasNoLandmark before statement behind =
     ((passed rest : List ℕ) (signpost : Signpost) → GoesBy before statement behind passed signpost rest → IsFileMark signpost)
 
--- Why nothing is read behind the next statement, with the number of its refusal. Of want of memory and of a read that fails nothing is
--- said here
+-- Why nothing is read behind the next statement, with the number of its refusal and what it names. Of want of memory nothing is said here
 pub data EndsReading (s : Schema) (limits : Limits) (file : List ℕ) (read : Reading) : ℕ → Subject → Type 0 where
   -- it would be passed over, and no landmark comes
-  no_landmark : (statement behind : List ℕ) (number : ℕ) (subject : Subject) → file ≡ read.bytes ++ (statement ++ behind)
-      → IsPassedFor s limits read statement behind number subject → HasNoLandmark read.bytes statement behind
-      → EndsReading s limits file read number subject
-  -- no file begins with the kept bytes and these of it, and it stands in no data section, begins with ENDSEC, or is refused with another number
-  no_file : (front behind : List ℕ) (number : ℕ) → file ≡ read.bytes ++ (front ++ behind) → BeginsNoFile limits (read.kept ++ front)
+  no_landmark : (number : ℕ) (subject : Subject) (passes : IsToBePassed s limits file read number subject)
+      → HasNoLandmark read.bytes passes.statement passes.behind → EndsReading s limits file read number subject
+  -- no file begins with the kept bytes and these of it, and it stands in no data section, begins with ENDSEC, or is refused with
+  -- another number
+  no_file : (front behind : List ℕ) (number : ℕ) → file ≡ read.bytes ++ (front ++ behind)
+      → BeginsNoneWithin limits.record_source (read.kept ++ front)
       → (IsGoneOnBehind number → IsInData read.given → BeginsWithEnd (front ++ behind))
       → EndsReading s limits file read number (at_statement (suc read.count))
+  -- the file has more bytes than one may have, those that are passed over among them
+  too_long : (front behind : List ℕ) → file ≡ read.bytes ++ (front ++ behind) → limits.file_source < length (read.bytes ++ front)
+      → EndsReading s limits file read 23 (at_statement (suc read.count))
   -- the file ends within it, as early as nothing else says, or where it isn't passed over
   ends_early : (left : List ℕ) (number : ℕ) → file ≡ read.bytes ++ left → IsNoFile (read.kept ++ left) → (number ≡ 24)
       ⊎ ¬ IsInData read.given ⊎ BeginsWithEnd left → EndsReading s limits file read number (at_statement (suc read.count))
   -- it is a statement that a session refuses, and no record but for its length
   offends : (bytes rest : List ℕ) (statement : Statement) (size number : ℕ) → file ≡ read.bytes ++ (bytes ++ rest)
-      → AreStatement bytes statement → HasFileSize s read.taken size → Offends s limits read.taken size statement number
+      → AreStatement bytes statement → BeginFile (read.given ++ statement ∷ []) → HasFileSize s read.taken size
+      → Offends s limits read.taken size statement number
       → ((n : ℕ) (record_ : Record) → statement ≡ instance n record_ → number ≡ 27)
       → EndsReading s limits file read number (at_statement (suc read.count))
-  said_nothing : (number : ℕ) (subject : Subject) → (number ≡ 90) ⊎ (number ≡ 91) → EndsReading s limits file read number subject
+  -- memory is wanting
+  no_memory : (subject : Subject) → EndsReading s limits file read 90 subject
+  -- a read failed within it
+  read_failed : EndsReading s limits file read 91 (at_statement (suc read.count))
 
 -- ---- references
 
@@ -240,30 +281,43 @@ pub record IsRefusedReference (s : Schema) (read : Reading) (entries : List Entr
 
 -- each of these is a number, and the instance that has the reference
 abbrev pub AreReferences : Schema → Reading → List Entry → List (ℕ × ℕ) → Type 0
-AreReferences s read entries told = Each (λ (r : ℕ × ℕ). (reference : Reference) × IsRefusedReference s read entries reference r.0 × (r.1 ≡ reference.0)) told
+AreReferences s read entries told =
+    Each (λ (r : ℕ × ℕ). (reference : Reference) × IsRefusedReference s read entries reference r.0 × (r.1 ≡ reference.0)) told
 
--- a reference is served, or it is among those refused, or it can't be judged
+-- a reference is served, or its target was refused itself, or it is among those refused; or none of its name stands there, where bytes were
+-- passed over
 abbrev pub IsAnswered : Schema → Reading → List Entry → List (ℕ × ℕ) → Reference → Type 0
 IsAnswered s read entries told reference = IsServed s (entity_sets_in entries) reference.1 ⊎ IsRefused read.listed reference.1.target
-    ⊎ ((number : ℕ) × IsRefusedReference s read entries reference number × Contains told (number, reference.0)) ⊎ (read.kept ≢ read.bytes)
+    ⊎ ((number : ℕ) × IsRefusedReference s read entries reference number × Contains told (number, reference.0))
+    ⊎ ((read.kept ≢ read.bytes) × IsUnserved s entries reference 56)
 
 -- ---- all of it
 
 -- how a list ends
-pub data EndsList (s : Schema) (limits : Limits) (file : List ℕ) (read : Reading) (entries : List Entry) : List Listed → List (ℕ × ℕ) → Extent → Type 0 where
+pub data EndsList (s : Schema) (limits : Limits) (file : List ℕ) (read : Reading) (entries : List Entry) : List Listed → List (ℕ × ℕ)
+    → Extent → Type 0 where
   -- the kept bytes are a file, with what stands behind its last statement
   at_end : (rest : List ℕ) (structure : Structure) (schema : List ℕ) (references : List (ℕ × ℕ)) → file ≡ read.bytes ++ rest
       → InGrammar (read.kept ++ rest) structure schema → statements structure ≡ read.given
       → AreReferences s read entries references → Each (IsAnswered s read entries references) (references_in entries)
       → EndsList s limits file read entries read.listed references whole
   -- a refusal ends the reading
-  by_refusal : (number : ℕ) (subject : Subject) → EndsReading s limits file read number subject
-      → EndsList s limits file read entries (with_refusal read number subject) [] (read_to (length read.bytes))
-  -- no more were asked for
-  at_most : (references : List (ℕ × ℕ)) → AreReferences s read entries references → EndsList s limits file read entries read.listed references most
+  by_refusal : (number : ℕ) (subject : Subject) (begins : ℕ) → EndsReading s limits file read number subject → BeginsAt file read begins
+      → EndsList s limits file read entries (with_refusal read number subject begins) [] (read_to begins)
+  -- a read failed while a stretch was passed over
+  interrupted : (number : ℕ) (subject : Subject) (begins : ℕ) → IsToBePassed s limits file read number subject → BeginsAt file read begins
+      → EndsList s limits file read entries
+      (with_refusal (passing_over read [] number subject begins) 91 (at_statement (suc (suc read.count))) begins) [] (read_to begins)
+  -- no more were asked for, the last of them that of a stretch
+  at_stretch : (number : ℕ) (subject : Subject) (begins : ℕ) → IsToBePassed s limits file read number subject → BeginsAt file read begins
+      → EndsList s limits file read entries (with_refusal read number subject begins) [] most
+  -- or that of an instance or a reference
+  at_most : (references : List (ℕ × ℕ)) → AreReferences s read entries references
+      → EndsList s limits file read entries read.listed references most
 
 -- what a survey says of a file: the refusals of statements in their order, and those of references behind them
-pub record IsSurvey (s : Schema) (limits : Limits) (file : List ℕ) (listed : List Listed) (references : List (ℕ × ℕ)) (extent : Extent) : Type 0 where
+pub record IsSurvey (s : Schema) (limits : Limits) (file : List ℕ) (listed : List Listed)
+    (references : List (ℕ × ℕ)) (extent : Extent) : Type 0 where
   pub reading : Reading
   pub is_read : IsRead s limits file reading
   pub entries : List Entry
