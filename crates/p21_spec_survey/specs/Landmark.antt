@@ -2,9 +2,10 @@
 --
 -- What is refused has no end that the grammar tells: its `;` may be what is missing, or it stands in a string that nothing ends. So what
 -- is looked for is where a statement begins, and by bytes alone: `#`, digits, blanks and `=`, or `ENDSEC`, blanks and `;`. No parameter
--- has such bytes, a string apart. They are a landmark behind a `;`, as where a statement ends, behind the end of a line, as where its `;`
--- is lost, or behind a `)`, as where that is lost too and all stands in one line: so an `=` for a comma in a list makes none. Where a
--- file begins or ends in the same manner no landmark behind it is of this file any more, so the first of all these counts: a signpost.
+-- has such bytes, a string or a remark in it apart. They are a landmark behind a `;`, as where a statement ends, behind the end of a line,
+-- as where its `;` is lost, or behind a `)`, as where that is lost too and all stands in one line: so an `=` for a comma in a list makes
+-- none, unless the name in front of it begins a line. Where a file begins or ends in the same manner no landmark behind it is of this file
+-- any more, so the first of all these counts: a signpost.
 use Rattle.std.specs.Prelude.{◌≡◌, ◌⊎◌, ◌<◌, ℕ, List, [], ◌∷◌, ◌++◌, length, codes}
 use Rattle.std.specs.List.{AllByRecursion as Each}
 use Rattle.p21_spec_basics.specs.Digits.{AllDigits}

@@ -2,8 +2,8 @@
 --
 -- A string that nothing ends runs on to the next apostrophe, over whole statements, and a remark that nothing ends over all that is
 -- left. So the first signpost in a string of the statement counts, or in a remark that is open where the file ends: what seems
--- text there is mostly none. Without one it is the first signpost at the refused byte or behind it. A string that holds the bytes of a
--- landmark by itself, behind a line end or a `;`, costs one refusal that isn't one where its statement is refused anyway.
+-- text there is mostly none. Without one it is the first signpost at the refused byte or behind it. Where a string of a refused statement
+-- holds the bytes of a landmark by itself, behind a line end, a `;` or a `)`, the rest of it is read as statements.
 use Rattle.std.specs.Prelude.{◌≡◌, ◌⊎◌, ◌≤◌, ℕ, List, [], ◌∷◌, ◌++◌, length}
 use Rattle.p21_spec_exchange.specs.Laying.{Lexeme}
 use Rattle.p21_spec_exchange.specs.Pending.{LaidUpTo, open_comment, unfinished}

@@ -1,10 +1,11 @@
--- What a survey lists of a file, statement by statement (this project's own numbers, on exchange structures of ISO 10303-21).
+-- What a survey is to list of a file, statement by statement (this project's own numbers, on exchange structures of ISO 10303-21). No call
+-- answers it yet.
 --
--- A statement is taken, or it is refused. A record that is refused is left out, and its bytes are kept all the same: they are a statement
--- of the grammar. Of a statement that is none the bytes are passed over up to a landmark, and nothing is said of them but the refusal:
--- so no file has to begin with all the bytes for what is said of those that are kept. The bytes are kept and passed over in turn, and each
--- clause of `IsRead` is one statement more. What ends the reading is the last refusal, and the bytes in front of its statement are those
--- of which the list speaks.
+-- A statement is taken, or it is refused. A record that is refused is left out, and its bytes are kept all the same, unless a signpost
+-- stands in a string of it: they are a statement of the grammar. Of a statement that is none the bytes are passed over up to a landmark,
+-- and nothing is said of them but the refusal: so no file has to begin with all the bytes for what is said of those that are kept. The
+-- bytes are kept and passed over in turn, and each clause of `IsRead` is one statement more. What ends the reading is the last refusal,
+-- and the bytes in front of its statement are those of which the list speaks.
 use Rattle.std.specs.Prelude.{◌≡◌, ◌≢◌, ◌⊎◌, ◌<◌, ℕ, suc, List, [], ◌∷◌, ◌++◌, length, codes, Contains}
 use Rattle.std.specs.List.{AllByRecursion as Each}
 use Rattle.p21_spec_basics.specs.Limits.{Limits}
@@ -76,8 +77,8 @@ pub data IsRefusedInstance (s : Schema) (given : List Statement) (n : ℕ) (reco
   broken : (number : ℕ) → MeansNothing s record_ → Breaks s record_ number → IsRefusedInstance s given n record_ number
   name_again : Contains (names_among given) n → IsRefusedInstance s given n record_ 40
 
--- behind the statements given nothing is wrong with this one: an instance means something among some others and has a name of its own, a
--- FILE_SCHEMA and a section with a name are of the schema, and this section too has a name of its own
+-- behind the statements given this is right with the next one, whatever its length: an instance means something among some others and has a
+-- name of its own, a FILE_SCHEMA and a section with a name are of the schema, and this section too has a name of its own
 abbrev pub IsRight : Schema → List Statement → Statement → Type 0
 IsRight s given (instance n record_) = ((kinds : EntitySets) × (meaning : Typed) × RecordMeans s kinds record_ meaning)
     × ¬ Contains (names_among given) n
@@ -271,8 +272,8 @@ pub data EndsReading (s : Schema) (limits : Limits) (file : List ℕ) (read : Re
 abbrev pub IsRefused : List Listed → ℕ → Type 0
 IsRefused listed n = (refusal : Listed) × Contains listed refusal × (refusal.subject ≡ in_instance n)
 
--- a reference is refused with this number: its target was not refused itself, and none of this name stands in the file, or it doesn't serve;
--- that none stands there can't be said where bytes were passed over
+-- a reference is refused with this number: its target was not refused itself, and none of this name is taken, or it doesn't serve; that
+-- none is taken isn't told where bytes were passed over
 pub record IsRefusedReference (s : Schema) (read : Reading) (entries : List Entry) (reference : Reference) (number : ℕ) : Type 0 where
   pub among : Contains (references_in entries) reference
   pub judged : ¬ IsRefused read.listed reference.1.target
