@@ -1009,6 +1009,35 @@ def references(tests):
     tests.judge("a long instance", [(8, 7), (8, 10), (8, 13)], [(row["line"], row["column"]) for row in rows])
 
 
+# Instances of which a value is refused and nothing more is said: plain ones, with remarks, blanks, strings and others around the value,
+# and values that are no word.
+PLAIN = """#1=POINT($,1.,2);#2=POINT('a''b',1.,$);
+#03 /*#4=POINT(*/ = POINT ( 'a;''#3=' , 1. , .T. ) ;
+#4=POINT('\\S\\' ;#4=ORIGIN(',1.,3);
+#5=CLOUD((),((1.),(2.,3)),(TALLY(1.)));
+#6=POINT('\u00e9',1.,'b\u00e4h');\t#7=POINT('\u00e9',1., 7 );
+#8=(MARKED(.BLUE.)POINT(1.,1.)SHAPE('a'));#9=MARKED($,.BLUE.);
+#10=ORIGIN($,*,"0F");#11=ORIGIN($,*,/**/12345678901234567890);#12=ORIGIN($,1.,1.);
+#13=POINT($,1.,5);"""
+
+
+def plain_lines(tests):
+    """A line of a list says what the object of its refusal says, whichever way it is made."""
+    path = tests.make("plain.step", file_of(PLAIN, [("PRODUCT_MODEL", "DEMO")]))
+    output, error, status = tests.run(["--all", "--format", "json", DEMO, path])
+    rows = [json.loads(line) for line in output.splitlines()]
+    wanted = [
+        f"{path}:{row['line']}:{row['column']}: {row['number']} {row['name']} in {row['instance']}: "
+        f"{row['attribute']} is {row['found']}, wanted: {row['expected']}"
+        for row in rows
+        if not row["notes"]
+    ]
+    lines = tests.run(["--all", "--format", "lines", DEMO, path])[0].splitlines()
+    tests.judge("13 plain lines", (13, "", 1), (len(lines), error, status))
+    tests.judge("plain lines", wanted, [line for line, row in zip(lines, rows) if not row["notes"]])
+    tests.judge("a plain line", f"{path}:8:15: 49 WrongKind in #1: POINT.Y is 2, wanted: x, y : distance; distance = REAL", lines[0])
+
+
 # What the program tells of a refusal without a place, in place of its answer.
 UNPLACED = '{"file":"x","number":56,"name":"Dangling","instance":3}'
 
@@ -1144,7 +1173,8 @@ def main():
     tests = Tests("p21-where")
     groups = [faults, refused, values, schemas, attributes, explained, hints, kinds, others, renaming, changed]
     groups += [expected, documented, missing, forms, several, first_of_all, many, helps, counts, seeking, columns, equals]
-    for group in [*groups, strings, unfinished, silent, cut_short, references, unplaced, lists, strange, controls, limits, memory, speed]:
+    groups += [strings, unfinished, silent, cut_short, references, plain_lines, unplaced, lists, strange, controls, limits, memory, speed]
+    for group in groups:
         group(tests)
     tests.end(without_proc(tests))
 

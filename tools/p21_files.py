@@ -40,8 +40,13 @@ NAME = re.compile(rb"#(?=\d)0*(\d{0,21})")
 FEW = 8
 NUMBER = re.compile(rb"([+-]?)(\d+)(?:\.(\d*))?(?:E([+-]?)0*(\d{1,9}))?")
 FIRST_WORD = re.compile(rb"[!#]?[\w-]*")
-# The keyword of an instance of one entity, from the `#` of its name on.
-ONE_KEYWORD = re.compile(rb"#\d+[\0- \x7f]*=[\0- \x7f]*([A-Z]\w*)[\0- \x7f]*\(")
+# The keyword of an instance of one entity, from behind the statement in front of it on.
+ONE_KEYWORD = re.compile(rb"[\0- \x7f]*#\d+[\0- \x7f]*=[\0- \x7f]*([A-Z]\w*)[\0- \x7f]*\(")
+# In an instance without a backslash or a remark, what parts its values, and a string.
+PLAIN_SIGN = re.compile(rb"[(),\\/\"]|'[^']*'")
+OPENS, CLOSES, QUOTES = b"()'"
+HIDES = b'\\/"'
+AROUND = bytes([*range(0x21), 0x7F])
 NAMES_WORD = re.compile(rb"[A-Za-z0-9_]*")
 LINE_END = re.compile(rb"\r\n|\n|\r")
 OF_BYTES = (1, 4, 5, 6, 7, 9, 10, 11)
@@ -111,14 +116,39 @@ class Refusal(NamedTuple):
         return f"refused {self.number} {self.name} {where}"
 
 
-def refusal_of(line: str) -> Refusal:
-    """The refusal that a line of the program's tells, which is an object."""
+# What an object has behind the name of its file where a value of an instance is refused: so most objects are read by one pattern.
+OF_VALUE = re.compile(
+    r',"number":(\d+),"name":"(\w+)","instance":(\d+),"byte":(\d+),"line":(\d+),"column":(\d+)'
+    r'(?:,"column_in_characters":(\d+))?(?:,"entity":"(\w+)"(?:,"attribute":"(\w+)"(?:,"indices":[][\d,]+)?)?)?}'
+)
+
+# The same of one of whose value nothing more is said than which attribute has it, and what the schema says of that.
+OF_PLAIN_VALUE = re.compile(
+    r',"number":(46|47|49|50|51|53|54),"name":"(\w+)","instance":(\d+),"byte":(\d+),"line":(\d+),"column":(\d+)'
+    r'(?:,"column_in_characters":(\d+))?,"entity":"(\w+)","attribute":"(\w+)"(?:,"indices":[][\d,]+)?}'
+)
+# Of a value so many bytes are said.
+MOST_OF_VALUE = 240
+
+
+def refusal_of(line: str, front: int = 0) -> Refusal:
+    """The refusal that a line of the program's tells, which is an object. So many signs have the name of its file."""
+    found = OF_VALUE.fullmatch(line, front) if front else None
+    if found:
+        number, name, instance, byte, row, column, in_characters, entity, attribute = found.groups()
+        return Refusal(int(number), name, None, int(instance), int(byte), int(row), int(in_characters or column), entity, attribute)
     told: Dict[str, Any] = json.loads(line)
     get = told.get
     column = get("column_in_characters") or get("column")
     return Refusal(
         told["number"], told["name"], get("statement"), get("instance"), get("byte"), get("line"), column, get("entity"), get("attribute")
     )
+
+
+def end_of_name(line: str) -> int:
+    """How many signs of an object have the name of its file, which stands first."""
+    _, end = json.JSONDecoder().raw_decode(line, len('{"file":'))
+    return end
 
 
 class Statement(NamedTuple):
@@ -187,6 +217,9 @@ class Ends:
 
     def before(self, place: int) -> int:
         """The place behind the last statement that ends in front of a place; 0 where none does."""
+        if self.at <= place <= self.remark.place and place <= self.paged.place:
+            self.pass_over(place)
+            return self.end
         if place < self.at:
             self.begin()
         while self.at < place:
@@ -230,9 +263,11 @@ class Checked:
         self.last = Statement(0, 0, None)
         # Where the first instances of these names stand, of those that were looked for.
         self.known: Dict[int, int] = {}
+        self.alone = functools.lru_cache(maxsize=1024)(alone)
         self.keys_of = functools.lru_cache(maxsize=1024)(self.keys_of_instance)
         self.parts = functools.lru_cache(maxsize=1)(self.parts_of)
         self.places = functools.lru_cache(maxsize=None)(self.places_of)
+        self.width = functools.lru_cache(maxsize=None)(self.width_of)
         self.missing_in = functools.lru_cache(maxsize=None)(self.missing_by_kinds)
         self.declared = functools.lru_cache(maxsize=None)(self.declared_of)
 
@@ -255,6 +290,9 @@ class Checked:
 
     def parts_of(self, statement: Statement) -> Sequence[Part]:
         """The parts of an instance, with their values as they are read once, where they are few."""
+        plain = plain_part(self.data, statement)
+        if plain:
+            return [plain]
         parts = reading.read_parts(self.data, statement.start)
         if len(parts) > MOST_KEPT:
             return parts
@@ -262,12 +300,30 @@ class Checked:
 
     def keys_at(self, place: int) -> Tuple[str, ...]:
         """The keywords of the instance at a place."""
-        found = ONE_KEYWORD.match(self.data, reading.behind_blanks(self.data, self.ends.before(place)))
-        return (found[1].decode("ascii"),) if found else tuple(part.key for part in self.parts(self.statement_at(place)))
+        found = ONE_KEYWORD.match(self.data, self.ends.before(place))
+        return self.alone(found[1]) if found else tuple(part.key for part in self.parts(self.statement_at(place)))
 
     def keys_of_instance(self, start: int) -> Tuple[str, ...]:
         """The keywords of the instance that begins at a place."""
         return tuple(part.key for part in reading.read_parts(self.data, start))
+
+    def plain_line(self, line: str, front: int, said_of: Callable[[Tuple[str, ...]], str]) -> Optional[str]:
+        """What is said of a refusal on one line behind the name of the file, where it is one of a short word in an instance of one entity,
+        and nothing more is said than which attribute has it and what the schema says of that; None of any other. It is what is said
+        by way of `Refused` too, in less time. `said_of` puts declarations on a line."""
+        told = OF_PLAIN_VALUE.fullmatch(line, front)
+        if not told:
+            return None
+        number, name, instance, byte, row, column, in_characters, entity, attribute = told.groups()
+        at = int(byte)
+        value = reading.WORD_IN_LIST.match(self.data, at, at + MOST_OF_VALUE)
+        found = ONE_KEYWORD.match(self.data, self.ends.before(at))
+        if not value or not found or not value[0].isascii():
+            return None
+        declared = said_of(self.declared(self.alone(found[1]), (entity, attribute)))
+        wanted = f", wanted: {declared}" if declared else ""
+        said = f"{entity}.{attribute} is {value[0].decode('ascii')}{wanted}"
+        return f":{row}:{in_characters or column}: {number} {name} in #{instance}: {said}"
 
     def look_for(self, names: Set[int]) -> None:
         """Looks where the first instances of these names stand. The file is passed over once for all of them."""
@@ -290,6 +346,10 @@ class Checked:
         if alone:
             return list(self.outline.places(key))
         return [(key, attribute) for attribute in self.outline.own_attributes(key)]
+
+    def width_of(self, key: str, alone: bool) -> int:
+        """How many signs the longest name of an attribute has that a value of a part may stand for."""
+        return max((len(name) for _, name in self.places(key, alone)), default=0)
 
     def declared_of(self, keys: Sequence[str], attribute: Attribute) -> Tuple[str, ...]:
         """What the schema says of an attribute in an instance of these entities."""
@@ -617,6 +677,43 @@ OF_VALUES: Dict[Union[int, str], Callable[[Refused, Value], Place]] = {
     56: Refused.dangling,
     57: Refused.wrong_target,
 }
+
+
+def plain_part(data: bytes, statement: Statement) -> Optional[Part]:
+    """The part of an instance of one entity that has few values, no remark, binary or backslash, and no blank around a value; None of
+    any other. It is what `reading.read_parts` reads too, in less time."""
+    start, end = statement.start, statement.end
+    found = ONE_KEYWORD.match(data, start, end)
+    if not found or statement.open is not None:
+        return None
+    values: List[Value] = []
+    first, depth = found.end(), 0
+    for sign in PLAIN_SIGN.finditer(data, first - 1, end):
+        at = sign.start()
+        mark = data[at]
+        if mark == OPENS:
+            depth += 1
+        elif mark in HIDES:
+            return None
+        elif mark == QUOTES:
+            if b"\\" in sign[0]:
+                return None
+        elif depth == 1:
+            if first < at:
+                if data[first] in AROUND or data[at - 1] in AROUND or len(values) == MOST_KEPT:
+                    return None
+                values.append(Value(data, first, at))
+            first = at + 1
+            if mark == CLOSES:
+                return Part(found[1].decode("ascii"), found.start(1), values, at)
+        elif mark == CLOSES:
+            depth -= 1
+    return None
+
+
+def alone(keyword: bytes) -> Tuple[str, ...]:
+    """The keywords of an instance of one entity."""
+    return (keyword.decode("ascii"),)
 
 
 def is_defined(data: Text, end: int) -> bool:
