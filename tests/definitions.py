@@ -1,7 +1,7 @@
 #!/usr/bin/env python3
 """Whether each name in the tables of rules of docs/DEFINITIONS.md is there: definitions, examples and laws, functions and
-types of the code, tests, wrong bodies, and what the plain reading has of a rule; whether each function of the plain reading that
-refuses something stands there; and each call, clause and file in the tables of promises of docs/CONTRACTS.md;
+types of the code, tests and their tables, wrong bodies, and what the plain reading has of a rule; whether each function of the
+plain reading that refuses something stands there; and each call, clause and file in the tables of promises of docs/CONTRACTS.md;
 whether each public call has a line that says what it does; and whether each page of docs that a file names is there.
 The status is 1 where one isn't, where a rule has no code but has a test or a wrong body, where the scanner of tokens carries
 out a rule and its row names no function of it, or where nothing of the plain reading carries a rule and no reason is said.
@@ -163,7 +163,7 @@ def missing_in_rule(cells):
     yield from missing_statements(definition, "specs")
     yield from missing_statements(outside(example), "proofs")
     yield from missing_items(code, "fn|struct|enum|trait")
-    yield from missing_items(test, "fn")
+    yield from missing_items(test, "fn|const")
     yield from missing_edits(wrong)
     yield from missing_in_plain(plain)
     if code == "-" and (test, wrong) != ("-", "-"):
