@@ -1,0 +1,2 @@
+pub mod NumberedFile
+pub mod Numbering
