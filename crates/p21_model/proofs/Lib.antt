@@ -6,7 +6,6 @@ pub mod Keywords
 pub mod Handing
 pub mod Finding
 pub mod EntitySets
-pub mod UseOrder
-pub mod UseRanges
+pub mod UseHanding
 pub mod UseNames
 pub mod UsesFound

@@ -2,7 +2,7 @@
 use Rattle.std.specs.Prelude.{◌≡◌, ◌<◌, ◌^◌, ℕ, false, List, [], ◌∷◌, ◌++◌, Some, None, map}
 use Rattle.std.specs.List.{AllByRecursion as Each}
 use Rattle.std.proofs.Common.{ap, refl, sym, ◌∙◌, append-nil, append_assoc}
-use Rattle.p21_model.specs.UseRows.{UseRow}
+use Rattle.p21_model_uses.specs.UseRows.{UseRow}
 use Rattle.p21_model.specs.Uses.{uses_at}
 use Rattle.p21_model_values.specs.Named.{HandsOutName, names_in}
 use Rattle.p21_spec_exchange.specs.Parameter.{Param}

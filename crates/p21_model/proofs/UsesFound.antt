@@ -8,7 +8,7 @@ use Rattle.p21_model.specs.Kept.{HaveOneLine, IsKeptLine, IsStated}
 use Rattle.p21_model.specs.Left.{HandsOutRow, TellsRows}
 use Rattle.p21_model.specs.Rows.{AreRowsOf, Row}
 use Rattle.p21_model.specs.Told.{AreTold}
-use Rattle.p21_model.specs.UseRows.{UseRow}
+use Rattle.p21_model_uses.specs.UseRows.{UseRow}
 use Rattle.p21_model.specs.Uses.{IsUse, AreUsesIn, place_used, uses_at, uses_by}
 use Rattle.p21_model.specs.declared.attributes.Attribute.{Attribute}
 use Rattle.p21_model.specs.declared.attributes.Attributes.{Attributes}

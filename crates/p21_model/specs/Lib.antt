@@ -5,5 +5,4 @@ pub mod Found
 pub mod Told
 pub mod Kept
 pub mod EntitiesLeft
-pub mod UseRows
 pub mod Uses

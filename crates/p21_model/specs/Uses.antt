@@ -5,7 +5,7 @@ use Rattle.p21_express_graph.specs.Meaning.{place as place_of}
 use Rattle.p21_model.specs.Kept.{IsKeptLine}
 use Rattle.p21_model.specs.Rows.{Row}
 use Rattle.p21_model.specs.Told.{AreTold}
-use Rattle.p21_model.specs.UseRows.{UseRow}
+use Rattle.p21_model_uses.specs.UseRows.{UseRow}
 use Rattle.p21_model.specs.declared.users.Use.{Use}
 use Rattle.p21_spec_exchange.specs.Parameter.{Param}
 use Rattle.p21_spec_exchange.specs.Record.{Record}

@@ -13,8 +13,7 @@
 //! `Entities` hands out the entity set in the same way, keyword by keyword (`specs/EntitiesLeft`, `proofs/EntitySets`).
 //!
 //! `Users` turns the references round. `IsUse` (`specs/Uses`) says what a use of a name is; `proofs/UseNames` and
-//! `proofs/UsesFound` follow the walk that finds all, value by value and instance by instance, `proofs/UseOrder` shows that they
-//! stand in order, each once, and `proofs/UseRanges` that those of one name stand in one range.
+//! `proofs/UsesFound` follow the walk that finds all, value by value and instance by instance, and `p21_model_uses` keeps them.
 #![tactic(auto)]
 
 mod attributes;
@@ -30,5 +29,6 @@ pub use attributes::{Attribute, Attributes};
 pub use entities::Entities;
 pub use instance::Instance;
 pub use model::AcceptedModel;
+pub use p21_model_uses::UsersFault;
 pub use p21_model_values::{Characters, Digits, Elements, Kind, References, Value};
 pub use users::{Use, Users, UsersOf};

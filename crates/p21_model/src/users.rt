@@ -1,16 +1,15 @@
 //! Which instances refer to an instance.
 //!
 //! The references of an accepted file are found once, by a walk over its lines, and stand in a table by the name that is
-//! used: no line knows who refers to it. Each stands there once, however often its attribute has the name, since who asks
-//! wants to know which attributes lead to an instance. The table is sorted in place, and takes 24 bytes a reference: a name
-//! and an attribute have 64 bits each, so that no file is too large for it. Nothing in it changes, so threads read it side by
-//! side.
-ghost use Rattle.std.specs.Prelude.{◌≡◌, ◌≤◌, ◌-◌, ◌++◌, ◌↔◌, List, Contains, IfOk, drop, filter, length, nat_eq, take};
+//! used (`p21_model_uses`): no line knows who refers to it. Each stands there once, however often its attribute has the name,
+//! since who asks wants to know which attributes lead to an instance. Nothing in the table changes, so threads read it side by
+//! side. While it is made a reference takes 24 bytes more.
+ghost use Rattle.std.specs.Prelude.{◌≡◌, ◌++◌, List, IfOk, filter, length, nat_eq};
 ghost use Rattle.p21_express_graph.specs.Meaning.{place as place_of};
 ghost use Rattle.p21_model.specs.Kept.{AreStated, HaveOneLine};
 ghost use Rattle.p21_model.specs.Rows.{AreRowsOf, Row};
-ghost use Rattle.p21_model.specs.UseRows.{AreInOrder, UseRow as MeantRow};
 ghost use Rattle.p21_model.specs.Uses.{AreUsesIn, HandsOutUse, uses_at, uses_by};
+ghost use Rattle.p21_model_uses.specs.UseRows.{AreInOrder, UseRow as MeantRow};
 ghost use Rattle.p21_model_values.specs.Written.{IsTextOf};
 ghost use Rattle.p21_spec_exchange.specs.Parameter.{Param};
 ghost use Rattle.p21_spec_exchange.specs.Record.{Record};
@@ -20,6 +19,7 @@ use crate::attributes::Attribute;
 use crate::instance::Instance;
 use crate::model::AcceptedModel;
 use p21_express_graph::{EntityId, Place};
+use p21_model_uses::{UseTable, UsersFault, UsesLeft};
 use p21_values::{Name, NoMemory};
 use std::alloc::Global;
 use std::marker::Model;
@@ -37,35 +37,33 @@ type UseRow = (u64, u64, u32, u32);
 /// The references of an accepted file by the names that are used.
 #[derive(Drop)]
 pub struct Users {
-    rows: Vec<UseRow>,
+    table: UseTable,
 }
 
 impl Model for Users {
     ghost use Rattle.std.specs.Prelude.{List};
-    ghost use Rattle.p21_model.specs.UseRows.{AreInOrder, UseRow};
+    ghost use Rattle.p21_model_uses.specs.UseRows.{UseRow};
 
     ghost Value = { List UseRow };
 
-    ghost view = { λ a. a.rows.items };
-
-    ghost invariant = { λ a. AreInOrder a.rows.items };
+    ghost view = { λ a. a.table };
 }
 
 impl Users {
-    /// The references of an accepted file: a walk over all its values, and a sort. It takes no memory but for the table.
+    /// The references of an accepted file: a walk over all its values, and a sort. A reference takes 8 bytes, an instance that
+    /// is used 16 and one that uses others 8.
     ///
     /// # Errors
     ///
-    /// `NoMemory`.
-    pub fn new(alloc: Global, model: AcceptedModel<'_>) -> Result<Users, NoMemory>
+    /// `NoMemory`; `TooMany`, where there are more than a number of 32 bits counts.
+    pub fn new(alloc: Global, model: AcceptedModel<'_>) -> Result<Users, UsersFault>
         ensures uses { IfOk result (λ users. AreStated model.entry.schema.now model.entry.accepted.now.kept →
             HaveOneLine model.entry.accepted.now.kept → AreUsesIn model.entry.schema.now model.entry.accepted.now.kept users) }
         ensures order { IfOk result (λ users. AreInOrder users) }
     {
         let rows = all_uses(alloc, model)?;
-        Ok(Users {
-            rows: in_order(rows),
-        })
+        let table = UseTable::new(alloc, rows)?;
+        Ok(Users { table })
     }
 
     /// The instances that refer to the instance of this name, by rising names, each as often as it has an attribute that does;
@@ -73,9 +71,8 @@ impl Users {
     pub fn of(&self, name: Name) -> UsersOf<'_>
         ensures { result ≡ filter (λ (u : MeantRow). nat_eq u.0 name) self.now }
     {
-        let (start, end) = range_of(&self.rows, name.0);
         UsersOf {
-            rest: &self.rows[start..end],
+            rest: self.table.of(number_of(name)),
         }
     }
 }
@@ -83,16 +80,16 @@ impl Users {
 /// The instances that refer to one, of which some have been handed out.
 #[derive(Drop)]
 pub struct UsersOf<'a> {
-    rest: &'a [UseRow],
+    rest: UsesLeft<'a>,
 }
 
 impl<'a> Model for UsersOf<'a> {
     ghost use Rattle.std.specs.Prelude.{List};
-    ghost use Rattle.p21_model.specs.UseRows.{UseRow};
+    ghost use Rattle.p21_model_uses.specs.UseRows.{UseRow};
 
     ghost Value = { List UseRow };
 
-    ghost view = { λ a. a.rest.now };
+    ghost view = { λ a. a.rest };
 }
 
 impl<'a> UsersOf<'a> {
@@ -107,15 +104,14 @@ impl<'a> UsersOf<'a> {
     pub fn next(&mut self) -> Option<Use>
         ensures { HandsOutUse self.old result self.new }
     {
-        let Some((row, rest)) = self.rest.split_first() else {
+        let Some((user, entity, index)) = self.rest.next() else {
             return None;
         };
-        self.rest = rest;
         Some(Use {
-            user: Name(row.1),
+            user: Name(user),
             place: Place {
-                entity: EntityId(row.2),
-                index: row.3,
+                entity: EntityId(entity),
+                index,
             },
         })
     }
@@ -182,27 +178,4 @@ fn number_of(name: Name) -> u64
     ensures { result ≡ name }
 {
     name.0
-}
-
-/// Where the uses of a name begin and end.
-fn range_of(rows: &[UseRow], name: u64) -> (usize, usize)
-    requires { AreInOrder rows.now }
-    ensures rises { result.0 ≤ result.1 }
-    ensures within { result.1 ≤ length rows.now }
-    ensures range { take (result.1 - result.0) (drop result.0 rows.now) ≡ filter (λ (u : MeantRow). nat_eq u.0 name) rows.now }
-{
-    let start = rows.partition_point(|row| row.0 < name);
-    let end = rows.partition_point(|row| row.0 <= name);
-    (start, end)
-}
-
-/// The uses in their order, each once.
-fn in_order(rows: Vec<UseRow>) -> Vec<UseRow>
-    ensures order { AreInOrder result.items }
-    ensures members { (u : MeantRow) → Contains result.items u ↔ Contains rows.items u }
-{
-    let mut ordered = rows;
-    ordered.sort_unstable();
-    ordered.dedup();
-    ordered
 }

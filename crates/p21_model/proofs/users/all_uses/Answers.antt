@@ -1,6 +1,6 @@
 use Rattle.std.proofs.Common.{ℕ, List, refl, sym, subst}
 use Rattle.p21_model.proofs.UsesFound.{HaveUsesBelow, all-uses, instance-uses, last-uses, no-uses}
-use Rattle.p21_model.specs.UseRows.{UseRow}
+use Rattle.p21_model_uses.specs.UseRows.{UseRow}
 use Rattle.p21_model.proofs.users.all_uses.Goals as goal
 
 pub loop-instance-init : goal.loop-instance-init

@@ -1,6 +1,6 @@
 use Rattle.std.proofs.lemmas.List.Filters.{dedup_is}
-use Rattle.p21_model.proofs.UseOrder.{sorted-members, sorted-order, use_eq}
-use Rattle.p21_model.proofs.users.in_order.Goals as goal
+use Rattle.p21_model_uses.proofs.UseOrder.{sorted-members, sorted-order, use_eq}
+use Rattle.p21_model_uses.proofs.rows.in_order.Goals as goal
 
 pub returns-clause-order : goal.returns-clause-order
 returns-clause-order c = sorted-order _ _ c.sort_unstable.ensures.sorted (dedup_is use_eq _ _ c.dedup.ensures.filtered)

@@ -12,7 +12,7 @@ use Rattle.std.proofs.lemmas.List.Elements.{Contains-get_or}
 use Rattle.std.proofs.lemmas.List.Kept.{Contains-dedup, Contains-from_dedup, IsStrictlySortedBy-dedup}
 use Rattle.std.proofs.lemmas.List.Sorted.{Contains-permutation, IsPermutation-sym}
 use Rattle.p21_spec_basics.proofs.Members.{Each-member}
-use Rattle.p21_model.specs.UseRows.{AreInOrder, UseRow, use_cmp}
+use Rattle.p21_model_uses.specs.UseRows.{AreInOrder, UseRow, use_cmp}
 
 use_total : IsTotalOrder use_cmp
 use_total =

@@ -1,0 +1,3 @@
+pub mod UseOrder
+pub mod Grouped
+pub mod Named

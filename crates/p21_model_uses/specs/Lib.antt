@@ -1,0 +1,2 @@
+pub mod UseRows
+pub mod Tables

@@ -1,0 +1,29 @@
+//! Why a table isn't made.
+
+use p21_values::NoMemory;
+use std::alloc::{AllocError, AllocFailed};
+
+/// There is no memory; or there are more references than a number of 32 bits counts.
+#[derive(Clone, Copy, Debug, PartialEq, Eq)]
+pub enum UsersFault {
+    NoMemory,
+    TooMany,
+}
+
+impl From<NoMemory> for UsersFault {
+    fn from(_: NoMemory) -> UsersFault {
+        UsersFault::NoMemory
+    }
+}
+
+impl From<AllocError> for UsersFault {
+    fn from(_: AllocError) -> UsersFault {
+        UsersFault::NoMemory
+    }
+}
+
+impl<T: Drop> From<AllocFailed<T>> for UsersFault {
+    fn from(_: AllocFailed<T>) -> UsersFault {
+        UsersFault::NoMemory
+    }
+}
