@@ -12,7 +12,7 @@ use Rattle.p21_spec_schema.specs.Declared.{Declares, HasNoCircle, HasSupertype, 
 use Rattle.p21_spec_schema.specs.SchemaDeclaration.{SchemaDeclaration, entities_of, types_of}
 use Rattle.p21_spec_schema.specs.Supertype.{supertypes_of}
 use Rattle.p21_spec_schema.specs.WellFormed.{AreEntities}
-use Rattle.p21_express.specs.ReadSchema.{AreOfText, DeclareNoSchema, OutlineChecked, SchemaRead}
+use Rattle.p21_express.specs.ReadSchema.{AreOfText, DeclareNoSchema, OutlineChecked, PartsChecked, SchemaRead}
 use Rattle.p21_express_outline.specs.Chains.{AreTypes}
 use Rattle.p21_express_lexemes.specs.declared.fault.SyntaxFault.{SyntaxFault}
 use Rattle.p21_express_lexemes.specs.declared.fault.SyntaxFault.TheVariants as syntax
@@ -177,9 +177,14 @@ pub outline-refused : (k : SchemaDigest) (fault : SchemaFault) (result : Result 
 outline-refused k fault (Ok parts) is_err is refused = cc
 outline-refused k fault (Err found) is_err is refused = λ other s by. refused (λ e. other (is ∙ e)) s by.outline
 
-pub test-refused : (k : SchemaDigest) (claim : Type 0) (fault : SchemaFault) (result : Result SchemaContents SchemaFault) → IsErr result → IsErrAnd result (λ found. found ≡ fault) → ((s : Schema) → DeclaredBy k s → claim) → RefusalShows fault (claim → ⊥) → OutlineChecked k result
-test-refused k claim fault (Ok parts) is_err is so refused = cc
-test-refused k claim fault (Err found) is_err is so refused = λ other s by. refused (λ e. other (is ∙ e)) (so s by)
+pub test-refused : (k : SchemaDigest) (parts : SchemaContents) (claim : Type 0) (fault : SchemaFault) (result : Result (Unit {0}) SchemaFault) → IsErr result → IsErrAnd result (λ found. found ≡ fault) → ((s : Schema) → DeclaredBy k s → claim) → RefusalShows fault (claim → ⊥)
+    → PartsChecked k parts result
+test-refused k parts claim fault (Ok _) is_err is so refused = cc
+test-refused k parts claim fault (Err found) is_err is so refused = λ other s by. refused (λ e. other (is ∙ e)) (so s by)
+
+pub parts-refused : (k : SchemaDigest) (parts : SchemaContents) (fault : SchemaFault) (result : Result SchemaContents SchemaFault) → IsErr result → IsErrAnd result (λ found. found ≡ fault) → PartsChecked k parts (Err fault) → OutlineChecked k result
+parts-refused k parts fault (Ok other) is_err is refused = cc
+parts-refused k parts fault (Err found) is_err is refused = λ other s by. refused (λ e. other (is ∙ e)) s by
 
 -- ---- texts
 

@@ -36,6 +36,11 @@ abbrev pub OutlineChecked : SchemaDigest → Result SchemaContents SchemaFault �
 OutlineChecked k (Ok parts) = IsBareSchema k (schema_of parts) × AreNamed parts
 OutlineChecked k (Err fault) = RefusalShows fault (DeclareNoSchema k)
 
+-- these parts are those of such a schema, or none is declared
+abbrev pub PartsChecked : SchemaDigest → SchemaContents → Result (Unit {0}) SchemaFault → Type 0
+PartsChecked k parts (Ok _) = OutlineChecked k (Ok parts)
+PartsChecked k parts (Err fault) = OutlineChecked k (Err fault)
+
 -- such a schema, or none is declared
 abbrev pub BareRead : SchemaDigest → Result Schema SchemaFault → Type 0
 BareRead k (Ok s) = IsBareSchema k s

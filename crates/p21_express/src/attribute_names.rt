@@ -38,12 +38,12 @@ impl AttributeNames {
         ensures { IfOk result (AreNamesOf schema.now) }
     {
         schema.holds_together();
-        let owners = NamedOwners::of(alloc, schema, declared)?;
         let mut of_each = Vec::with_capacity(alloc, schema.entities())?;
         for number in 0..schema.entities() {
             let names = many_names(alloc, schema, EntityId(number as u32))?;
             of_each.push(names)?;
         }
+        let owners = NamedOwners::of(alloc, schema, declared)?;
         Ok(AttributeNames { of_each, owners })
     }
 

@@ -25,6 +25,16 @@ fn own_names(alloc: Global, entity: &Entity) -> Result<Option<Names>, NoMemory> 
     Names::of(alloc, &names)
 }
 
+/// The same of each entity.
+fn all_own_names(alloc: Global, entities: &[Entity]) -> Result<Vec<Option<Names>>, NoMemory> {
+    let mut of_each = Vec::with_capacity(alloc, entities.len())?;
+    for entity in entities {
+        let entity: &Entity = entity;
+        of_each.push(own_names(alloc, entity)?)?;
+    }
+    Ok(of_each)
+}
+
 /// The attributes of all entities, where none of these stands twice.
 fn own_attributes(
     alloc: Global,
@@ -33,11 +43,7 @@ fn own_attributes(
     let Some(entities) = entity_names(alloc, &declarations.entities)? else {
         return Ok(None);
     };
-    let mut of_each = Vec::with_capacity(alloc, declarations.entities.len())?;
-    for entity in &declarations.entities {
-        let entity: &Entity = entity;
-        of_each.push(own_names(alloc, entity)?)?;
-    }
+    let of_each = all_own_names(alloc, &declarations.entities)?;
     Ok(Some(Attributes { entities, of_each }))
 }
 

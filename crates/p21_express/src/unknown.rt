@@ -136,6 +136,23 @@ impl Declared {
             Body::Underlying(data_type) => self.has_type(data_type) && !self.is_entity(data_type),
         }
     }
+
+    /// Whether all is declared that entities and types name, and no type is just the name of an entity.
+    fn has_all_names_of(&self, declarations: &Declarations) -> bool {
+        for entity in &declarations.entities {
+            let entity: &Entity = entity;
+            if !self.has_names_of(entity) {
+                return false;
+            }
+        }
+        for defined in &declarations.types {
+            let defined: &DefinedType = defined;
+            if !self.has_body(&defined.body) {
+                return false;
+            }
+        }
+        true
+    }
 }
 
 /// Whether a name isn't declared, or not as what it must be, in declarations where none stands twice.
@@ -146,17 +163,5 @@ pub(crate) fn has_unknown_name(
     let Some(declared) = all_declared(alloc, declarations)? else {
         return Ok(false);
     };
-    for entity in &declarations.entities {
-        let entity: &Entity = entity;
-        if !declared.has_names_of(entity) {
-            return Ok(true);
-        }
-    }
-    for defined in &declarations.types {
-        let defined: &DefinedType = defined;
-        if !declared.has_body(&defined.body) {
-            return Ok(true);
-        }
-    }
-    Ok(false)
+    Ok(!declared.has_all_names_of(declarations))
 }

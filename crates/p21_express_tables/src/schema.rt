@@ -17,14 +17,11 @@ ghost use Rattle.p21_express_graph.specs.Resolved.{HoldsTogether, IsEntity, IsTy
 ghost use Rattle.p21_express_graph.specs.SchemaContents.{schema_of, AreNamed, entity as entity_of, attribute as attribute_of, defined as defined_of};
 ghost use Rattle.p21_express_graph.specs.Redeclaring.{redeclaring, redeclaring_schema};
 
-use crate::one_of::all_listed_in;
 use crate::redeclarers::all_redeclared;
-use crate::rising::all_rising_sets;
-use crate::tables::Tables;
+use crate::tables::{Tables, tables_of};
 use p21_express_graph::{
     Attribute, Defined, Entity, EntityId, Member, Place, Redeclarations, SchemaContents, TypeId,
-    TypeKind, all_above, all_ends, all_offered, all_orders, contents_with, indexes_of, is_among,
-    rank_entities,
+    TypeKind, contents_with, is_among,
 };
 use p21_values::NoMemory;
 use std::alloc::Global;
@@ -99,27 +96,7 @@ impl Schema {
         requires holds_together { HoldsTogether (schema_of parts) }
         ensures { IfOk result (λ schema. schema ≡ schema_of parts) }
     {
-        let orders = all_orders(alloc, &parts)?;
-        let above = all_above(alloc, &parts, &orders)?;
-        let indexes = indexes_of(alloc, parts.entities.len(), &orders.runs, &above)?;
-        let offered = all_offered(alloc, &parts)?;
-        let listed_in = all_listed_in(alloc, &parts)?;
-        let ends = all_ends(alloc, &parts)?;
-        let redeclared = all_redeclared(alloc, &parts)?;
-        let ranking = rank_entities(alloc, &parts)?;
-        let rising_sets = all_rising_sets(alloc, &parts, &orders, &ranking)?;
-        let tables = Tables {
-            orders,
-            above,
-            indexes,
-            offered,
-            listed_in,
-            ends,
-            redeclared,
-            own_clashes: Vec::new(alloc),
-            ranking,
-            rising_sets,
-        };
+        let tables = tables_of(alloc, &parts)?;
         Ok(Schema {
             alloc,
             parts,

@@ -9,6 +9,7 @@ use p21_grammar::{
 };
 use spelled::{put, spell_event};
 use std::alloc::Global;
+use std::process::Abort;
 
 /// The statements up to the end of the header, as every file here begins.
 const HEAD: &str =
@@ -176,4 +177,14 @@ fn begins_with_semicolon(alloc: Global) -> bool {
 #[test]
 fn begins_alone(rt: HostRuntime) {
     assert!(rt; begins_with_semicolon(rt.alloc()));
+}
+
+/// Fails where a row is wrong, which this names.
+fn passes(rt: &impl Abort, wrong: &str) {
+    assert_eq!(*rt; wrong, "none");
+}
+
+/// Fails where the row at this place is wrong.
+fn passes_at(rt: &impl Abort, wrong: Option<usize>) {
+    assert_eq!(*rt; wrong, None);
 }

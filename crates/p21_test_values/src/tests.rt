@@ -10,6 +10,7 @@ mod whole;
 mod word;
 
 use p21_values::{Canonical, ValueFault};
+use std::process::Abort;
 
 /// The canonical spelling by itself: nothing where there is no value.
 fn spelled<T: Canonical + Drop>(rt: &HostRuntime, value: Result<T, ValueFault>) -> Vec<u8> {
@@ -66,8 +67,10 @@ type Spellings = &'static [(&'static str, &'static str)];
 /// Pairs of texts, and whether they mean the same.
 type Pairs = &'static [(&'static str, &'static str, bool)];
 
-/// A pair of texts that doesn't mean what its row says: none where all do.
-type Unlike = Option<(&'static str, &'static str)>;
-
 /// Texts with their refusals.
 type Refusals = &'static [(&'static str, ValueFault)];
+
+/// Fails where a row is wrong, which this names.
+fn passes(rt: &impl Abort, wrong: &str) {
+    assert_eq!(*rt; wrong, "none");
+}

@@ -8,7 +8,7 @@ use Rattle.p21_spec_basics.specs.Limits.{text_limit}
 use Rattle.p21_spec_exchange.specs.Pending.{Tail, nothing, unfinished, slash, open_comment, tail_bytes, tail_size, LaidUpTo}
 use Rattle.p21_spec_exchange.specs.Token.{Token, IsScalarToken, Spells, IsSpelled}
 use Rattle.p21_tokens_automaton.proofs.Theorems.{one-laying}
-use Rattle.p21_tokens.specs.Finding.{FindsScalar, FindsOnlyScalar}
+use Rattle.p21_tokens.specs.Finding.{FindsScalar, FindsOnlyScalar, IsFoundScalar, PendingBytes}
 use Rattle.p21_spec_exchange.specs.Spelling.{spelling}
 use Rattle.p21_spec_exchange.proofs.CanonicalSpellings.{spells-itself}
 use Rattle.p21_tokens_automaton.proofs.Spellings.{same-spelling}
@@ -21,23 +21,6 @@ use Rattle.p21_tokens.specs.Token.{meant, meant_all, waits}
 use Rattle.p21_tokens.specs.declared.fault.TokenFault.{TokenFault}
 use Rattle.p21_tokens.specs.declared.fault.TokenFault.TheVariants as fault
 use Rattle.p21_tokens.specs.declared.token.Token.{Token as TokenRead}
-
-abbrev pub IsFoundScalar : Option TokenRead → Type 0
-IsFoundScalar None = Unit {0}
-IsFoundScalar (Some token) = IsScalarToken (meant token)
-
--- the lexer has taken what stands in front of the rest of the text, and has given what was found
-pub record PendingBytes (v : Held) (bytes rest : List ℕ) (found : Option TokenRead) : Type 0 where
-  pub history : TokenHistory
-  pub stands : Stands v history
-  pub alive : history.refusal ≡ None
-  pub all_is : history.taken ++ rest ≡ bytes
-  pub given_is : history.given ≡ meant_all found
-  pub goes : BeginsWithSeen history.seen rest
-  pub scalar : IsFoundScalar found
-  pub within : length bytes ≤ text_limit
-  pub statement_limit : v.statement_limit ≡ 2 ^ 29
-  pub file_limit : v.file_limit ≡ 2 ^ 36
 
 offered : (seen : Option ℕ) (rest : List ℕ) → BeginsWithSeen seen rest → IsOfferedFirst seen rest
 offered None rest g = tt
@@ -232,7 +215,7 @@ finds-refused v w bytes rest found x k g = at x (g k.history k.stands (offered k
 -- ---- the end of the text
 
 module _ (v : Held) (bytes rest : List ℕ) (found : Option TokenRead) (k : PendingBytes v bytes rest found) (none : length rest ≡ 0) where
-  empty-rest : rest ≡ []
+  pub empty-rest : rest ≡ []
   empty-rest = nil rest none
     where
       nil : (xs : List ℕ) → length xs ≡ 0 → xs ≡ []

@@ -1,9 +1,9 @@
 //! The lexer reads a single parameter too, so that `p21 param` and whole files can't disagree about a scalar. A second
 //! token is refused when it is known, before the rest of the text is read.
-ghost use Rattle.std.specs.Prelude.{◌≡◌, ◌≤◌, ◌↔◌, ◌++◌, ◌∷◌, [], length, IsTrue, OnOk, IfOk, MatchResult};
+ghost use Rattle.std.specs.Prelude.{◌≡◌, ◌<◌, ◌≤◌, ◌↔◌, ◌++◌, ◌∷◌, ℕ, List, [], length, slice_range, Err, IsTrue, None, OnOk, IfOk, MatchResult};
 ghost use Rattle.p21_spec_basics.specs.Limits.{text_limit};
 ghost use Rattle.p21_spec_exchange.specs.Token.{IsScalarToken};
-ghost use Rattle.p21_tokens.specs.Finding.{FindsScalar, FindsOnlyScalar};
+ghost use Rattle.p21_tokens.specs.Finding.{FindsOnlyScalar, FindsScalar, PendingBytes, left_over};
 ghost use Rattle.p21_tokens.specs.Parameter.{IsAnswer, IsRefusal};
 ghost use Rattle.p21_tokens.specs.Token.{meant};
 
@@ -45,29 +45,60 @@ fn one_scalar(alloc: Global, text: &[u8]) -> Result<Token, TokenFault>
     ensures { FindsScalar text.now result }
 {
     let mut lexer = Lexer::new(alloc, Limits::usual());
-    let mut found = None;
-    let mut rest = text;
-    while !rest.is_empty() {
-        match lexer.next(rest) {
-            Err(fault) => return Err(fault),
-            Ok((taken, None)) => rest = &rest[taken..],
-            Ok((taken, Some(token))) => {
-                if found.is_some() {
-                    return Err(TokenFault::NotOneParameter);
-                }
-                if !is_scalar(&token) {
-                    return Err(TokenFault::NotOneParameter);
-                }
-                rest = &rest[taken..];
-                found = Some(token);
-            }
-        }
-    }
+    let found = match given_scalar(&mut lexer, text) {
+        Ok(found) => found,
+        Err(fault) => return Err(fault),
+    };
     let last = match lexer.finish() {
         Ok(last) => last,
         Err(fault) => return Err(fault),
     };
     only_scalar(found, last)
+}
+
+/// Takes the bytes of a text, and hands out the token that is given before they end, if one is.
+// Lexer, tokens and their search stand in three functions, so that the proof has few values to give back at each way out.
+fn given_scalar(lexer: &mut Lexer, text: &[u8]) -> Result<Option<Token>, TokenFault>
+    requires { PendingBytes lexer.now text.now text.now None }
+    ensures { MatchResult result (λ found. PendingBytes lexer.new text.now [] found) (λ fault. FindsScalar text.now (Err fault)) }
+{
+    let mut found = None;
+    let mut rest = text;
+    while !rest.is_empty() {
+        match take_scalar(lexer, rest, &mut found) {
+            Ok(taken) => rest = &rest[taken..],
+            Err(fault) => return Err(fault),
+        }
+    }
+    Ok(found)
+}
+
+/// Takes bytes up to the end of one token or of all, and says how many. A token has to be a scalar, and the first.
+fn take_scalar(
+    lexer: &mut Lexer,
+    rest: &[u8],
+    found: &mut Option<Token>,
+) -> Result<usize, TokenFault>
+    requires { 0 < length rest.now }
+    ensures within { IfOk result (λ taken. taken ≤ length rest.now) }
+    ensures smaller { IfOk result (λ taken. left_over (slice_range rest.now taken (length rest.now)) found.new < left_over rest.now found.old) }
+    ensures pending { (bytes : List ℕ) → PendingBytes lexer.old bytes rest.now found.old →
+        MatchResult result (λ taken. PendingBytes lexer.new bytes (slice_range rest.now taken (length rest.now)) found.new) (λ fault. FindsScalar bytes (Err fault)) }
+{
+    match lexer.next(rest) {
+        Err(fault) => Err(fault),
+        Ok((taken, None)) => Ok(taken),
+        Ok((taken, Some(token))) => {
+            if found.is_some() {
+                return Err(TokenFault::NotOneParameter);
+            }
+            if !is_scalar(&token) {
+                return Err(TokenFault::NotOneParameter);
+            }
+            *found = Some(token);
+            Ok(taken)
+        }
+    }
 }
 
 /// The one of two tokens that is there, if it is a scalar.

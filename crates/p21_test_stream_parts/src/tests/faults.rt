@@ -1,4 +1,5 @@
 //! Faults, and where they are named.
+use super::passes;
 use super::refusals::SAID;
 use p21_express_lexemes::SyntaxFault;
 use p21_express_outline::SchemaFault;
@@ -120,11 +121,6 @@ fn first_told_otherwise(alloc: Global) -> &'static str {
     "none"
 }
 
-#[test]
-fn has_numbers_names_and_sentences(rt: HostRuntime) {
-    assert_eq!(rt; first_told_otherwise(rt.alloc()), "none");
-}
-
 /// A fault of a layer below.
 #[derive(Clone, Copy)]
 enum Below {
@@ -179,11 +175,6 @@ fn first_lifted_otherwise() -> &'static str {
     "none"
 }
 
-#[test]
-fn knows_one_want_of_memory(rt: HostRuntime) {
-    assert_eq!(rt; first_lifted_otherwise(), "none");
-}
-
 /// Faults, each with whether it names the instance, or else the statement.
 const PLACED: &[(Fault, bool)] = &[
     (Fault::Check(CheckFault::NumberRange), true),
@@ -211,11 +202,6 @@ fn first_misplaced() -> &'static str {
         }
     }
     "none"
-}
-
-#[test]
-fn names_instances_for_faults_of_instances(rt: HostRuntime) {
-    assert_eq!(rt; first_misplaced(), "none");
 }
 
 /// Faults, each with whether the number is that of an instance, or else of a statement, and what the refusal prints.
@@ -249,6 +235,9 @@ fn first_printed_otherwise(alloc: Global) -> &'static str {
 }
 
 #[test]
-fn prints_refusals(rt: HostRuntime) {
-    assert_eq!(rt; first_printed_otherwise(rt.alloc()), "none");
+fn has_numbers_names_and_sentences(rt: HostRuntime) {
+    passes(&rt, first_told_otherwise(rt.alloc()));
+    passes(&rt, first_lifted_otherwise());
+    passes(&rt, first_misplaced());
+    passes(&rt, first_printed_otherwise(rt.alloc()));
 }

@@ -1,7 +1,8 @@
-//! A statement reader that is taken back, behind a statement that is passed over.
+//! A statement reader that is taken back, behind a statement that is passed over; and which bytes are those of an open one.
 use super::front::{BEGUN, statements};
+use super::passes_at;
 use p21_grammar::Limits;
-use p21_stream_statements::StatementReader;
+use p21_stream_statements::{StatementReader, is_open};
 use std::alloc::Global;
 
 /// Bytes behind a header and `DATA;`, with what their reading comes to: how many statements end, or the number of the fault that ends
@@ -73,5 +74,30 @@ fn first_wrong(alloc: Global) -> Option<usize> {
 
 #[test]
 fn goes_on_where_it_is_reopened(rt: HostRuntime) {
-    assert_eq!(rt; first_wrong(rt.alloc()), None);
+    passes_at(&rt, first_wrong(rt.alloc()));
+}
+
+/// Bytes, and whether they are those of a statement that hasn't ended.
+const OPEN: &[(&[u8], bool)] = &[
+    (b"", true),
+    (b" /* ;", true),
+    (b"#1=K(1.5,'a;", true),
+    (b"#1=K(1.5,'a;')", true),
+    (b"#1=K(1.5);", false),
+    (b"#1=K(1.5); #2", false),
+    (b"#1=k", false),
+];
+
+fn first_opened_otherwise(alloc: Global) -> Option<usize> {
+    for (row, (bytes, is_so)) in OPEN.iter().enumerate() {
+        if is_open(alloc, Limits::usual(), bytes) != Ok(*is_so) {
+            return Some(row);
+        }
+    }
+    None
+}
+
+#[test]
+fn says_what_is_open(rt: HostRuntime) {
+    assert_eq!(rt; first_opened_otherwise(rt.alloc()), None);
 }

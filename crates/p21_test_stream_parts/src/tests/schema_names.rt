@@ -1,4 +1,5 @@
 //! Which texts name a schema, and how long the lines of sections are.
+use super::{passes, passes_at};
 use p21_grammar::Line;
 use p21_stream_kept::{line_size, names_schema};
 
@@ -24,11 +25,6 @@ fn first_named_otherwise() -> Option<usize> {
     None
 }
 
-#[test]
-fn knows_texts_that_name_a_schema(rt: HostRuntime) {
-    assert_eq!(rt; first_named_otherwise(), None);
-}
-
 const SIZES: &[(&str, Line, u64)] = &[
     ("ISO-10303-21;", Line::Begin, 13),
     ("DATA;", Line::DataStart, 5),
@@ -45,6 +41,7 @@ fn first_of_other_size() -> &'static str {
 }
 
 #[test]
-fn knows_sizes_of_section_lines(rt: HostRuntime) {
-    assert_eq!(rt; first_of_other_size(), "none");
+fn knows_schemas_and_sizes_of_lines(rt: HostRuntime) {
+    passes_at(&rt, first_named_otherwise());
+    passes(&rt, first_of_other_size());
 }

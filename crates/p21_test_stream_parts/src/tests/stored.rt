@@ -1,6 +1,7 @@
 //! Instances that are stored.
 use p21_stream_store::{Instances, Numbers};
 use std::alloc::{AllocError, Global};
+use std::process::Abort;
 
 /// A name, the number of a membership, and the text: a letter so many times.
 type Kept = (u64, usize, (u8, usize));
@@ -139,27 +140,22 @@ fn wrong(alloc: Global, store: Store) -> Option<(&'static str, u64)> {
     wrong_of(alloc, &mut instances, store)
 }
 
+/// Fails where something is wrong with the store of this name.
+fn check(rt: &impl Abort, alloc: Global, name: &str, store: Store) {
+    assert_eq!(*rt; wrong(alloc, store), None, "{name}");
+}
+
 const NOTHING: Store = Store {
     rows: &[],
     others: &[0],
     order: &[],
 };
 
-#[test]
-fn keeps_nothing_at_first(rt: HostRuntime) {
-    assert_eq!(rt; wrong(rt.alloc(), NOTHING), None);
-}
-
 const WITH_KINDS: Store = Store {
     rows: &[(1, 7, (b'a', 7)), (2, 3, (b'b', 0)), (3, 7, (b'c', 7))],
     others: &[0, 4],
     order: &[1, 2, 3],
 };
-
-#[test]
-fn keeps_texts_with_their_kinds(rt: HostRuntime) {
-    assert_eq!(rt; wrong(rt.alloc(), WITH_KINDS), None);
-}
 
 const LONG: Store = Store {
     rows: &[
@@ -172,11 +168,6 @@ const LONG: Store = Store {
     others: &[],
     order: &[1, 2, 3, 4, 5],
 };
-
-#[test]
-fn keeps_long_texts(rt: HostRuntime) {
-    assert_eq!(rt; wrong(rt.alloc(), LONG), None);
-}
 
 const IN_ANY_ORDER: Store = Store {
     rows: &[
@@ -193,6 +184,9 @@ const IN_ANY_ORDER: Store = Store {
 };
 
 #[test]
-fn keeps_instances_that_come_in_any_order(rt: HostRuntime) {
-    assert_eq!(rt; wrong(rt.alloc(), IN_ANY_ORDER), None);
+fn keeps_instances(rt: HostRuntime) {
+    check(&rt, rt.alloc(), "nothing", NOTHING);
+    check(&rt, rt.alloc(), "texts with their kinds", WITH_KINDS);
+    check(&rt, rt.alloc(), "long texts", LONG);
+    check(&rt, rt.alloc(), "instances in any order", IN_ANY_ORDER);
 }

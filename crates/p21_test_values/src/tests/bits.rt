@@ -1,83 +1,76 @@
-use super::{are_equal, is_spelled};
+use super::{Pairs, are_equal, is_spelled, passes};
 use p21_values::{Bits, ValueFault};
 
 /// Tokens, and how many bits they have.
-type Tokens = &'static [(&'static [u8], u128)];
+type Tokens = &'static [(&'static str, u128)];
 
 const TOKENS: Tokens = &[
-    (b"\"23B\"", 6),
-    (b"\"0\"", 0),
-    (b"\"30\"", 1),
-    (b"\"31\"", 1),
-    (b"\"0A\"", 4),
-    (b"\"17F\"", 7),
+    ("\"23B\"", 6),
+    ("\"0\"", 0),
+    ("\"30\"", 1),
+    ("\"31\"", 1),
+    ("\"0A\"", 4),
+    ("\"17F\"", 7),
     // of as many bytes as lie in place, and of more
-    (b"\"00123456789ABCDEF0123\"", 80),
-    (b"\"00123456789ABCDEF01234\"", 84),
-    (b"\"00123456789ABCDEF012345\"", 88),
-    (b"\"00123456789ABCDEF0123456789ABCDEF0\"", 132),
+    ("\"00123456789ABCDEF0123\"", 80),
+    ("\"00123456789ABCDEF01234\"", 84),
+    ("\"00123456789ABCDEF012345\"", 88),
+    ("\"00123456789ABCDEF0123456789ABCDEF0\"", 132),
 ];
 
-fn count(rt: &HostRuntime, token: &[u8]) -> Option<u128> {
-    match Bits::read(rt.alloc(), token) {
+fn read(rt: &HostRuntime, token: &str) -> Result<Bits, ValueFault> {
+    Bits::read(rt.alloc(), token.as_bytes())
+}
+
+fn count(rt: &HostRuntime, token: &str) -> Option<u128> {
+    match read(rt, token) {
         Ok(bits) => Some(bits.len()),
         Err(_) => None,
     }
 }
 
 /// The first token that has not so many bits, or another spelling.
-fn first_wrong(rt: &HostRuntime, tokens: Tokens) -> &'static [u8] {
+fn first_wrong(rt: &HostRuntime, tokens: Tokens) -> &'static str {
     for (token, bits) in tokens {
-        if count(rt, token) != Some(*bits)
-            || !is_spelled(rt, Bits::read(rt.alloc(), token), token)
-        {
+        if count(rt, token) != Some(*bits) || !is_spelled(rt, read(rt, token), token.as_bytes()) {
             return token;
         }
     }
-    b"none"
+    "none"
 }
 
-#[test]
-fn reads_and_spells_bits(rt: HostRuntime) {
-    assert_eq!(rt; first_wrong(&rt, TOKENS), b"none".as_slice());
-}
-
-const OTHERS: &[&[u8]] = &[
-    b"\"33B\"", b"\"1\"", b"\"18\"", b"\"40\"", b"\"23b\"", b"\"23B", b"23B\"", b"\"\"", b"\"", b"",
+const OTHERS: &[&str] = &[
+    "\"33B\"", "\"1\"", "\"18\"", "\"40\"", "\"23b\"", "\"23B", "23B\"", "\"\"", "\"", "",
 ];
 
-fn first_taken(rt: &HostRuntime, tokens: &'static [&'static [u8]]) -> &'static [u8] {
+fn first_taken(rt: &HostRuntime, tokens: &'static [&'static str]) -> &'static str {
     for token in tokens {
-        if Bits::read(rt.alloc(), token).err() != Some(ValueFault::BadBinary) {
+        if read(rt, token).err() != Some(ValueFault::BadBinary) {
             return token;
         }
     }
-    b"none"
+    "none"
 }
 
-#[test]
-fn refuses_other_spellings(rt: HostRuntime) {
-    assert_eq!(rt; first_taken(&rt, OTHERS), b"none".as_slice());
-}
-
-type TokenPairs = &'static [(&'static [u8], &'static [u8], bool)];
-
-const PAIRS: TokenPairs = &[
-    (b"\"30\"", b"\"30\"", true),
-    (b"\"30\"", b"\"31\"", false),
-    (b"\"30\"", b"\"20\"", false),
+const PAIRS: Pairs = &[
+    ("\"30\"", "\"30\"", true),
+    ("\"30\"", "\"31\"", false),
+    ("\"30\"", "\"20\"", false),
 ];
 
-fn first_unlike(rt: &HostRuntime, pairs: TokenPairs) -> &'static [u8] {
+/// The second token of the first pair that doesn't mean what its row says.
+fn first_unlike(rt: &HostRuntime, pairs: Pairs) -> &'static str {
     for (one, other, equal) in pairs {
-        if are_equal(Bits::read(rt.alloc(), one), Bits::read(rt.alloc(), other)) != Some(*equal) {
+        if are_equal(read(rt, one), read(rt, other)) != Some(*equal) {
             return other;
         }
     }
-    b"none"
+    "none"
 }
 
 #[test]
-fn compares_bits(rt: HostRuntime) {
-    assert_eq!(rt; first_unlike(&rt, PAIRS), b"none".as_slice());
+fn reads_refuses_and_compares(rt: HostRuntime) {
+    passes(&rt, first_wrong(&rt, TOKENS));
+    passes(&rt, first_taken(&rt, OTHERS));
+    passes(&rt, first_unlike(&rt, PAIRS));
 }

@@ -1,4 +1,4 @@
-use super::{Pairs, Refusals, Spellings, Unlike, are_equal, is_spelled};
+use super::{Pairs, Refusals, Spellings, are_equal, is_spelled, passes};
 use p21_values::{Decimal, ValueFault, Whole};
 
 fn read(rt: &HostRuntime, text: &str) -> Result<Decimal, ValueFault> {
@@ -65,11 +65,6 @@ fn first_wrong(rt: &HostRuntime, rows: Spellings) -> &'static str {
     "none"
 }
 
-#[test]
-fn reads_and_spells(rt: HostRuntime) {
-    assert_eq!(rt; first_wrong(&rt, ROWS), "none");
-}
-
 const REFUSED: Refusals = &[
     ("1", ValueFault::BadNumber),
     ("", ValueFault::BadNumber),
@@ -98,11 +93,6 @@ fn first_taken(rt: &HostRuntime, rows: Refusals) -> &'static str {
         }
     }
     "none"
-}
-
-#[test]
-fn refuses(rt: HostRuntime) {
-    assert_eq!(rt; first_taken(&rt, REFUSED), "none");
 }
 
 const PAIRS: Pairs = &[
@@ -138,18 +128,14 @@ const PAIRS: Pairs = &[
     ),
 ];
 
-fn first_unlike(rt: &HostRuntime, pairs: Pairs) -> Unlike {
+/// The second text of the first pair that doesn't mean what its row says.
+fn first_unlike(rt: &HostRuntime, pairs: Pairs) -> &'static str {
     for (one, other, equal) in pairs {
         if are_equal(read(rt, one), read(rt, other)) != Some(*equal) {
-            return Some((one, other));
+            return other;
         }
     }
-    None
-}
-
-#[test]
-fn compares(rt: HostRuntime) {
-    assert_eq!(rt; first_unlike(&rt, PAIRS), None);
+    "none"
 }
 
 fn of_whole(rt: &HostRuntime, whole: Result<Whole, ValueFault>) -> Result<Decimal, ValueFault> {
@@ -178,11 +164,17 @@ fn first_of_another_ratio(rt: &HostRuntime, rows: Spellings) -> &'static str {
     "none"
 }
 
+/// Whether the greatest power of ten in range keeps its ratio, and the next one is refused.
+fn keeps_to_the_range(rt: &HostRuntime) -> bool {
+    is_spelled(rt, of_whole(rt, power_of_ten(rt, 10000)), b"1.E9999")
+        && of_whole(rt, power_of_ten(rt, 10001)).err() == Some(ValueFault::NumberRange)
+}
+
 #[test]
-fn keeps_the_ratio_of_a_whole_number(rt: HostRuntime) {
-    assert_eq!(rt; first_of_another_ratio(&rt, WHOLES), "none");
-    let greatest = of_whole(&rt, power_of_ten(&rt, 10000));
-    assert!(rt; is_spelled(&rt, greatest, b"1.E9999"));
-    let above = of_whole(&rt, power_of_ten(&rt, 10001)).err();
-    assert_eq!(rt; above, Some(ValueFault::NumberRange));
+fn reads_refuses_and_compares(rt: HostRuntime) {
+    passes(&rt, first_wrong(&rt, ROWS));
+    passes(&rt, first_taken(&rt, REFUSED));
+    passes(&rt, first_unlike(&rt, PAIRS));
+    passes(&rt, first_of_another_ratio(&rt, WHOLES));
+    assert!(rt; keeps_to_the_range(&rt));
 }

@@ -1,4 +1,4 @@
-use super::spelled;
+use super::{passes, spelled};
 use p21_values::{Number, read_number};
 
 /// How many bytes the number at the front has, and its canonical spelling: none where there is none, or no memory.
@@ -49,11 +49,6 @@ fn first_wrong(rt: &HostRuntime, rows: Fronts) -> &'static str {
     "none"
 }
 
-#[test]
-fn reads_the_front(rt: HostRuntime) {
-    assert_eq!(rt; first_wrong(&rt, ROWS), "none");
-}
-
 /// How many bytes are a number at the front of a 1 with zeros behind it, so many digits in all, and a point: none for want of
 /// memory.
 fn front_of_digits(rt: &HostRuntime, digits: usize) -> Option<usize> {
@@ -68,7 +63,8 @@ fn front_of_digits(rt: &HostRuntime, digits: usize) -> Option<usize> {
 }
 
 #[test]
-fn reads_a_front_in_range(rt: HostRuntime) {
-    assert_eq!(rt; front_of_digits(&rt, 10_000), Some(10_001));
-    assert_eq!(rt; front_of_digits(&rt, 10_001), Some(0));
+fn reads_the_front(rt: HostRuntime) {
+    passes(&rt, first_wrong(&rt, ROWS));
+    assert!(rt; front_of_digits(&rt, 10_000) == Some(10_001));
+    assert!(rt; front_of_digits(&rt, 10_001) == Some(0));
 }

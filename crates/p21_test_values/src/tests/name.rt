@@ -1,20 +1,21 @@
 ghost use Rattle.std.specs.Prelude.{◌≡◌, IsTrue};
 ghost use Rattle.p21_values.specs.p21_spec_exchange.Spelling.{name_spelling};
 
+use super::{Refusals, passes};
 use p21_values::{Canonical, Name, ValueFault};
 use std::alloc::Global;
 
-type Names = &'static [(&'static [u8], u64, &'static [u8])];
+type Names = &'static [(&'static str, u64, &'static str)];
 
 const NAMES: Names = &[
-    (b"#007", 7, b"#7"),
-    (b"#0", 0, b"#0"),
-    (b"#00", 0, b"#0"),
-    (b"#120", 120, b"#120"),
+    ("#007", 7, "#7"),
+    ("#0", 0, "#0"),
+    ("#00", 0, "#0"),
+    ("#120", 120, "#120"),
     (
-        b"#018446744073709551615",
+        "#018446744073709551615",
         18_446_744_073_709_551_615,
-        b"#18446744073709551615",
+        "#18446744073709551615",
     ),
 ];
 
@@ -26,43 +27,39 @@ fn is_spelling(alloc: Global, number: u64, text: &[u8]) -> bool
     Name(number).write_canonical(&mut out).is_ok() && out.as_slice() == text
 }
 
-fn first_wrong(alloc: Global, names: Names) -> &'static [u8] {
+fn first_wrong(alloc: Global, names: Names) -> &'static str {
     for (text, number, spelling) in names {
-        if Name::read(text) != Ok(Name(*number)) || !is_spelling(alloc, *number, spelling) {
+        if Name::read(text.as_bytes()) != Ok(Name(*number))
+            || !is_spelling(alloc, *number, spelling.as_bytes())
+        {
             return text;
         }
     }
-    b"none"
+    "none"
 }
 
-#[test]
-fn reads_and_spells_names(rt: HostRuntime) {
-    assert_eq!(rt; first_wrong(rt.alloc(), NAMES), b"none".as_slice());
-}
-
-type Refused = &'static [(&'static [u8], ValueFault)];
-
-const REFUSED: Refused = &[
-    (b"#18446744073709551616", ValueFault::NameRange),
-    (b"#99999999999999999999999999", ValueFault::NameRange),
-    (b"#18446744073709551616X", ValueFault::BadName),
-    (b"#", ValueFault::BadName),
-    (b"", ValueFault::BadName),
-    (b"7", ValueFault::BadName),
-    (b"#-7", ValueFault::BadName),
-    (b"#7 ", ValueFault::BadName),
+const REFUSED: Refusals = &[
+    ("#18446744073709551616", ValueFault::NameRange),
+    ("#99999999999999999999999999", ValueFault::NameRange),
+    ("#18446744073709551616X", ValueFault::BadName),
+    ("#", ValueFault::BadName),
+    ("", ValueFault::BadName),
+    ("7", ValueFault::BadName),
+    ("#-7", ValueFault::BadName),
+    ("#7 ", ValueFault::BadName),
 ];
 
-fn first_taken(names: Refused) -> &'static [u8] {
+fn first_taken(names: Refusals) -> &'static str {
     for (text, fault) in names {
-        if Name::read(text) != Err(*fault) {
+        if Name::read(text.as_bytes()) != Err(*fault) {
             return text;
         }
     }
-    b"none"
+    "none"
 }
 
 #[test]
-fn refuses_names(rt: HostRuntime) {
-    assert_eq!(rt; first_taken(REFUSED), b"none".as_slice());
+fn reads_spells_and_refuses(rt: HostRuntime) {
+    passes(&rt, first_wrong(rt.alloc(), NAMES));
+    passes(&rt, first_taken(REFUSED));
 }

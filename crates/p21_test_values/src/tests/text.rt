@@ -1,4 +1,4 @@
-use super::{Pairs, Spellings, Unlike, appended, are_equal, is_spelled};
+use super::{Pairs, Spellings, appended, are_equal, is_spelled, passes};
 use p21_values::{NoMemory, Text, ValueFault};
 
 fn text(rt: &HostRuntime, characters: &str) -> Result<Text, NoMemory> {
@@ -41,22 +41,6 @@ fn first_wrong(rt: &HostRuntime, rows: Spellings) -> &'static str {
     "none"
 }
 
-#[test]
-fn spells(rt: HostRuntime) {
-    assert_eq!(rt; first_wrong(&rt, ROWS), "none");
-}
-
-#[test]
-fn appends(rt: HostRuntime) {
-    let out = appended(&rt, b"(", read(&rt, "a"));
-    assert_eq!(rt; out.as_slice(), b"('a'".as_slice());
-}
-
-#[test]
-fn begins_with_no_character(rt: HostRuntime) {
-    assert_eq!(rt; Text::new(rt.alloc()).len(), 0);
-}
-
 /// Whether a text, with nothing and then with characters and bytes added, has these characters.
 fn has_characters(
     word: Result<Text, NoMemory>,
@@ -77,18 +61,26 @@ fn has_characters(
     word.len() == characters.len() && word.chars() == characters
 }
 
-/// Characters, what is added to them by each call, and the characters that then stand there.
-type Added = &'static [(&'static str, &'static str, &'static [u8], &'static [char])];
+/// By its name: characters, what is added to them by each call, and the characters that then stand there.
+type Added = &'static [(
+    &'static str,
+    &'static str,
+    &'static str,
+    &'static [u8],
+    &'static [char],
+)];
 
 const ADDED: Added = &[
-    ("é'", "", b"", &['é', '\'']),
+    ("nothing", "é'", "", b"", &['é', '\'']),
     (
+        "characters",
         "\u{20AC}",
         "a\u{E9}\u{1F600}",
         b"",
         &['\u{20AC}', 'a', '\u{E9}', '\u{1F600}'],
     ),
     (
+        "bytes",
         "\u{20AC}",
         "",
         b"a ~\xE9",
@@ -96,33 +88,34 @@ const ADDED: Added = &[
     ),
 ];
 
-/// The place of the first row with other characters.
-fn first_otherwise_added(rt: &HostRuntime, rows: Added) -> Option<usize> {
-    for (place, (before, added, latin1, characters)) in rows.iter().enumerate() {
+/// By its name: the first row with other characters.
+fn first_otherwise_added(rt: &HostRuntime, rows: Added) -> &'static str {
+    for (name, before, added, latin1, characters) in rows {
         if !has_characters(text(rt, before), added, latin1, characters) {
-            return Some(place);
+            return name;
         }
     }
-    None
-}
-
-#[test]
-fn adds(rt: HostRuntime) {
-    assert_eq!(rt; first_otherwise_added(&rt, ADDED), None);
+    "none"
 }
 
 const PAIRS: Pairs = &[("é'", "é'", true), ("é'", "é\"", false), ("é", "é'", false)];
 
-fn first_unlike(rt: &HostRuntime, pairs: Pairs) -> Unlike {
+/// The second text of the first pair that doesn't mean what its row says.
+fn first_unlike(rt: &HostRuntime, pairs: Pairs) -> &'static str {
     for (one, other, equal) in pairs {
         if are_equal(read(rt, one), read(rt, other)) != Some(*equal) {
-            return Some((one, other));
+            return other;
         }
     }
-    None
+    "none"
 }
 
 #[test]
-fn compares(rt: HostRuntime) {
-    assert_eq!(rt; first_unlike(&rt, PAIRS), None);
+fn spells_adds_and_compares(rt: HostRuntime) {
+    passes(&rt, first_wrong(&rt, ROWS));
+    passes(&rt, first_otherwise_added(&rt, ADDED));
+    passes(&rt, first_unlike(&rt, PAIRS));
+    let out = appended(&rt, b"(", read(&rt, "a"));
+    assert!(rt; out.as_slice() == b"('a'".as_slice());
+    assert!(rt; Text::new(rt.alloc()).len() == 0);
 }

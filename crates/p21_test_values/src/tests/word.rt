@@ -1,4 +1,4 @@
-use super::{Pairs, Refusals, Unlike, are_equal, is_spelled};
+use super::{Pairs, Refusals, are_equal, is_spelled, passes};
 use p21_values::{ValueFault, Word};
 
 fn read(rt: &HostRuntime, text: &str) -> Result<Word, ValueFault> {
@@ -62,13 +62,6 @@ fn first_wrong(rt: &HostRuntime, words: &'static [&'static str], behind: &[u8]) 
     "none"
 }
 
-#[test]
-fn reads_and_spells(rt: HostRuntime) {
-    assert_eq!(rt; first_wrong(&rt, WORDS, b""), "none");
-    assert_eq!(rt; first_wrong(&rt, &["AB_1"], b"("), "none");
-    assert_eq!(rt; first_wrong(&rt, WORDS, b"('A',(0.,1.5,2.25));"), "none");
-}
-
 const REFUSED: Refusals = &[
     ("red", ValueFault::BadWord),
     ("", ValueFault::BadWord),
@@ -88,23 +81,23 @@ fn first_taken(rt: &HostRuntime, rows: Refusals) -> &'static str {
     "none"
 }
 
-#[test]
-fn refuses_what_is_no_keyword(rt: HostRuntime) {
-    assert_eq!(rt; first_taken(&rt, REFUSED), "none");
-}
-
 const PAIRS: Pairs = &[("RED", "RED", true), ("RED", "REDS", false)];
 
-fn first_unlike(rt: &HostRuntime, pairs: Pairs) -> Unlike {
+/// The second text of the first pair that doesn't mean what its row says.
+fn first_unlike(rt: &HostRuntime, pairs: Pairs) -> &'static str {
     for (one, other, equal) in pairs {
         if are_equal(read(rt, one), read(rt, other)) != Some(*equal) {
-            return Some((one, other));
+            return other;
         }
     }
-    None
+    "none"
 }
 
 #[test]
-fn compares(rt: HostRuntime) {
-    assert_eq!(rt; first_unlike(&rt, PAIRS), None);
+fn reads_refuses_and_compares(rt: HostRuntime) {
+    passes(&rt, first_wrong(&rt, WORDS, b""));
+    passes(&rt, first_wrong(&rt, &["AB_1"], b"("));
+    passes(&rt, first_wrong(&rt, WORDS, b"('A',(0.,1.5,2.25));"));
+    passes(&rt, first_taken(&rt, REFUSED));
+    passes(&rt, first_unlike(&rt, PAIRS));
 }

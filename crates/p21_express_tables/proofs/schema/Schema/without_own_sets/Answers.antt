@@ -1,47 +1,4 @@
-use Rattle.std.specs.Prelude.{◌≡◌, List, Some, Vec, length, slice_get, Contains}
-use Rattle.std.proofs.Common.{arith, ap, subst}
-use Rattle.std.specs.declared.alloc.Global.{Global}
-use Rattle.p21_express_graph.specs.declared.above.Above.{Above}
-use Rattle.p21_express_graph.specs.declared.number.EntityId.{EntityId}
-use Rattle.p21_express_graph.specs.Indexes.{AreIndexes}
-use Rattle.p21_express_graph.specs.Orders.{number_lists, numbers}
-use Rattle.p21_express_graph.specs.SchemaContents.{entity, schema_of}
-use Rattle.p21_express_graph.specs.SettledOrder.{nexts_of}
-use Rattle.p21_express_graph.proofs.Gatherings.{mapped-length}
-use Rattle.p21_express_tables.proofs.OwnSets.{none-prepared}
 use Rattle.p21_express_tables.proofs.schema.Schema.without_own_sets.Goals as goal
 
-pub indexes_of-requires-clause-below : goal.indexes_of-requires-clause-below
-indexes_of-requires-clause-below c r e among =
-    let P : List (Vec EntityId Global) → Type 0 = λ runs. Contains (nexts_of (number_lists runs) r) e in
-    let below = c.in_ok-orders.ensures.below r e (subst P c.deref.ensures.value among) in
-    omega (arith, below, c.len.ensures, mapped-length entity c.args.parts.entities.items, c.args.parts.entities.ok.0)
-
-pub indexes_of-requires-clause-within : goal.indexes_of-requires-clause-within
-indexes_of-requires-clause-within c k above at =
-    let P : List Above → Type 0 = λ all. slice_get all k ≡ Some above in
-    let has = c.in_ok-above.ensures.each k above (subst P c.deref-2.ensures.value at) in
-    omega (arith, has.within.0, mapped-length (λ x. numbers x.items) c.in_ok-orders.orders.runs.items, ap length c.deref.ensures.value)
-
 pub invariant_of-result : goal.invariant_of-result
-invariant_of-result c = (
-  c.requires.holds_together,
-  c.requires.named,
-  record {
-    prefixes_are = c.in_ok-orders.ensures.prefixes;
-    orders_are = c.in_ok-orders.ensures.orders;
-    above_are = c.in_ok-above.ensures;
-    indexes_are =
-        let P : List (Vec EntityId Global) → Type 0 = λ runs. AreIndexes (number_lists runs) c.deref-2.result.now c.in_ok-indexes.indexes.items in
-        let Q : List Above → Type 0 = λ all. AreIndexes (number_lists c.in_ok-orders.orders.runs.items) all c.in_ok-indexes.indexes.items in
-        subst Q c.deref-2.ensures.value (subst P c.deref.ensures.value c.in_ok-indexes.ensures);
-    listed_are = c.in_ok-listed_in.ensures;
-    redeclared_are = c.in_ok-redeclared.ensures;
-    ends_are = c.in_ok-ends.ensures;
-    entities_offered = c.in_ok-offered.ensures.entities;
-    types_offered = c.in_ok-offered.ensures.types;
-    ranking_is = c.in_ok-ranking.ensures;
-    rising_are = c.in_ok-rising_sets.ensures;
-    clashes_are = none-prepared (schema_of c.args.parts) _ c.new.ensures.items;
-  },
-)
+invariant_of-result c = (c.requires.holds_together, c.requires.named, c.in_ok-tables.ensures)

@@ -1,6 +1,5 @@
-use Rattle.std.proofs.Common.{◌+◌, length, Some, None}
-use Rattle.p21_tokens.proofs.OneScalar.{PendingBytes}
-use Rattle.p21_tokens.proofs.param.one_scalar.Given as goal
+use Rattle.p21_tokens.specs.Finding.{PendingBytes, left_over}
+use Rattle.p21_tokens.proofs.param.given_scalar.Given as goal
 
 -- the lexer has taken what stands in front of the rest
 abbrev pub invariant-loop-rest : goal.invariant-loop-rest
@@ -8,4 +7,4 @@ invariant-loop-rest l = PendingBytes l.lexer l.text l.rest l.found
 
 -- a call takes bytes, or gives the first token
 abbrev pub decreases-loop-rest : goal.decreases-loop-rest
-decreases-loop-rest l = length l.rest + (elim l.found [ None ↦ 1 | Some token ↦ 0 ])
+decreases-loop-rest l = left_over l.rest l.found
