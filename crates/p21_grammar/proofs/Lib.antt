@@ -11,3 +11,6 @@ pub mod Theorems
 pub mod Holding
 pub mod Between
 pub mod Reopening
+pub mod Closing
+pub mod Refused
+pub mod Expected

@@ -1,5 +1,5 @@
 -- A parser that is taken back to where its last statement ended.
-use Rattle.std.proofs.Common.{◌≡◌, ℕ, List, [], ◌∷◌, ◌++◌, Option, Some, None, Ok, Err, refl, ap, sym, ◌∙◌, subst}
+use Rattle.std.proofs.Common.{◌≡◌, ℕ, List, [], ◌∷◌, ◌++◌, Option, Some, None, Ok, refl, ap, sym, ◌∙◌, subst}
 use Rattle.std.proofs.lemmas.List.{append-nil}
 use Rattle.p21_spec_exchange.proofs.Semicolons.{statements-end}
 use Rattle.p21_spec_exchange.specs.OpenNesting.{EndsWithSemicolon}

@@ -6,6 +6,7 @@ use Rattle.p21_grammar_tree.specs.declared.record.Part.{Part}
 use Rattle.p21_grammar_tree.specs.View.{view, views, part_view, part_views}
 use Rattle.p21_grammar_tree.proofs.Views.{view-Dollar, view-Star, view-Whole, view-Real, view-Text, view-Name, view-Item, view-Bits, view-List, view-Tagged}
 use Rattle.p21_spec_exchange.specs.Parameter.{Key}
+use Rattle.p21_grammar.specs.Begins.{count}
 use Rattle.p21_grammar.specs.Machine.{Open, Opening, open_at, open_of, onto, stack_of, push, refuse, close_typed, close_empty}
 use Rattle.p21_grammar.specs.declared.fault.GrammarFault.TheVariants.{Unexpected}
 use Rattle.p21_grammar.specs.declared.stage.Stage.{Stage}
@@ -39,6 +40,14 @@ pub parts-push : (ps : List Part) (p : Part) → part_views (ps ++ p ∷ []) ≡
 parts-push [] p = refl
 parts-push (q ∷ ps) p = ap (λ z. part_view q ∷ z) (parts-push ps p)
 
+pub length-parts : (ps : List Part) → length (part_views ps) ≡ length ps
+length-parts [] = refl
+length-parts (p ∷ ps) = omega (arith, length-parts ps)
+
+pub count-views : (ps : List Param) → count (views ps) ≡ length ps
+count-views [] = refl
+count-views (p ∷ ps) = omega (arith, count-views ps)
+
 -- a typed parameter with more than one parameter; a parenthesis behind a comma
 pub typed-more : (at_stage : Stage) (st : List Open) (k : Key) (all rest : List Param) (p : Param) → all ≡ rest ++ p ∷ [] → 0 < length rest → close_typed at_stage st k (views all) ≡ refuse Unexpected
 typed-more at_stage st k all [] p e some = absurd (omega (arith, some))
@@ -49,4 +58,4 @@ pub empty-more : (at_stage : Stage) (o : Opening) (ps : List Param) (st : List O
 empty-more at_stage o [] st some = absurd (omega (arith, some))
 empty-more at_stage o (p ∷ ps) st some = refl
 
-pub ruleset stacks = (view-Dollar, view-Star, view-Whole, view-Real, view-Text, view-Name, view-Item, view-Bits, view-List, view-Tagged, stack_of-none, stack_of-push, length-stack_of, views-push, parts-push)
+pub ruleset stacks = (view-Dollar, view-Star, view-Whole, view-Real, view-Text, view-Name, view-Item, view-Bits, view-List, view-Tagged, stack_of-none, stack_of-push, length-stack_of, views-push, parts-push, length-parts, count-views)

@@ -14,9 +14,7 @@ held_of parser = record {
 }
 
 -- the machine is where the tokens that are held lead
-pub record IsReachedByPending (parser : Inside) : Type 0 where
+pub record IsReached (parser : Inside) : Type 0 where
   pub ran : run (pending (spot_of parser.machine)) parser.machine.stage idle ≡ Some (run_outcome [] parser.machine.stage (spot_of parser.machine))
-  pub depth_is : parser.depth ≡ depth_of (spot_of parser.machine)
-
-abbrev pub IsReached : Inside → Type 0
-IsReached parser = (parser.refused ≡ None → IsReachedByPending parser) × (parser.depth ≤ 64)
+  pub depth_is : parser.refused ≡ None → parser.depth ≡ depth_of (spot_of parser.machine)
+  pub within : parser.depth ≤ 64

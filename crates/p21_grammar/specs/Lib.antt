@@ -11,6 +11,9 @@ pub mod Histories
 pub mod Inside
 pub mod Between
 pub mod Reopening
+pub mod Kind
+pub mod Expected
+pub mod Begins
 -- What the clauses of its calls cite, for callers who name this crate alone
 pub use Rattle.p21_spec_basics.specs as p21_spec_basics
 pub use Rattle.p21_spec_exchange.specs as p21_spec_exchange

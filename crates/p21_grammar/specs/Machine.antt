@@ -346,3 +346,12 @@ AnswersMove move m (Some event) = (move ≡ emit (statement_of event) m.stage) �
 -- want of memory apart, this is why there is no move
 abbrev pub RefusesMove : Move → GrammarFault → Type 0
 RefusesMove move why = why ≢ fault.NoMemory → move ≡ refuse why
+
+-- a machine that refuses a token as unexpected stands there
+abbrev pub Keeps : GrammarFault → Stage → Spot → Machine → Type 0
+Keeps why at_stage spot m = why ≡ fault.Unexpected → (m.stage ≡ at_stage) × (spot_of m ≡ spot)
+
+-- behind a refusal it stands there, or at the stage where no statement is open
+abbrev pub StandsRefused : GrammarFault → Stage → Machine → Machine → Type 0
+StandsRefused fault.Unexpected at_stage old new = (new.stage ≡ old.stage) × (spot_of new ≡ spot_of old)
+StandsRefused why at_stage old new = (new.stage ≡ at_stage) × (spot_of new ≡ idle)

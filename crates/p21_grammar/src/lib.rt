@@ -22,10 +22,15 @@
 //! `Theorems` and `Holding` give the clauses of `Parser`. `Between` shows that a parser passes over whole instances
 //! without a change: behind one it holds what it held before. `Reopening` shows that a parser that is taken back to its
 //! last statement holds what it held there, which the stage says.
+//!
+//! What could stand in place of a token that is refused is asked of the parser behind the refusal, kind by kind (`could_take`). So the
+//! machine stays where it stood: a step that refuses a token as unexpected puts back what it has moved out, and what is
+//! accepted costs nothing more.
 #![tactic(auto)]
 
 mod event;
 mod fault;
+mod kind;
 mod laws;
 mod machine;
 mod parser;
@@ -34,6 +39,7 @@ mod stage;
 
 pub use event::{Event, Line};
 pub use fault::GrammarFault;
+pub use kind::{KINDS, Kind};
 pub use laws::one_tree;
 pub use p21_grammar_tree::{Key, Param, Params, Part, Parts, Record};
 pub use p21_tokens::{Absent, Lexer, Token, TokenFault};

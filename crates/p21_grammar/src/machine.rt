@@ -4,13 +4,14 @@
 ghost use Rattle.std.specs.Prelude.{◌≡◌, ◌↔◌, IfOk, IfErr, IsTrue, true};
 ghost use Rattle.p21_spec_exchange.specs.Parameter.{key_of};
 ghost use Rattle.p21_grammar.specs.Stage.{is_in_data};
-ghost use Rattle.p21_grammar.specs.Machine.{spot_of, step, idle, depth_of, AnswersMove, RefusesMove};
+ghost use Rattle.p21_grammar.specs.Machine.{spot_of, step, idle, depth_of, AnswersMove, Keeps, RefusesMove, StandsRefused};
 ghost use Rattle.p21_grammar.specs.HeadingShape.{HasHeadingShape};
 ghost use Rattle.p21_grammar_tree.specs.View.{key_view};
 ghost use Rattle.p21_tokens.specs.Token.{meant};
 ghost use Rattle.p21_grammar.specs.declared.stage.Stage.TheVariants.{Start, Ended};
 
 mod between;
+mod expected;
 mod faults;
 mod parameters;
 mod room;
@@ -118,28 +119,42 @@ impl Machine {
     fn other(&mut self, token: Token) -> Result<Option<Event>, GrammarFault>
         ensures ok { IfOk result (λ event. AnswersMove (step self.old.stage (spot_of self.old) (meant token)) self.new event) }
         ensures err { IfErr result (λ why. RefusesMove (step self.old.stage (spot_of self.old) (meant token)) why) }
+        ensures kept { IfErr result (λ why. Keeps why self.old.stage (spot_of self.old) self.new) }
         ensures shaped { IfOk result HasHeadingShape }
     {
         match mem::replace(&mut self.at, At::Idle) {
             At::Idle => self.idle(token)?,
             At::Line(line) => return self.line(line, token),
-            At::Named(name) => self.named(name, token)?,
-            At::Equal(name) => self.equal(name, token)?,
+            At::Named(name) => {
+                self.at = At::Named(name);
+                self.named(name, token)?
+            }
+            At::Equal(name) => {
+                self.at = At::Equal(name);
+                self.equal(name, token)?
+            }
             At::Among(name, parts) => self.among(name, parts, token)?,
             At::Keyed(head, key) => return self.keyed(head, key, token),
-            At::Next => self.next(token)?,
+            At::Next => {
+                self.at = At::Next;
+                self.next(token)?
+            }
             At::Word(key) => self.word(key, token)?,
-            At::Behind => self.behind(token)?,
+            At::Behind => {
+                self.at = At::Behind;
+                self.behind(token)?
+            }
             At::RecordEnd(part) => return self.record_end(part, token),
             At::InstanceEnd(name, body) => return self.instance_end(name, body, token),
         }
         Ok(None)
     }
 
-    /// The next token. It answers a statement with its `;`.
+    /// The next token. It answers a statement with its `;`, and stands where it stood where it refuses the token as unexpected.
     pub fn step(&mut self, token: Token) -> Result<Option<Event>, GrammarFault>
         ensures ok { IfOk result (λ event. AnswersMove (step self.old.stage (spot_of self.old) (meant token)) self.new event) }
         ensures err { IfErr result (λ why. RefusesMove (step self.old.stage (spot_of self.old) (meant token)) why) }
+        ensures kept { IfErr result (λ why. Keeps why self.old.stage (spot_of self.old) self.new) }
         ensures shaped { IfOk result HasHeadingShape }
     {
         match &self.at {
@@ -194,6 +209,22 @@ impl Machine {
         ensures { result ≡ self.now.stage }
     {
         self.stage
+    }
+
+    /// Behind a step that refused a token: as it stands where the token was unexpected, and else at this stage where no statement is open.
+    pub fn stand_refused(&mut self, fault: GrammarFault, stage: Stage)
+        ensures { StandsRefused fault stage self.old self.new }
+    {
+        match fault {
+            GrammarFault::Unexpected => {}
+            GrammarFault::TooDeep => self.reopen(stage),
+            GrammarFault::EndsEarly => self.reopen(stage),
+            GrammarFault::AfterEnd => self.reopen(stage),
+            GrammarFault::LeftOut(_) => self.reopen(stage),
+            GrammarFault::HeaderShape => self.reopen(stage),
+            GrammarFault::SectionShape => self.reopen(stage),
+            GrammarFault::NoMemory => self.reopen(stage),
+        }
     }
 
     /// Stands at a stage where no statement is open.

@@ -1,10 +1,14 @@
-//! A refused parser keeps its depth and its stage, and nothing else: `depth` answers that of the tokens taken, and `reopen` goes on
-//! behind the last statement that was given. At that stage there is one value of a parser between two statements, so a parser that is
+//! A refused parser keeps its depth and its stage: `depth` answers that of the tokens taken, and `reopen` goes on behind the last
+//! statement that was given. Where the token was unexpected it keeps the statement too, so that `could_take` says what could
+//! stand there. At that stage there is one value of a parser between two statements, so a parser that is
 //! taken back to it stands for what it stood for then.
 ghost use Rattle.std.specs.Prelude.{◌≡◌, ◌≤◌, ◌↔◌, IsTrue, true, Some, None, Err, IfErr, IfOk};
 ghost use Rattle.p21_spec_basics.specs.History.{StandsForEmptyHistory};
 ghost use Rattle.p21_spec_exchange.specs.OpenNesting.{IsDepth};
 ghost use Rattle.p21_grammar.specs.Between.{IsBetweenInstances, StandsForMore};
+ghost use Rattle.p21_grammar.specs.Expected.{TakesWhatItCould, could_take};
+ghost use Rattle.p21_grammar.specs.Kind.{kind_of};
+ghost use Rattle.p21_grammar.specs.declared.fault.GrammarFault.TheVariants.{Unexpected};
 ghost use Rattle.p21_grammar.specs.Histories.{GrammarHistory, Stands, TakeGives, FinishGives, HasHeadingForm, RefusalIsKnown, RefusesAgain};
 ghost use Rattle.p21_grammar.specs.Reopening.{HoldsAsBetween, IsBetweenStatements, StaysOrEnds, between_statements};
 ghost use Rattle.p21_grammar.specs.Stage.{is_in_data};
@@ -13,6 +17,7 @@ ghost use Rattle.p21_tokens.specs.Token.{meant};
 
 use crate::event::Event;
 use crate::fault::GrammarFault;
+use crate::kind::Kind;
 use crate::machine::Machine;
 use p21_tokens::Token;
 use std::alloc::Global;
@@ -87,6 +92,8 @@ impl Parser {
         ensures known { RefusalIsKnown self.new }
         ensures within { self.new.depth ≤ 64 }
         ensures stage { StaysOrEnds self.old (meant token) result self.new }
+        ensures could { self.old.refused ≡ None → TakesWhatItCould self.old (meant token) result }
+        ensures kept { IfErr result (λ fault. fault ≡ Unexpected → self.new.pending ≡ self.old.pending) }
     {
         if let Some(fault) = self.refused {
             return Err(fault);
@@ -98,7 +105,7 @@ impl Parser {
                 Ok(event)
             }
             Err(fault) => {
-                self.machine.reopen(stage);
+                self.machine.stand_refused(fault, stage);
                 self.refused = Some(fault);
                 Err(fault)
             }
@@ -131,6 +138,14 @@ impl Parser {
         ensures depth { (history : GrammarHistory) → Stands self.now history → IsDepth history.taken result }
     {
         self.depth
+    }
+
+    /// Whether it could take a token of this kind, or would refuse it for its depth or for the form of the statement that it ends alone.
+    /// Behind a token that was refused as unexpected it says so of one in its place. It takes no memory.
+    pub fn could_take(&self, kind: Kind) -> bool
+        ensures { (token : _) → kind_of token ≡ kind → result ≡ could_take self.now token }
+    {
+        self.machine.could_take(kind)
     }
 
     /// Whether it stands in a data section, with no statement open. Then instances may be passed over, which takes no

@@ -4,12 +4,14 @@
 ghost use Rattle.std.specs.Prelude.{◌≡◌, ℕ};
 ghost use Rattle.p21_spec_exchange.specs.Record.{Record};
 ghost use Rattle.p21_spec_exchange.specs.Statement.{section, header, instance, section_end};
+ghost use Rattle.p21_grammar.specs.Begins.{begins, begins_header_record};
 ghost use Rattle.p21_grammar.specs.Stage.{after, after_heading, is_in_header, is_in_data};
 ghost use Rattle.p21_grammar.specs.Statements.{line_of};
 ghost use Rattle.p21_grammar_tree.specs.View.{part_view};
 
 use crate::event::Line;
 use crate::fault::GrammarFault;
+use crate::kind::{Kind, is_keyword};
 use crate::shape::{is_file_description, is_file_name, is_file_schema, is_further};
 use p21_grammar_tree::Part;
 use p21_tokens::Absent;
@@ -56,6 +58,26 @@ impl Stage {
         ensures { result ≡ is_in_data self }
     {
         matches!(self, Stage::Unnamed | Stage::Named)
+    }
+
+    /// Whether a statement may begin with a token of this kind.
+    pub fn could_begin_with(self, kind: Kind) -> bool
+        ensures { result ≡ begins self kind }
+    {
+        match self {
+            Stage::Start => matches!(kind, Kind::Begin),
+            Stage::Begun => matches!(kind, Kind::HeaderStart),
+            Stage::Description => could_begin_record(kind),
+            Stage::FileName => could_begin_record(kind),
+            Stage::FileSchema => could_begin_record(kind),
+            Stage::Further => could_begin_record(kind),
+            Stage::Headed => matches!(kind, Kind::DataStart),
+            Stage::Unnamed => matches!(kind, Kind::Name | Kind::SectionEnd),
+            Stage::Named => matches!(kind, Kind::Name | Kind::SectionEnd),
+            Stage::BehindUnnamed => matches!(kind, Kind::Finish),
+            Stage::BehindNamed => matches!(kind, Kind::DataStart | Kind::Finish),
+            Stage::Ended => false,
+        }
     }
 
     /// The stage behind a section line, or why no file has it there.
@@ -134,5 +156,15 @@ impl Stage {
             Stage::Unnamed | Stage::Named => Ok(self),
             _ => Err(GrammarFault::Unexpected),
         }
+    }
+}
+
+/// Whether a record of the header may begin with a token of this kind, or its end.
+fn could_begin_record(kind: Kind) -> bool
+    ensures { result ≡ begins_header_record kind }
+{
+    match kind {
+        Kind::UserKeyword => true,
+        kind => is_keyword(kind),
     }
 }

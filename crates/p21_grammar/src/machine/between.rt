@@ -1,6 +1,6 @@
 //! The steps where no statement is open.
 ghost use Rattle.std.specs.Prelude.{IfOk, IfErr};
-ghost use Rattle.p21_grammar.specs.Machine.{at_idle, at_start, at_begun, at_header, at_headed, at_data, at_behind_unnamed, at_behind_named, at_data_keyword, MakesMove, RefusesMove};
+ghost use Rattle.p21_grammar.specs.Machine.{at_idle, at_start, at_begun, at_header, at_headed, at_data, at_behind_unnamed, at_behind_named, at_data_keyword, spot_of, Keeps, MakesMove, RefusesMove};
 ghost use Rattle.p21_tokens.specs.Token.{meant};
 
 use super::faults::{fault_behind_end, other_section_fault};
@@ -19,6 +19,7 @@ impl Machine {
     fn start(&mut self, token: Token) -> Result<(), GrammarFault>
         ensures ok { IfOk result (λ _. MakesMove (at_start self.old.stage (meant token)) self.new) }
         ensures err { IfErr result (λ why. RefusesMove (at_start self.old.stage (meant token)) why) }
+        ensures kept { IfErr result (λ why. Keeps why self.old.stage (spot_of self.old) self.new) }
     {
         match token {
             Token::Begin => {
@@ -33,6 +34,7 @@ impl Machine {
     fn begun(&mut self, token: Token) -> Result<(), GrammarFault>
         ensures ok { IfOk result (λ _. MakesMove (at_begun self.old.stage (meant token)) self.new) }
         ensures err { IfErr result (λ why. RefusesMove (at_begun self.old.stage (meant token)) why) }
+        ensures kept { IfErr result (λ why. Keeps why self.old.stage (spot_of self.old) self.new) }
     {
         match token {
             Token::Keyword(word) => {
@@ -50,6 +52,7 @@ impl Machine {
     fn header(&mut self, token: Token) -> Result<(), GrammarFault>
         ensures ok { IfOk result (λ _. MakesMove (at_header self.old.stage (meant token)) self.new) }
         ensures err { IfErr result (λ why. RefusesMove (at_header self.old.stage (meant token)) why) }
+        ensures kept { IfErr result (λ why. Keeps why self.old.stage (spot_of self.old) self.new) }
     {
         match token {
             Token::Keyword(word) => {
@@ -68,6 +71,7 @@ impl Machine {
     fn data_keyword(&mut self, word: Word) -> Result<(), GrammarFault>
         ensures ok { IfOk result (λ _. MakesMove (at_data_keyword self.old.stage word) self.new) }
         ensures err { IfErr result (λ why. RefusesMove (at_data_keyword self.old.stage word) why) }
+        ensures kept { IfErr result (λ why. Keeps why self.old.stage (spot_of self.old) self.new) }
     {
         if !is_word(&word, b"DATA") {
             return Err(other_section_fault(&word));
@@ -80,6 +84,7 @@ impl Machine {
     fn headed(&mut self, token: Token) -> Result<(), GrammarFault>
         ensures ok { IfOk result (λ _. MakesMove (at_headed self.old.stage (meant token)) self.new) }
         ensures err { IfErr result (λ why. RefusesMove (at_headed self.old.stage (meant token)) why) }
+        ensures kept { IfErr result (λ why. Keeps why self.old.stage (spot_of self.old) self.new) }
     {
         match token {
             Token::Keyword(word) => self.data_keyword(word),
@@ -93,6 +98,7 @@ impl Machine {
     fn data(&mut self, token: Token) -> Result<(), GrammarFault>
         ensures ok { IfOk result (λ _. MakesMove (at_data self.old.stage (meant token)) self.new) }
         ensures err { IfErr result (λ why. RefusesMove (at_data self.old.stage (meant token)) why) }
+        ensures kept { IfErr result (λ why. Keeps why self.old.stage (spot_of self.old) self.new) }
     {
         match token {
             Token::Name(name) => {
@@ -115,6 +121,7 @@ impl Machine {
     fn behind_unnamed(&mut self, token: Token) -> Result<(), GrammarFault>
         ensures ok { IfOk result (λ _. MakesMove (at_behind_unnamed self.old.stage (meant token)) self.new) }
         ensures err { IfErr result (λ why. RefusesMove (at_behind_unnamed self.old.stage (meant token)) why) }
+        ensures kept { IfErr result (λ why. Keeps why self.old.stage (spot_of self.old) self.new) }
     {
         match token {
             Token::Keyword(word) => {
@@ -135,6 +142,7 @@ impl Machine {
     fn behind_named(&mut self, token: Token) -> Result<(), GrammarFault>
         ensures ok { IfOk result (λ _. MakesMove (at_behind_named self.old.stage (meant token)) self.new) }
         ensures err { IfErr result (λ why. RefusesMove (at_behind_named self.old.stage (meant token)) why) }
+        ensures kept { IfErr result (λ why. Keeps why self.old.stage (spot_of self.old) self.new) }
     {
         match token {
             Token::Keyword(word) => self.data_keyword(word),
@@ -151,6 +159,7 @@ impl Machine {
     pub(crate) fn idle(&mut self, token: Token) -> Result<(), GrammarFault>
         ensures ok { IfOk result (λ _. MakesMove (at_idle self.old.stage (meant token)) self.new) }
         ensures err { IfErr result (λ why. RefusesMove (at_idle self.old.stage (meant token)) why) }
+        ensures kept { IfErr result (λ why. Keeps why self.old.stage (spot_of self.old) self.new) }
     {
         match self.stage {
             Stage::Start => self.start(token),

@@ -1,6 +1,6 @@
 //! The steps inside the parameters of a record.
 ghost use Rattle.std.specs.Prelude.{◌≡◌, IfOk, IfErr};
-ghost use Rattle.p21_grammar.specs.Machine.{open_of, opening_of, stack_of, closed_part, put_back, close_typed, spot_of, head_of, enter, close, close_empty, comma, put, at_next, at_behind, at_word, MakesMove, RefusesMove};
+ghost use Rattle.p21_grammar.specs.Machine.{open_of, opening_of, stack_of, closed_part, put_back, close_typed, spot_of, head_of, enter, close, close_empty, comma, put, at_next, at_behind, at_word, word, Keeps, MakesMove, RefusesMove};
 ghost use Rattle.p21_grammar_tree.specs.View.{key_view, part_view, view, views};
 ghost use Rattle.p21_spec_exchange.specs.Token as token;
 ghost use Rattle.p21_tokens.specs.Token.{meant};
@@ -25,6 +25,7 @@ impl Machine {
     fn enter(&mut self, opening: Opening) -> Result<(), GrammarFault>
         ensures ok { IfOk result (λ _. MakesMove (enter self.old.stage (opening_of opening) (open_of self.old.row) (stack_of self.old.frames.items)) self.new) }
         ensures err { IfErr result (λ why. RefusesMove (enter self.old.stage (opening_of opening) (open_of self.old.row) (stack_of self.old.frames.items)) why) }
+        ensures kept { IfErr result (λ why. Keeps why self.old.stage (spot_of self.old) self.new) }
     {
         if self.frames.len() >= NESTING {
             return Err(GrammarFault::TooDeep);
@@ -44,6 +45,7 @@ impl Machine {
     fn put(&mut self, param: Param) -> Result<(), GrammarFault>
         ensures ok { IfOk result (λ _. MakesMove (put self.old.stage (open_of self.old.row) (stack_of self.old.frames.items) (view param)) self.new) }
         ensures err { IfErr result (λ why. RefusesMove (put self.old.stage (open_of self.old.row) (stack_of self.old.frames.items) (view param)) why) }
+        ensures kept { IfErr result (λ why. Keeps why self.old.stage (spot_of self.old) self.new) }
     {
         self.at = At::Behind;
         self.row.params.push(param)?;
@@ -100,7 +102,11 @@ impl Machine {
     fn close(&mut self) -> Result<(), GrammarFault>
         ensures ok { IfOk result (λ _. MakesMove (close self.old.stage (open_of self.old.row) (stack_of self.old.frames.items)) self.new) }
         ensures err { IfErr result (λ why. RefusesMove (close self.old.stage (open_of self.old.row) (stack_of self.old.frames.items)) why) }
+        ensures kept { IfErr result (λ why. Keeps why self.old.stage (spot_of self.old) self.new) }
     {
+        if !self.could_close() {
+            return Err(GrammarFault::Unexpected);
+        }
         let closed = Row {
             opening: Opening::List,
             params: Vec::new(self.alloc),
@@ -124,6 +130,7 @@ impl Machine {
     fn close_empty(&mut self) -> Result<(), GrammarFault>
         ensures ok { IfOk result (λ _. MakesMove (close_empty self.old.stage (open_of self.old.row) (stack_of self.old.frames.items)) self.new) }
         ensures err { IfErr result (λ why. RefusesMove (close_empty self.old.stage (open_of self.old.row) (stack_of self.old.frames.items)) why) }
+        ensures kept { IfErr result (λ why. Keeps why self.old.stage (spot_of self.old) self.new) }
     {
         if !self.row.params.is_empty() {
             return Err(GrammarFault::Unexpected);
@@ -136,6 +143,7 @@ impl Machine {
     fn comma(&mut self) -> Result<(), GrammarFault>
         ensures ok { IfOk result (λ _. MakesMove (comma self.old.stage (open_of self.old.row) (stack_of self.old.frames.items)) self.new) }
         ensures err { IfErr result (λ why. RefusesMove (comma self.old.stage (open_of self.old.row) (stack_of self.old.frames.items)) why) }
+        ensures kept { IfErr result (λ why. Keeps why self.old.stage (spot_of self.old) self.new) }
     {
         if let Opening::Tagged(_) = &self.row.opening {
             return Err(GrammarFault::Unexpected);
@@ -149,6 +157,7 @@ impl Machine {
     fn put_name(&mut self, name: Name) -> Result<(), GrammarFault>
         ensures ok { IfOk result (λ _. MakesMove (at_next self.old.stage (open_of self.old.row) (stack_of self.old.frames.items) (token.name name)) self.new) }
         ensures err { IfErr result (λ why. RefusesMove (at_next self.old.stage (open_of self.old.row) (stack_of self.old.frames.items) (token.name name)) why) }
+        ensures kept { IfErr result (λ why. Keeps why self.old.stage (spot_of self.old) self.new) }
     {
         if self.stage.is_in_header() {
             return Err(GrammarFault::Unexpected);
@@ -160,6 +169,7 @@ impl Machine {
     fn put_user_keyword(&mut self, word: Word) -> Result<(), GrammarFault>
         ensures ok { IfOk result (λ _. MakesMove (at_next self.old.stage (open_of self.old.row) (stack_of self.old.frames.items) (token.user_keyword word)) self.new) }
         ensures err { IfErr result (λ why. RefusesMove (at_next self.old.stage (open_of self.old.row) (stack_of self.old.frames.items) (token.user_keyword word)) why) }
+        ensures kept { IfErr result (λ why. Keeps why self.old.stage (spot_of self.old) self.new) }
     {
         if !self.stage.is_in_header() {
             return Err(GrammarFault::LeftOut(Absent::UserKeyword));
@@ -173,6 +183,7 @@ impl Machine {
     pub(crate) fn next(&mut self, token: Token) -> Result<(), GrammarFault>
         ensures ok { IfOk result (λ _. MakesMove (at_next self.old.stage (open_of self.old.row) (stack_of self.old.frames.items) (meant token)) self.new) }
         ensures err { IfErr result (λ why. RefusesMove (at_next self.old.stage (open_of self.old.row) (stack_of self.old.frames.items) (meant token)) why) }
+        ensures kept { IfErr result (λ why. Keeps why self.old.stage (spot_of self.old) self.new) }
     {
         let param = match token {
             Token::Dollar => Param::Dollar,
@@ -202,6 +213,7 @@ impl Machine {
     pub(crate) fn behind(&mut self, token: Token) -> Result<(), GrammarFault>
         ensures ok { IfOk result (λ _. MakesMove (at_behind self.old.stage (open_of self.old.row) (stack_of self.old.frames.items) (meant token)) self.new) }
         ensures err { IfErr result (λ why. RefusesMove (at_behind self.old.stage (open_of self.old.row) (stack_of self.old.frames.items) (meant token)) why) }
+        ensures kept { IfErr result (λ why. Keeps why self.old.stage (spot_of self.old) self.new) }
     {
         match token {
             Token::Comma => self.comma(),
@@ -214,10 +226,14 @@ impl Machine {
     pub(crate) fn word(&mut self, key: Key, token: Token) -> Result<(), GrammarFault>
         ensures ok { IfOk result (λ _. MakesMove (at_word self.old.stage (key_view key) (open_of self.old.row) (stack_of self.old.frames.items) (meant token)) self.new) }
         ensures err { IfErr result (λ why. RefusesMove (at_word self.old.stage (key_view key) (open_of self.old.row) (stack_of self.old.frames.items) (meant token)) why) }
+        ensures kept { IfErr result (λ why. Keeps why self.old.stage (word (key_view key) (open_of self.old.row) (stack_of self.old.frames.items)) self.new) }
     {
         match token {
             Token::Left => self.enter(Opening::Tagged(key)),
-            token => Err(misplaced_param_fault(self.stage, &token)),
+            token => {
+                self.at = At::Word(key);
+                Err(misplaced_param_fault(self.stage, &token))
+            }
         }
     }
 }

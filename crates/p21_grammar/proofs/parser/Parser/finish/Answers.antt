@@ -16,7 +16,7 @@ returns-then-is_ended-clause-gives c = λ history stands.
 pub returns-clause-gives : goal.returns-clause-gives
 returns-clause-gives c = λ history stands open_. (
   refl,
-  unfinished c.self.inside.machine.stage (spot_of c.self.inside.machine) c.self.inside.depth (c.self.invariant.0 c.in_default.is).ran
+  unfinished c.self.inside.machine.stage (spot_of c.self.inside.machine) c.self.inside.depth c.self.invariant.ran
       (λ ended. let over = c.is_ended.ensures.1 ended in let busy = c.if-is_ended.false in cc) history
       (not_refused c.self.inside.machine.stage (spot_of c.self.inside.machine) c.self.inside.depth c.self.inside.refused c.args.self c.self.view_is c.in_default.is history stands) open_,
 )

@@ -14,9 +14,9 @@ returns-clause-value c =
 pub returns-clause-stands : goal.returns-clause-stands
 returns-clause-stands c =
     open-stands c.self.inside.machine.stage (spot_of c.self.inside.machine) c.self.inside.depth c.self.inside.refused c.args.self.now c.self.view_is
-    c.is_between_instances.result c.if-is_some.ensures c.is_between_instances.ensures (λ none. (c.self.invariant.0 none).depth_is)
+    c.is_between_instances.result c.if-is_some.ensures c.is_between_instances.ensures c.self.invariant.depth_is
 
 pub returns-clause-between : goal.returns-clause-between
 returns-clause-between c =
     open-between c.self.inside.machine.stage (spot_of c.self.inside.machine) c.self.inside.depth c.self.inside.refused c.args.self.now c.self.view_is
-    c.is_between_instances.result c.if-is_some.ensures c.is_between_instances.ensures (λ none. (c.self.invariant.0 none).depth_is)
+    c.is_between_instances.result c.if-is_some.ensures c.is_between_instances.ensures c.self.invariant.depth_is
