@@ -1,12 +1,13 @@
 -- The laws of signposts and of what is read of a file: the first signpost stands at one place; what is read stands in front, and what is
 -- kept of it are whole statements, with which each file begins that begins so; a file of which something is listed isn't accepted.
-use Rattle.std.specs.Prelude.{◌≡◌, ◌≢◌, ◌⊎◌, ℕ, List, [], ◌++◌, Contains, nat_eq}
+use Rattle.std.specs.Prelude.{◌≡◌, ◌≢◌, ◌⊎◌, ◌+◌, ℕ, List, [], ◌∷◌, ◌++◌, Contains, length, nat_eq}
 use Rattle.std.specs.List.{IsDistinct, flat_map, AllByRecursion as Each}
 use Rattle.p21_spec_basics.specs.Digits.{IsByte}
 use Rattle.p21_spec_basics.specs.Limits.{Limits}
 use Rattle.p21_spec_exchange.specs.Laying.{Lexeme, tokens_in}
 use Rattle.p21_spec_exchange.specs.Record.{Record}
-use Rattle.p21_spec_exchange.specs.Statement.{instance, statement_tokens}
+use Rattle.p21_spec_exchange.specs.Separator.{IsSeparatorText}
+use Rattle.p21_spec_exchange.specs.Statement.{Statement, instance, statement_tokens}
 use Rattle.p21_spec_file.specs.Accepted.{IsAccepted}
 use Rattle.p21_spec_file.specs.Meaning.{RecordMeans, Typed}
 use Rattle.p21_spec_file.specs.Reference.{EntitySets}
@@ -15,7 +16,7 @@ use Rattle.p21_spec_schema.specs.Schema.{Schema}
 use Rattle.p21_spec_schema.specs.WellFormed.{IsWellFormed}
 use Rattle.p21_spec_survey.specs.Landmark.{IsFirstSignpost, Signpost}
 use Rattle.p21_spec_survey.specs.Resuming.{GoesBy}
-use Rattle.p21_spec_survey.specs.Survey.{BeginFile, EndsReading, IsRead, IsRefused, Reading, Subject}
+use Rattle.p21_spec_survey.specs.Survey.{AreStatement, BeginFile, EndsReading, IsRead, IsRefused, IsRight, Reading, Subject}
 use Rattle.p21_spec_survey.specs.Whole.{AreWhole}
 
 -- the first signpost stands at one place
@@ -79,3 +80,46 @@ abbrev pub EndedIsNotAccepted : Type 0
 EndedIsNotAccepted = (s : Schema) → IsWellFormed s → (limits : Limits) (file : List ℕ) (read : Reading) (number : ℕ) (subject : Subject)
     → Each IsByte file → IsRead s limits file read
     → EndsReading s limits file read number subject → number ≢ 90 → number ≢ 91 → ¬ IsAccepted s limits file
+
+-- ---- statements one behind the other
+
+-- the bytes of the first statement of some, and those of the others
+pub record IsApart (bytes : List ℕ) (statement : Statement) (others : List Statement) : Type 0 where
+  pub front : List ℕ
+  pub rest : List ℕ
+  pub bytes_are : bytes ≡ front ++ rest
+  pub statement_is : AreStatement front statement
+  pub more : List Lexeme
+  pub whole : AreWhole rest more
+  pub more_are : tokens_in more ≡ flat_map statement_tokens others
+
+-- whole statements have them
+abbrev pub FirstStatementIsApart : Type 0
+FirstStatementIsApart = (bytes : List ℕ) (lexemes : List Lexeme) (statement : Statement) (others : List Statement) → AreWhole bytes lexemes
+    → tokens_in lexemes ≡ flat_map statement_tokens (statement ∷ others) → IsApart bytes statement others
+
+-- behind the statements given each of these is right
+abbrev pub AreRight : Schema → List Statement → List Statement → Type 0
+AreRight s given [] = Unit {0}
+AreRight s given (statement ∷ others) = IsRight s given statement × AreRight s (given ++ statement ∷ []) others
+
+-- a reading goes on by these bytes, separators behind the last `;` apart, and takes these statements
+pub record TakesRight (s : Schema) (limits : Limits) (file : List ℕ) (read : Reading) (bytes : List ℕ) (statements : List Statement) : Type 0 where
+  pub next : Reading
+  pub is_read : IsRead s limits file next
+  pub used : List ℕ
+  pub behind : List ℕ
+  pub bytes_are : bytes ≡ used ++ behind
+  pub separates : IsSeparatorText behind
+  pub bytes_read : next.bytes ≡ read.bytes ++ used
+  pub kept_are : next.kept ≡ read.kept ++ used
+  pub count_is : next.count ≡ read.count + length statements
+  pub given_are : next.given ≡ read.given ++ statements
+  pub taken_are : next.taken ≡ read.taken ++ statements
+  pub listed_are : next.listed ≡ read.listed
+
+-- so it does where whole statements follow, and each is right
+abbrev pub RightStatementsAreTaken : Type 0
+RightStatementsAreTaken = (s : Schema) (limits : Limits) (file : List ℕ) (read : Reading) (bytes rest : List ℕ) (lexemes : List Lexeme) (statements : List Statement)
+    → IsRead s limits file read → file ≡ read.bytes ++ (bytes ++ rest) → AreWhole bytes lexemes → tokens_in lexemes ≡ flat_map statement_tokens statements
+    → BeginFile (read.given ++ statements) → AreRight s read.given statements → TakesRight s limits file read bytes statements

@@ -7,6 +7,7 @@ use Rattle.p21_spec_basics.specs.Limits.{Limits}
 use Rattle.p21_spec_exchange.specs.Laying.{LaidAs, Lexeme, tokens_in}
 use Rattle.p21_spec_exchange.specs.OpenNesting.{EndsWithSemicolon}
 use Rattle.p21_spec_exchange.specs.Separator.{IsSeparatorText}
+use Rattle.p21_spec_exchange.specs.Token.{Token}
 use Rattle.p21_spec_syntax.specs.FileWithin.{BeginsNoFile, IsNoFile}
 
 -- the bytes are laid as these tokens with their sizes, and the last of them is a `;`, or there are none
@@ -71,3 +72,15 @@ StatementsHoldTheSame = (front other bytes : List ℕ) (lexemes : List Lexeme) �
 -- separators behind one
 abbrev pub GapHoldsTheSame : Type 0
 GapHoldsTheSame = (front other gap : List ℕ) → HoldTheSame front other → IsSeparatorText gap → HoldTheSame (front ++ gap) other
+
+-- ---- two fronts of the same bytes
+
+-- the second goes on behind the first by whole statements with these tokens; or by none, and separators stand behind it in the first
+pub data GoesOnBy (front other : List ℕ) (more : List Token) : Type 0 where
+  further_on : (bytes : List ℕ) (lexemes : List Lexeme) → other ≡ front ++ bytes → AreWhole bytes lexemes → tokens_in lexemes ≡ more → GoesOnBy front other more
+  stays_there : (gap : List ℕ) → front ≡ other ++ gap → IsSeparatorText gap → more ≡ [] → GoesOnBy front other more
+
+-- so it is where both are whole statements, and the second has these tokens more
+abbrev pub WholeFrontGoesOn : Type 0
+WholeFrontGoesOn = (front other behind back : List ℕ) (lexemes others : List Lexeme) (more : List Token) → AreWhole front lexemes → AreWhole other others
+    → front ++ behind ≡ other ++ back → tokens_in others ≡ tokens_in lexemes ++ more → EndsWithSemicolon more → GoesOnBy front other more

@@ -1,6 +1,6 @@
 //! The laws of signposts and of what is read of a file, from the definitions alone.
-ghost use Rattle.p21_spec_survey.specs.Laws.{EachIsJudged, EndedIsNotAccepted, FirstSignpostAtOnePlace, GivenAreTaken, GivenBeginFile, GoesByOnePlace, KeptAreWhole, ListedIsNotAccepted, NamesDiffer, ReadIsInFront, UnlistedIsTaken};
-ghost use Rattle.p21_spec_survey.specs.Whole.{BeginsNoneAlike, BeginsNoneWithinAlike, BehindIsLaid, GapHoldsTheSame, GapIsNoToken, JoinedIsLaid, LaidAlike, NoFileAlike, NothingHoldsTheSame, StatementsHoldTheSame};
+ghost use Rattle.p21_spec_survey.specs.Laws.{EachIsJudged, EndedIsNotAccepted, FirstSignpostAtOnePlace, FirstStatementIsApart, GivenAreTaken, GivenBeginFile, GoesByOnePlace, KeptAreWhole, ListedIsNotAccepted, NamesDiffer, ReadIsInFront, RightStatementsAreTaken, UnlistedIsTaken};
+ghost use Rattle.p21_spec_survey.specs.Whole.{BeginsNoneAlike, BeginsNoneWithinAlike, BehindIsLaid, GapHoldsTheSame, GapIsNoToken, JoinedIsLaid, LaidAlike, NoFileAlike, NothingHoldsTheSame, StatementsHoldTheSame, WholeFrontGoesOn};
 
 /// The first signpost in bytes stands at one place, and so does the one by which the reading goes on.
 pub fn signpost_laws()
@@ -47,4 +47,12 @@ pub fn kept_laws()
 pub fn list_laws()
     ensures listed { ListedIsNotAccepted }
     ensures ended { EndedIsNotAccepted }
+{}
+
+/// Of two fronts of the same bytes that are whole statements the second goes on behind the first. The bytes of whole statements are those
+/// of the first one and of the others. So a reading takes statements that are right one behind the other.
+pub fn taking_laws()
+    ensures goes_on { WholeFrontGoesOn }
+    ensures apart { FirstStatementIsApart }
+    ensures taken { RightStatementsAreTaken }
 {}

@@ -4,4 +4,6 @@
 
 mod laws;
 
-pub use laws::{kept_laws, list_laws, reading_laws, same_laws, signpost_laws, whole_laws};
+pub use laws::{
+    kept_laws, list_laws, reading_laws, same_laws, signpost_laws, taking_laws, whole_laws,
+};

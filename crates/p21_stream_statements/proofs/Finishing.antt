@@ -1,18 +1,16 @@
 -- The end of the bytes, by the histories that are stood for.
 use Rattle.std.proofs.Common.{◌≡◌, ◌≢◌, ◌+◌, ℕ, List, [], ◌∷◌, ◌++◌, length, Some, None, Ok, Err, inl, inr, refl, sym, ap, subst, ◌∙◌, length-append, arith}
 use Rattle.std.proofs.lemmas.List.{append-nil}
-use Rattle.p21_spec_basics.specs.Limits.{Limits}
-use Rattle.p21_spec_laws.proofs.Ending.{no-laying_at_end, no-tree}
 use Rattle.p21_spec_exchange.proofs.Semicolons.{statements-end}
 use Rattle.p21_spec_exchange.specs.Laying.{Laid, LaidAs, Lexeme, tokens_in}
 use Rattle.p21_spec_exchange.specs.OpenNesting.{EndsWithSemicolon}
 use Rattle.p21_spec_exchange.specs.Statement.{Statement}
 use Rattle.p21_spec_exchange.specs.Structure.{statements}
 use Rattle.p21_spec_exchange.specs.Token.{Spells, Token, semicolon}
-use Rattle.p21_spec_file.specs.Accepted.{IsAccepted}
+use Rattle.p21_spec_syntax.proofs.NoFiles.{no-tree, unlaid-none}
+use Rattle.p21_spec_syntax.specs.FileWithin.{IsNoFile}
 use Rattle.p21_grammar.specs.Histories as grammar
 use Rattle.p21_grammar.specs.declared.fault.GrammarFault.{GrammarFault}
-use Rattle.p21_spec_schema.specs.Schema.{Schema}
 use Rattle.p21_stream_statements.specs.Fault.{fault_of_grammar, fault_of_token}
 use Rattle.p21_stream_statements.specs.declared.fault.Fault.{Fault}
 use Rattle.p21_stream_statements.specs.declared.fault.Fault.TheVariants.{NoMemory}
@@ -26,7 +24,7 @@ use Rattle.p21_tokens.specs.declared.token.Token.{Token as TokenRead}
 
 -- what the end owes that refuses
 abbrev pub OwesEnd : Held → Fault → Type 0
-OwesEnd held fault = fault ≢ NoMemory → (reading : StatementHistory) → IsLive held reading → reading.seen ≡ None → (s : Schema) (limits : Limits) → ¬ IsAccepted s limits reading.taken
+OwesEnd held fault = fault ≢ NoMemory → (reading : StatementHistory) → IsLive held reading → reading.seen ≡ None → IsNoFile reading.taken
 
 seen-none : (held : Held) (reading : StatementHistory) (live : IsLive held reading) → reading.seen ≡ None → live.history.seen ≡ None
 seen-none held reading live none = live.seen_is ∙ none
@@ -54,8 +52,8 @@ unlaid held token_fault.EndsEarly history other gives stands seen open_ = (gives
 unlaid held (token_fault.LeftOut absent) history other gives stands seen open_ = (gives history stands seen open_).1
 
 pub lexer-refused : (held : Held) (fault : TokenFault) → tokens.FinishGives held.lexer (Err fault) → OwesEnd held (fault_of_token fault)
-lexer-refused held fault gives other reading live seen s limits =
-    no-laying_at_end s limits reading.taken (λ found laid.
+lexer-refused held fault gives other reading live seen =
+    unlaid-none reading.taken (λ found laid.
     unlaid held fault live.history (λ is. other (ap fault_of_token is)) gives live.lexer (seen-none held reading live seen) live.lexer_open found (subst (λ (l : List ℕ). Laid l found) (sym live.taken_are) laid))
 
 -- ---- no last token
@@ -66,9 +64,9 @@ laid-whole held gives reading live seen =
     subst (λ (l : List ℕ). Laid l live.parsing.taken) live.taken_are (subst (λ (ts : List Token). Laid live.history.taken ts) (append-nil live.history.given ∙ sym live.tokens_are) laid)
 
 pub parser-refused : (held : Held) (fault : GrammarFault) → tokens.FinishGives held.lexer (Ok None) → grammar.FinishGives held.parser (Err fault) → OwesEnd held (fault_of_grammar fault)
-parser-refused held fault gives ends other reading live seen s limits =
+parser-refused held fault gives ends other reading live seen =
     let none = (ends live.parsing live.parser live.parser_open).1 in
-    no-tree s limits reading.taken live.parsing.taken (laid-whole held gives reading live seen) (λ structure text is same. none structure text is same)
+    no-tree reading.taken live.parsing.taken (laid-whole held gives reading live seen) (λ structure text is same. none structure text is same)
 
 pub whole : (held : Held) → tokens.FinishGives held.lexer (Ok None) → grammar.FinishGives held.parser (Ok tt) → (reading : StatementHistory) → IsLive held reading → reading.seen ≡ None → AreWholeStatements reading.taken reading.given
 whole held gives ends reading live seen = record {
@@ -118,9 +116,9 @@ not-semicolon held reading live laid = elim live.answered [
 ]
 
 pub last-refused : (held : Held) (token : TokenRead) (fault : Fault) → tokens.FinishGives held.lexer (Ok (Some token)) → OwesEnd held fault
-last-refused held token fault gives other reading live seen s limits =
+last-refused held token fault gives other reading live seen =
     let laid = (gives live.history live.lexer (seen-none held reading live seen)).1 in
-    no-tree s limits reading.taken (live.history.given ++ meant token ∷ []) (subst (λ (l : List ℕ). Laid l (live.history.given ++ meant token ∷ [])) live.taken_are laid) (λ structure text is same.
+    no-tree reading.taken (live.history.given ++ meant token ∷ []) (subst (λ (l : List ℕ). Laid l (live.history.given ++ meant token ∷ [])) live.taken_are laid) (λ structure text is same.
     let ends : EndsWithSemicolon (live.history.given ++ meant token ∷ []) = subst EndsWithSemicolon same (statements-end (statements structure)) in
     let last : meant token ≡ semicolon = last-semicolon live.history.given (meant token) ends in
     not-semicolon held reading live (subst (λ (t : Token). Laid live.history.taken (live.history.given ++ t ∷ [])) last laid))

@@ -1,5 +1,7 @@
 pub mod Sources
 pub mod Seen
+pub mod Pieces
+pub mod Refusing
 pub mod Stepping
 pub mod Finishing
 pub mod Opening
@@ -7,3 +9,7 @@ pub mod Quiet
 pub mod PassedOver
 pub mod Placing
 pub mod Reopening
+pub mod InData
+pub mod OpenTails
+pub mod Begun
+pub mod OpenBytes

@@ -1,19 +1,18 @@
 -- Where a step refuses a byte.
-use Rattle.std.proofs.Common.{◌≡◌, ◌≢◌, ◌<◌, ◌+◌, ℕ, List, ◌++◌, length, take, Ok, Err, refl, sym, ap, subst}
+use Rattle.std.proofs.Common.{◌≡◌, ◌≢◌, ◌+◌, ℕ, List, ◌++◌, take, Err, refl, sym, subst}
 use Rattle.p21_grammar.specs.declared.fault.GrammarFault.{GrammarFault}
 use Rattle.p21_grammar.specs.declared.fault.GrammarFault.TheVariants as grammar_fault
 use Rattle.p21_spec_exchange.specs.Laying.{open_bytes}
-use Rattle.p21_spec_exchange.specs.Pending.{IsPending, tail_size}
-use Rattle.p21_spec_file.specs.Accepted.{IsDead}
+use Rattle.p21_spec_exchange.specs.Pending.{tail_size}
+use Rattle.p21_stream_statements.proofs.Refusing.{begins-dead}
 use Rattle.p21_stream_statements.proofs.Seen.{offered}
-use Rattle.p21_stream_statements.proofs.Stepping.{dead-says}
+use Rattle.p21_stream_statements.proofs.Stepping.{none-says}
 use Rattle.p21_stream_statements.specs.Fault.{fault_of_grammar, fault_of_token}
 use Rattle.p21_stream_statements.specs.Place.{HasPlace, IsOfByte, IsPlaceOf, RefusesByteAt, at_byte, place_of, place_of_token}
 use Rattle.p21_stream_statements.specs.StatementReader.{Held, IsLive, IsSeenAt, StatementHistory, limits_of}
 use Rattle.p21_stream_statements.specs.Source.{IsOfStatement}
 use Rattle.p21_stream_statements.specs.declared.fault.Fault.{Fault}
 use Rattle.p21_stream_statements.specs.declared.fault.Fault.TheVariants as faults
-use Rattle.p21_tokens.specs.Fault.{cause_of, of_memory}
 use Rattle.p21_tokens.specs.Held as tokens_held
 use Rattle.p21_tokens.specs.Histories as tokens
 use Rattle.p21_tokens.specs.declared.fault.TokenFault.{TokenFault}
@@ -21,7 +20,7 @@ use Rattle.p21_tokens.specs.declared.fault.TokenFault.TheVariants as token_fault
 use Rattle.p21_tokens.specs.declared.places.Places.{Places}
 
 module _ (old : Held) (piece : List ℕ) (lexer : tokens_held.Held) where
-  byte-refused : (fault : TokenFault) → (cause_of fault ≡ of_memory → ⊥) → tokens.NextGives old.lexer piece (Err fault) lexer → (reading : StatementHistory) → IsLive old reading → IsSeenAt reading.seen piece 0
+  byte-refused : (fault : TokenFault) → fault ≢ token_fault.NoMemory → tokens.NextGives old.lexer piece (Err fault) lexer → (reading : StatementHistory) → IsLive old reading → IsSeenAt reading.seen piece 0
       → RefusesByteAt (limits_of old) reading.taken piece lexer.file
   byte-refused fault other gives reading live at =
       let offers = offered live.history.seen piece (subst (λ seen. IsSeenAt seen piece 0) (sym live.seen_is) at) in
@@ -32,7 +31,8 @@ module _ (old : Held) (piece : List ℕ) (lexer : tokens_held.Held) where
         place_is = refuses.file_is;
         open_bytes = open_bytes 0 refuses.lexemes + tail_size refuses.tail;
         pending = record { lexemes = refuses.lexemes; tail = refuses.tail; laid = refuses.laid; pending_is = refl };
-        dead = λ s all record_is file_is. dead-says (cause_of fault) old.lexer live.history.taken piece refuses.count refuses.refuses other s all record_is file_is;
+        dead = λ s all record_is file_is. begins-dead (limits_of old) (live.history.taken ++ take (refuses.count + 1) piece) all record_is file_is s (fault_of_token fault)
+            (none-says fault old.lexer live.history.taken piece refuses.count other refuses.refuses);
       })
 
   pub token-placed : (fault : TokenFault) → tokens.NextGives old.lexer piece (Err fault) lexer → (reading : StatementHistory) → IsLive old reading → IsSeenAt reading.seen piece 0 → HasPlace (limits_of old) reading.taken piece (fault_of_token fault) lexer.file

@@ -1,16 +1,14 @@
 -- A lexer with a parser behind it that is taken back to where the open statement began.
-use Rattle.std.proofs.Common.{◌≡◌, ◌+◌, ℕ, List, [], ◌++◌, length, Option, Some, None, Ok, Err, inr, refl, sym, ap, subst, ◌∙◌}
+use Rattle.std.proofs.Common.{◌≡◌, ◌+◌, ℕ, List, [], ◌++◌, Option, Some, None, Ok, inr, refl, sym, ap, subst, ◌∙◌}
 use Rattle.std.proofs.lemmas.List.{append-nil}
 use Rattle.p21_spec_basics.specs.History.{extended, first_refusal}
-use Rattle.p21_spec_exchange.specs.Separator.{IsSeparatorText}
 use Rattle.p21_grammar.specs.Held as grammar_held
-use Rattle.p21_grammar.specs.Histories as grammar
 use Rattle.p21_grammar.specs.Reopening as grammar_reopening
 use Rattle.p21_grammar.specs.Reopening.{HoldsAsBetween, StaysOrEnds, between_statements}
 use Rattle.p21_grammar.specs.declared.event.Event.{Event}
 use Rattle.p21_grammar.specs.declared.stage.Stage.{Stage}
 use Rattle.p21_stream_statements.proofs.Seen.{seen-none}
-use Rattle.p21_stream_statements.specs.Reopening.{BeganAt, GivesReopened, IsBetweenStatements, StaysInStatement, StepBegins, with_gap}
+use Rattle.p21_stream_statements.specs.Reopening.{GivesReopened, IsBetweenStatements, StaysInStatement, StepBegins, with_gap}
 use Rattle.p21_stream_statements.specs.StatementReader.{Held, IsLive, IsSeenAt, StatementHistory, limits_of}
 use Rattle.p21_tokens.proofs.Passing.{resting-history}
 use Rattle.p21_tokens.specs.Held as tokens_held

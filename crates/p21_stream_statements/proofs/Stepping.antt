@@ -3,14 +3,11 @@ use Rattle.std.proofs.Common.{◌≡◌, ◌≢◌, ◌+◌, ◌≤◌, ◌<◌,
 use Rattle.std.proofs.lemmas.List.{append-nil}
 use Rattle.std.specs.List.{flat_map, slice_get}
 use Rattle.p21_spec_basics.specs.History.{empty, extended, first_refusal, looked_at}
-use Rattle.p21_spec_basics.specs.Limits.{Limits}
-use Rattle.p21_spec_laws.proofs.TokenPrefixes.{prefix-taken, long-source, no-front, no-laying}
-use Rattle.p21_spec_laws.proofs.LongStatements.{full-statement}
+use Rattle.p21_spec_laws.proofs.TokenPrefixes.{prefix-taken}
 use Rattle.p21_spec_laws.specs.Taken.{AreTokensTaken, AreStatementsTaken}
 use Rattle.p21_spec_exchange.specs.Statement.{Statement, statement_tokens}
 use Rattle.p21_spec_exchange.specs.Structure.{statements}
 use Rattle.p21_spec_exchange.specs.Token.{Token}
-use Rattle.p21_spec_file.specs.Accepted.{IsDead}
 use Rattle.p21_grammar.proofs.Theorems.{begin_file}
 use Rattle.p21_grammar.specs.Held as grammar_held
 use Rattle.p21_grammar.specs.Histories as grammar
@@ -20,13 +17,14 @@ use Rattle.p21_grammar.specs.declared.event.Event.{Event}
 use Rattle.p21_grammar.specs.declared.fault.GrammarFault.{GrammarFault}
 use Rattle.p21_grammar.specs.declared.fault.GrammarFault.TheVariants as grammar_fault
 use Rattle.p21_grammar.specs.declared.stage.Stage.TheVariants.{Start}
-use Rattle.p21_spec_schema.specs.Schema.{Schema}
+use Rattle.p21_spec_survey.specs.Whole.{BeginsNone, BeginsNoneWithin}
 use Rattle.p21_stream_statements.specs.Fault.{fault_of_grammar, fault_of_token}
 use Rattle.p21_stream_statements.specs.declared.fault.Fault.{Fault}
 use Rattle.p21_stream_statements.specs.declared.fault.Fault.TheVariants.{NoMemory}
 use Rattle.p21_tokens.proofs.Extending.{take-one}
+use Rattle.p21_stream_statements.proofs.Refusing.{full-begins_none, unbegun-begins_none, unlaid-begins_none}
 use Rattle.p21_stream_statements.proofs.Seen.{looked-up_to, offered, seen-behind}
-use Rattle.p21_stream_statements.specs.StatementReader.{TakesOneToken, Held, IsEndedBy, IsLive, IsSeenAt, StatementHistory, RefusesWithin, limits_of, bytes_looked_at, nothing_read}
+use Rattle.p21_stream_statements.specs.StatementReader.{BeginsNoneBy, TakesOneToken, Held, IsEndedBy, IsLive, IsSeenAt, StatementHistory, RefusesWithin, limits_of, bytes_looked_at, nothing_read}
 use Rattle.p21_tokens.specs.Fault.{Cause, of_form, of_end, of_statement, of_file, of_parameter, of_memory, cause_of}
 use Rattle.p21_tokens.specs.Held as tokens_held
 use Rattle.p21_tokens.specs.Held.{file_limit_of, record_limit_of}
@@ -81,25 +79,6 @@ taken-looked held reading live =
 
 -- ---- a refusal of the lexer
 
-lacks-memory : (fault : TokenFault) → fault ≢ token_fault.NoMemory → cause_of fault ≡ of_memory → ⊥
-lacks-memory token_fault.BadByte other is = cc
-lacks-memory token_fault.OpenString other is = cc
-lacks-memory token_fault.OpenComment other is = cc
-lacks-memory token_fault.BadDirective other is = cc
-lacks-memory token_fault.BadCodePoint other is = cc
-lacks-memory token_fault.NotUtf8 other is = cc
-lacks-memory token_fault.BadNumber other is = cc
-lacks-memory token_fault.NumberRange other is = cc
-lacks-memory token_fault.BadBinary other is = cc
-lacks-memory token_fault.NameRange other is = cc
-lacks-memory token_fault.BadName other is = cc
-lacks-memory token_fault.NotOneParameter other is = cc
-lacks-memory token_fault.RecordTooLong other is = cc
-lacks-memory token_fault.FileTooLong other is = cc
-lacks-memory token_fault.EndsEarly other is = cc
-lacks-memory (token_fault.LeftOut absent) other is = cc
-lacks-memory token_fault.NoMemory other is = absurd (other refl)
-
 -- what a refusal of a byte says, by its cause
 abbrev pub SaysOf : Cause → tokens_held.Held → List ℕ → List ℕ → ℕ → Type 0
 SaysOf cause held taken piece count = elim cause [
@@ -111,21 +90,22 @@ SaysOf cause held taken piece count = elim cause [
   | of_memory ↦ Unit {0}
 ]
 
-pub dead-says : (cause : Cause) (held : tokens_held.Held) (taken piece : List ℕ) (count : ℕ) → SaysOf cause held taken piece count → (cause ≡ of_memory → ⊥)
-    → (s : Schema) (all : Limits) → all.record_source ≡ record_limit_of held → all.file_source ≡ file_limit_of held → IsDead s all (taken ++ take (count + 1) piece)
-dead-says of_form held taken piece count says other s all record_is file_is = no-laying s all (taken ++ take (count + 1) piece) (λ more bytes found laid. says more found laid)
-dead-says of_end held taken piece count says other s all record_is file_is = absurd says
-dead-says of_statement held taken piece count (byte, at, full, within) other s all record_is file_is =
-    let long : IsDead s all ((taken ++ take count piece) ++ byte ∷ []) =
-    full-statement s all (taken ++ take count piece) full.lexemes full.tail byte full.laid full.counts (rw record_is full.full) in
-    subst (λ (l : List ℕ). IsDead s all l) (append_assoc taken (take count piece) (byte ∷ []) ∙ ap (λ (l : List ℕ). taken ++ l) (sym (take-one piece count byte at))) long
-dead-says of_file held taken piece count says other s all record_is file_is = long-source s all (taken ++ take (count + 1) piece) (rw file_is says)
-dead-says of_parameter held taken piece count says other s all record_is file_is = absurd says
-dead-says of_memory held taken piece count says other s all record_is file_is = absurd (other refl)
+pub none-says : (fault : TokenFault) (held : tokens_held.Held) (taken piece : List ℕ) (count : ℕ) → fault ≢ token_fault.NoMemory → SaysOf (cause_of fault) held taken piece count
+    → BeginsNoneBy (fault_of_token fault) (record_limit_of held, file_limit_of held) (taken ++ take (count + 1) piece)
+none-says token_fault.NoMemory held taken piece count other says = absurd (other refl)
+none-says token_fault.OpenString held taken piece count other says = absurd says
+none-says token_fault.OpenComment held taken piece count other says = absurd says
+none-says token_fault.EndsEarly held taken piece count other says = absurd says
+none-says token_fault.NotOneParameter held taken piece count other says = absurd says
+none-says token_fault.RecordTooLong held taken piece count other (byte, at, full, within) =
+    subst (λ (l : List ℕ). BeginsNoneWithin (record_limit_of held) l) (append_assoc taken (take count piece) (byte ∷ []) ∙ ap (λ (l : List ℕ). taken ++ l) (sym (take-one piece count byte at)))
+    (full-begins_none (record_limit_of held) (taken ++ take count piece) byte full)
+none-says token_fault.FileTooLong held taken piece count other says = says
+none-says _ held taken piece count other says = unlaid-begins_none (taken ++ take (count + 1) piece) says
 
 -- what a step owes that refuses
 abbrev pub Owes : Held → List ℕ → Fault → Type 0
-Owes old piece fault = fault ≢ NoMemory → (reading : StatementHistory) → IsLive old reading → IsSeenAt reading.seen piece 0 → RefusesWithin (limits_of old) reading piece
+Owes old piece fault = fault ≢ NoMemory → (reading : StatementHistory) → IsLive old reading → IsSeenAt reading.seen piece 0 → RefusesWithin (limits_of old) fault reading piece
 
 pub token-refused : (old : Held) (piece : List ℕ) (fault : TokenFault) (lexer : tokens_held.Held) → tokens.NextGives old.lexer piece (Err fault) lexer → Owes old piece (fault_of_token fault)
 token-refused old piece fault lexer gives other reading live at =
@@ -134,13 +114,13 @@ token-refused old piece fault lexer gives other reading live at =
     record {
       count = refuses.count + 1;
       within = let below = refuses.within in omega (arith, below);
-      dead = λ s all record_is file_is. subst (λ (taken : List ℕ). IsDead s all (taken ++ take (refuses.count + 1) piece)) live.taken_are
-          (dead-says (cause_of fault) old.lexer live.history.taken piece refuses.count refuses.refuses (lacks-memory fault (λ is. other (ap fault_of_token is))) s all record_is file_is);
+      begins_none = subst (λ (taken : List ℕ). BeginsNoneBy (fault_of_token fault) (limits_of old) (taken ++ take (refuses.count + 1) piece)) live.taken_are
+          (none-says fault old.lexer live.history.taken piece refuses.count (λ is. other (ap fault_of_token is)) refuses.refuses);
     }
 
 -- ---- a token
 
-seen-call : (b : Bool) (x : Option ℕ) → ((if b then x else None) ≡ None) ⊎ ((if b then x else None) ≡ x)
+pub seen-call : (b : Bool) (x : Option ℕ) → ((if b then x else None) ≡ None) ⊎ ((if b then x else None) ≡ x)
 seen-call true x = inr refl
 seen-call false x = inl refl
 
@@ -162,6 +142,7 @@ read old piece count token lexer gives reading live at =
 
 -- ---- a token that the parser refuses
 
+-- no file begins with the token
 begins-none : (fault : GrammarFault) (taken : List Token) (given : List Statement) (token : Token) → fault ≢ grammar_fault.NoMemory → grammar.Refuses taken given token fault → BeginNoFile (taken ++ token ∷ [])
 begins-none grammar_fault.NoMemory taken given token other refuses = absurd (other refl)
 begins-none grammar_fault.EndsEarly taken given token other refuses = absurd refuses
@@ -172,24 +153,29 @@ begins-none (grammar_fault.LeftOut absent) taken given token other refuses = ref
 begins-none grammar_fault.HeaderShape taken given token other refuses = refuses
 begins-none grammar_fault.SectionShape taken given token other refuses = refuses
 
-dead-token : (old : Held) (reading : StatementHistory) (piece : List ℕ) (count : ℕ) (token : Token) (lexer : tokens_held.Held) → count ≤ length piece → IsRead old reading piece count token lexer
-    → ((r : IsRead old reading piece count token lexer) → BeginNoFile (r.live.parsing.taken ++ token ∷ [])) → RefusesWithin (limits_of old) reading piece
-dead-token old reading piece count token lexer within r none =
+none-by : (fault : GrammarFault) (limits : ℕ × ℕ) (bytes : List ℕ) → fault ≢ grammar_fault.NoMemory → BeginsNone bytes → BeginsNoneBy (fault_of_grammar fault) limits bytes
+none-by grammar_fault.NoMemory limits bytes other none = absurd (other refl)
+none-by _ limits bytes other none = none
+
+token-unbegun : (old : Held) (reading : StatementHistory) (piece : List ℕ) (count : ℕ) (token : Token) (lexer : tokens_held.Held) (fault : GrammarFault) → fault ≢ grammar_fault.NoMemory → count ≤ length piece → IsRead old reading piece count token lexer
+    → ((r : IsRead old reading piece count token lexer) → BeginNoFile (r.live.parsing.taken ++ token ∷ [])) → RefusesWithin (limits_of old) (fault_of_grammar fault) reading piece
+token-unbegun old reading piece count token lexer fault other within r none =
     let history : TokenHistory = extended r.live.history (call_of piece count (Some token)) in
     let up = looked-up_to r.live.history.taken piece count history.seen within r.seen_at in
     let begins : BeginNoFile history.given = subst (λ (ts : List Token). BeginNoFile (ts ++ token ∷ [])) r.live.tokens_are (none r) in
+    let looked : BeginsNone (looked_at history) = unbegun-begins_none (looked_at history) history.given (are-given history r.answers.given_first) begins in
     record {
       count = up.upto;
       within = up.within;
-      dead = λ s all record_is file_is. subst (λ (taken : List ℕ). IsDead s all (taken ++ take up.upto piece)) r.live.taken_are
-          (subst (λ (l : List ℕ). IsDead s all l) up.looked_are (no-front s all (looked_at history) history.given (are-given history r.answers.given_first) begins));
+      begins_none = none-by fault (limits_of old) (reading.taken ++ take up.upto piece) other (subst (λ (taken : List ℕ). BeginsNone (taken ++ take up.upto piece)) r.live.taken_are (subst BeginsNone up.looked_are looked));
     }
 
 pub parse-refused : (old : Held) (piece : List ℕ) (count : ℕ) (token : TokenRead) (lexer : tokens_held.Held) (fault : GrammarFault) (parser : grammar_held.Held) → tokens.NextGives old.lexer piece (Ok (count, Some token)) lexer → count ≤ length piece
     → grammar.TakeGives old.parser (meant token) (Err fault) parser → Owes old piece (fault_of_grammar fault)
 parse-refused old piece count token lexer fault parser gives within takes other reading live at =
-    dead-token old reading piece count (meant token) lexer within (read old piece count token lexer gives reading live at) (λ r.
-    begins-none fault r.live.parsing.taken r.live.parsing.given (meant token) (λ is. other (ap fault_of_grammar is)) (takes r.live.parsing r.live.parser r.live.parser_open).refuses)
+    let others : fault ≢ grammar_fault.NoMemory = λ is. other (ap fault_of_grammar is) in
+    token-unbegun old reading piece count (meant token) lexer fault others within (read old piece count token lexer gives reading live at) (λ r.
+    begins-none fault r.live.parsing.taken r.live.parsing.given (meant token) others (takes r.live.parsing r.live.parser r.live.parser_open).refuses)
 
 -- ---- a token that the parser takes
 

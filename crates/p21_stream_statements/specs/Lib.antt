@@ -5,3 +5,4 @@ pub mod StatementReader
 pub mod PassingOver
 pub mod Place
 pub mod Reopening
+pub mod Laws

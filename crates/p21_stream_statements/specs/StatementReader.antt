@@ -1,27 +1,28 @@
 -- What a lexer and a parser behind it have taken and answered (ISO 10303-21, tokens; formal definition of the exchange
 -- structure).
-use Rattle.std.specs.Prelude.{◌≡◌, ◌≢◌, ◌≤◌, ◌+◌, ◌⊎◌, ℕ, List, [], ◌∷◌, ◌++◌, length, take, slice_get, Option, Some, None, Result, Ok, Err}
+use Rattle.std.specs.Prelude.{◌≡◌, ◌≢◌, ◌≤◌, ◌<◌, ◌+◌, ◌⊎◌, ℕ, List, [], ◌∷◌, ◌++◌, length, take, slice_get, Option, Some, None, Result, Ok, Err}
 use Rattle.std.specs.List.{flat_map}
 use Rattle.p21_spec_basics.specs.History.{empty}
-use Rattle.p21_spec_basics.specs.Limits.{Limits}
 use Rattle.p21_spec_exchange.specs.Laying.{Laid, tokens_in}
 use Rattle.p21_spec_exchange.specs.OpenNesting.{IsDepth}
 use Rattle.p21_spec_exchange.specs.Pending.{IsPending}
 use Rattle.p21_spec_exchange.specs.Statement.{Statement, statement_tokens}
 use Rattle.p21_spec_exchange.specs.Token.{Token}
-use Rattle.p21_spec_file.specs.Accepted.{IsAccepted, IsDead}
 use Rattle.p21_grammar.specs.Held as grammar_held
 use Rattle.p21_grammar.specs.Histories as grammar
 use Rattle.p21_grammar.specs.Histories.{GrammarHistory, BeginsFile, IsWholeFile}
 use Rattle.p21_grammar.specs.Statements.{statements_of}
 use Rattle.p21_grammar.specs.declared.event.Event.{Event}
-use Rattle.p21_spec_schema.specs.Schema.{Schema}
+use Rattle.p21_spec_survey.specs.Whole.{BeginsNone, BeginsNoneWithin}
+use Rattle.p21_spec_syntax.specs.FileWithin.{IsNoFile}
 use Rattle.p21_stream_statements.specs.declared.fault.Fault.{Fault}
+use Rattle.p21_stream_statements.specs.declared.fault.Fault.TheVariants as faults
 use Rattle.p21_stream_statements.specs.declared.fault.Fault.TheVariants.{NoMemory}
 use Rattle.p21_tokens.specs.Held as tokens_held
 use Rattle.p21_tokens.specs.Held.{file_limit_of, record_limit_of}
 use Rattle.p21_tokens.specs.Histories as tokens
 use Rattle.p21_tokens.specs.Histories.{AreSeparators, TokenHistory}
+use Rattle.p21_tokens.specs.declared.fault.TokenFault.TheVariants as token_fault
 
 -- what is held: what the lexer and what the parser holds
 pub record Held : Type 0 where
@@ -82,17 +83,24 @@ pub record TakesOneToken (old : StatementHistory) (tokens : ℕ) (piece : List �
   pub seen_at : IsSeenAt reading.seen piece count
   pub one_more : length live.history.given ≡ tokens + 1
 
--- a step refuses a byte, or the token that it follows: nothing that begins with the bytes up to it is accepted
-pub record RefusesWithin (limits : ℕ × ℕ) (old : StatementHistory) (piece : List ℕ) : Type 0 where
+-- why no file begins with these bytes, under whatever schema: none within the limit of a statement does, they are more than a file may
+-- have, or none does, whatever its size
+abbrev pub BeginsNoneBy : Fault → ℕ × ℕ → List ℕ → Type 0
+BeginsNoneBy (faults.Token token_fault.RecordTooLong) limits bytes = BeginsNoneWithin limits.0 bytes
+BeginsNoneBy (faults.Token token_fault.FileTooLong) limits bytes = limits.1 < length bytes
+BeginsNoneBy fault limits bytes = BeginsNone bytes
+
+-- a step refuses a byte, or the token that it follows: no file begins with the bytes up to it
+pub record RefusesWithin (limits : ℕ × ℕ) (fault : Fault) (old : StatementHistory) (piece : List ℕ) : Type 0 where
   pub count : ℕ
   pub within : count ≤ length piece
-  pub dead : (s : Schema) (all : Limits) → all.record_source ≡ limits.0 → all.file_source ≡ limits.1 → IsDead s all (old.taken ++ take count piece)
+  pub begins_none : BeginsNoneBy fault limits (old.taken ++ take count piece)
 
 -- what a step gives, for each history that was stood for, where the byte that was seen is offered first
 abbrev pub StepGives : Held → List ℕ → Result (Option (ℕ × Option Event)) Fault → Held → Type 0
 StepGives old piece (Ok None) new = (reading : StatementHistory) → IsLive old reading → IsSeenAt reading.seen piece 0 → IsLive new (record { taken = reading.taken ++ piece; seen = None; given = reading.given })
 StepGives old piece (Ok (Some (count, event))) new = (reading : StatementHistory) (live : IsLive old reading) → IsSeenAt reading.seen piece 0 → TakesOneToken reading (length live.history.given) piece count (statements_of event) new
-StepGives old piece (Err fault) new = fault ≢ NoMemory → (reading : StatementHistory) → IsLive old reading → IsSeenAt reading.seen piece 0 → RefusesWithin (limits_of old) reading piece
+StepGives old piece (Err fault) new = fault ≢ NoMemory → (reading : StatementHistory) → IsLive old reading → IsSeenAt reading.seen piece 0 → RefusesWithin (limits_of old) fault reading piece
 
 -- so many bytes of the piece at most
 abbrev pub TakesWithinPiece : List ℕ → Result (Option (ℕ × Option Event)) Fault → Type 0
@@ -115,10 +123,10 @@ pub record AreWholeStatements (taken : List ℕ) (given : List Statement) : Type
   pub laid : Laid taken found
   pub whole : IsWholeFile found given
 
--- what the end of the bytes gives, for each history that was stood for
+-- what the end of the bytes gives, for each history that was stood for: what is refused is no file, under whatever schema
 abbrev pub FinishGives : Held → Result (Unit {0}) Fault → Type 0
 FinishGives held (Ok done) = (reading : StatementHistory) → IsLive held reading → reading.seen ≡ None → AreWholeStatements reading.taken reading.given
-FinishGives held (Err fault) = fault ≢ NoMemory → (reading : StatementHistory) → IsLive held reading → reading.seen ≡ None → (s : Schema) (limits : Limits) → ¬ IsAccepted s limits reading.taken
+FinishGives held (Err fault) = fault ≢ NoMemory → (reading : StatementHistory) → IsLive held reading → reading.seen ≡ None → IsNoFile reading.taken
 
 -- the token bytes of the statement that is open, and the lists and typed parameters that are open in it
 pub record HasOpenStatement (reading : StatementHistory) (pending depth : ℕ) : Type 0 where

@@ -4,8 +4,8 @@ use p21_values::NoMemory;
 use std::alloc::Global;
 
 /// What a parameter of a header record is.
-#[derive(Clone, Copy)]
-enum Form {
+#[derive(Clone, Copy, Debug, PartialEq, Eq)]
+pub enum Form {
     /// A text or `$`.
     Text,
     /// A list of texts, or `$`.
@@ -14,19 +14,20 @@ enum Form {
     Schema,
 }
 
-/// A record that a header begins with.
-struct Wanted {
-    key: &'static [u8],
-    forms: &'static [Form],
+/// A record that a header begins with (ISO 10303-21, header section entities).
+#[derive(Clone, Copy, Debug)]
+pub struct HeaderRecord {
+    pub keyword: &'static str,
+    pub forms: &'static [Form],
 }
 
-const FIRST: Wanted = Wanted {
-    key: b"FILE_DESCRIPTION",
+const FIRST: HeaderRecord = HeaderRecord {
+    keyword: "FILE_DESCRIPTION",
     forms: &[Form::Texts, Form::Text],
 };
 
-const SECOND: Wanted = Wanted {
-    key: b"FILE_NAME",
+const SECOND: HeaderRecord = HeaderRecord {
+    keyword: "FILE_NAME",
     forms: &[
         Form::Text,
         Form::Text,
@@ -38,25 +39,33 @@ const SECOND: Wanted = Wanted {
     ],
 };
 
-const THIRD: Wanted = Wanted {
-    key: b"FILE_SCHEMA",
+const THIRD: HeaderRecord = HeaderRecord {
+    keyword: "FILE_SCHEMA",
     forms: &[Form::Schema],
 };
 
-/// Where a header record differs from what it must be, by its bytes and how many stand in front of it: at the first
+/// The record that a file has as the statement of this number, if it is one of the three that a header begins with: the two lines of
+/// its beginning are the statements 1 and 2. It takes no memory.
+pub fn header_record(statement: u64) -> Option<HeaderRecord> {
+    match statement {
+        3 => Some(FIRST),
+        4 => Some(SECOND),
+        5 => Some(THIRD),
+        _ => None,
+    }
+}
+
+/// Where a header record differs from what it must be, by its bytes and the number of its statement: at the first
 /// parameter that is too many or has another form, or at the `)` where one is missing; else at its keyword.
 ///
 /// # Errors
 ///
 /// `NoMemory`.
-pub(crate) fn header_place(alloc: Global, source: &[u8], before: u64) -> Result<u64, NoMemory> {
-    let wanted = match before {
-        0 => &FIRST,
-        1 => &SECOND,
-        2 => &THIRD,
-        _ => return Ok(0),
+pub(crate) fn header_place(alloc: Global, source: &[u8], number: u64) -> Result<u64, NoMemory> {
+    let Some(wanted) = header_record(number) else {
+        return Ok(0);
     };
-    if !has_key(source, wanted.key) {
+    if !has_key(source, wanted.keyword.as_bytes()) {
         return Ok(0);
     }
     let marks = marks_of(alloc, source)?;

@@ -11,15 +11,20 @@
 //! record says (`Trail`, p21_mapping), and no clause speaks of it. An instance that is taken straight from its bytes notes where it begins only where it is
 //! refused (`note_statement`).
 //!
+//! What could stand in place of a token that is refused as unexpected is asked of the parser behind the refusal (`Expected`).
+//!
 //! Behind a statement that is passed over the reading goes on where `StatementReader::reopen` says (`specs/Reopening`). What is
 //! held at the beginning of a statement follows from the stage of the file, the limits and the place, so nothing is kept for it:
 //! the bytes that are passed over become separators in the history, which count for places and for the limit of the file, and
 //! are of no statement.
 #![tactic(auto)]
 
+mod expected;
 mod fault;
 mod header_places;
+mod laws;
 mod marks;
+mod open;
 mod parameters;
 mod place;
 mod record_places;
@@ -27,7 +32,12 @@ mod refusal;
 mod source;
 mod statement_reader;
 
+pub use expected::Expected;
 pub use fault::Fault;
+pub use header_places::{Form, HeaderRecord, header_record};
+pub use laws::reader_laws;
+pub use open::is_open;
+pub use p21_grammar::{KINDS, Kind};
 pub use p21_tokens::Places;
 pub use place::Place;
 pub use refusal::{At, Refusal};

@@ -123,10 +123,7 @@ fn offset_of(
     statement: &[u8],
 ) -> Option<Result<u64, NoMemory>> {
     match fault {
-        // In front of the header records stand two lines.
-        Fault::Grammar(GrammarFault::HeaderShape) => {
-            Some(header_place(alloc, statement, number.saturating_sub(3)))
-        }
+        Fault::Grammar(GrammarFault::HeaderShape) => Some(header_place(alloc, statement, number)),
         Fault::SchemaName => Some(schema_place(alloc, statement)),
         Fault::SectionTwice => Some(section_place(alloc, statement)),
         _ => None,

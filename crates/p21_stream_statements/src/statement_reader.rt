@@ -1,6 +1,8 @@
 ghost use Rattle.std.specs.Prelude.{◌≡◌, ◌≤◌, ◌↔◌, ◌+◌, [], length, IfErr, IsTrue, None, true, false};
 ghost use Rattle.p21_spec_exchange.specs.OpenNesting.{IsDepth};
 ghost use Rattle.p21_grammar.specs.Between.{StandsForMore};
+ghost use Rattle.p21_grammar.specs.Expected.{could_take};
+ghost use Rattle.p21_grammar.specs.Kind.{kind_of};
 ghost use Rattle.p21_grammar.specs.Stage.{is_in_data};
 ghost use Rattle.p21_stream_statements.specs.Source.{IsOfBytes};
 ghost use Rattle.p21_stream_statements.specs.StatementReader.{FinishGives, HasOpenStatement, IsLive, NeedsNoMemory, StatementHistory, StepGives, TakesWithinPiece, limits_of, nothing_read};
@@ -9,7 +11,7 @@ ghost use Rattle.p21_stream_statements.specs.PassingOver.{GivesPassed, IsAtRest,
 ghost use Rattle.p21_stream_statements.specs.Reopening.{GivesReopened, IsBetweenStatements, StepBegins};
 
 use crate::fault::Fault;
-use p21_grammar::{Event, GrammarFault, Line, Parser};
+use p21_grammar::{Event, GrammarFault, Kind, Line, Parser};
 use p21_tokens::{Lexer, Places, Token};
 use p21_values::Limits;
 use std::alloc::Global;
@@ -128,6 +130,14 @@ impl StatementReader {
         ensures depth { result ≡ self.now.parser.depth }
     {
         self.parser.depth() as u64
+    }
+
+    /// Whether a token of this kind could stand behind the tokens taken, or in place of the one that was refused as unexpected, as
+    /// `Parser::could_take` says. It takes no memory.
+    pub fn could_take(&self, kind: Kind) -> bool
+        ensures { (token : _) → kind_of token ≡ kind → result ≡ could_take self.now.parser token }
+    {
+        self.parser.could_take(kind)
     }
 
     /// Where it stands in the file. It takes no memory.

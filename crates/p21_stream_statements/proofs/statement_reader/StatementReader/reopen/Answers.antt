@@ -1,4 +1,4 @@
-use Rattle.std.proofs.Common.{ap, refl, subst, ◌∙◌}
+use Rattle.std.proofs.Common.{refl, subst}
 use Rattle.p21_stream_statements.proofs.Reopening.{between-reopened, gives-reopened}
 use Rattle.p21_stream_statements.specs.Reopening.{GivesReopened}
 use Rattle.p21_stream_statements.specs.StatementReader.{Held}
