@@ -18,6 +18,7 @@ use Rattle.p21_spec_schema.specs.Schema.{Schema}
 use Rattle.p21_spec_schema.specs.WellFormed.{IsWellFormed}
 use Rattle.p21_stream_output.specs.Output.{Output}
 use Rattle.p21_stream_output.specs.Ending.{IsFileOfKept}
+use Rattle.p21_spec_syntax.proofs.NoFiles.{no_file-refused}
 use Rattle.p21_stream_statements.specs.Source.{IsOfBytes}
 use Rattle.p21_stream_statements.specs.declared.fault.Fault.{Fault}
 use Rattle.p21_stream_statements.specs.declared.fault.Fault.TheVariants as faults
@@ -67,7 +68,7 @@ whole-kept s held kept ends is lines =
 
 -- the statement reader refuses the end
 pub statements-refused : (s : Schema) (held : statements.Held) (kept : Kept) (fault : Fault) (refusal : Refusal) → refusal.fault ≡ fault → statements.FinishGives held (Err fault) → EndGives s held kept (Err refusal)
-statements-refused s held kept fault refusal is gives other limits taken given live = gives (λ none. other (is ∙ none)) (record { taken = taken; seen = None; given = given }) live.reads refl s limits
+statements-refused s held kept fault refusal is gives other limits taken given live = no_file-refused s limits taken (gives (λ none. other (is ∙ none)) (record { taken = taken; seen = None; given = given }) live.reads refl)
 
 -- a reference is refused
 pub reference-refused : (s : Schema) → IsWellFormed s → (held : statements.Held) (kept : Kept) (refusal : Refusal) → statements.FinishGives held (Ok tt) → (holder : ℕ) (fault : Fault) → IsFirstUnserved s kept.stored kept.waiting holder fault → EndGives s held kept (Err refusal)

@@ -14,10 +14,11 @@ use Rattle.p21_spec_schema.specs.WellFormed.{IsWellFormed}
 use Rattle.p21_stream_statements.specs.Fault.{fault_number}
 use Rattle.p21_stream_statements.specs.declared.fault.Fault.{Fault}
 use Rattle.p21_stream_statements.specs.declared.fault.Fault.TheVariants.{NoMemory}
+use Rattle.p21_stream_statements.proofs.Refusing.{begins-dead}
 use Rattle.p21_stream_statements.proofs.Seen.{looked-up_to}
 use Rattle.p21_stream_statements.proofs.Stepping.{taken-looked}
 use Rattle.p21_stream_statements.specs.StatementReader as statements
-use Rattle.p21_stream_statements.specs.StatementReader.{IsSeenAt, StatementHistory, bytes_looked_at}
+use Rattle.p21_stream_statements.specs.StatementReader.{IsSeenAt, StatementHistory, bytes_looked_at, limits_of}
 use Rattle.p21_stream_kept.specs.Steps as kept_steps
 use Rattle.p21_stream.specs.Laws.{DeadByStatement, DeadByStep, HeldWhileLive, LiveAtStart, LiveByPiece, LiveByStatement, LiveByToken}
 use Rattle.p21_stream.specs.Walk.{IsDeadWithin}
@@ -73,7 +74,7 @@ dead-by_statement s formed limits held next kept after reading tokens piece coun
 pub dead-by_step : DeadByStep
 dead-by_step s limits held next kept reading piece fault live at refuses other =
     let r = refuses other reading live.reads at in
-    record { upto = r.count; within = r.within; dead = r.dead s limits (sym (ap (λ p. p.0) live.limits_are)) (sym (ap (λ p. p.1) live.limits_are)) }
+    record { upto = r.count; within = r.within; dead = begins-dead (limits_of held) (reading.taken ++ take r.count piece) limits (sym (ap (λ p. p.0) live.limits_are)) (sym (ap (λ p. p.1) live.limits_are)) s fault r.begins_none }
 
 pub held-while_live : HeldWhileLive
 held-while_live s limits held kept reading live pending depth opens =

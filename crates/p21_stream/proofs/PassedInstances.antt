@@ -9,7 +9,8 @@ use Rattle.p21_spec_schema.specs.Schema.{Schema}
 use Rattle.p21_stream_statements.specs.declared.refusal.Refusal.{Refusal}
 use Rattle.p21_stream_statements.specs.StatementReader as statements
 use Rattle.p21_stream_statements.specs.StatementReader.{IsSeenAt, limits_of}
-use Rattle.p21_stream.proofs.Walking.{as-before, read-on, seen-first, take-add}
+use Rattle.p21_stream_statements.proofs.Pieces.{seen-first, take-add}
+use Rattle.p21_stream.proofs.Walking.{as-before, read-on}
 use Rattle.p21_stream.specs.Passing.{some_count}
 use Rattle.p21_stream.specs.Walk.{EndsNoToken, IsUnderWay, NeedsNoMemory, PassGives, StepGives, TakesWithinPiece}
 use Rattle.p21_stream.specs.declared.keeper.Stop.TheVariants.{Refused}

@@ -33,6 +33,7 @@ use Rattle.p21_stream_kept.specs.Served.{RefusesNeed}
 use Rattle.p21_stream_kept.specs.Taking.{IsKeptOfFile}
 use Rattle.p21_stream_output.specs.Ending.{IsFileOfKept}
 use Rattle.p21_stream_output.specs.Output.{Output}
+use Rattle.p21_spec_syntax.proofs.NoFiles.{no_file-refused}
 use Rattle.p21_stream_statements.proofs.Stepping.{taken-looked}
 use Rattle.p21_stream_statements.specs.Fault.{fault_number}
 use Rattle.p21_stream_statements.specs.Source.{IsOfBytes}
@@ -287,7 +288,7 @@ finish-refused s walk fault refusal found is of other gives ends limits old new 
     let refuses : RefusesRead s limits old new fault = refused-by s limits old new fault of (λ some. record {
       bytes = whole.bytes;
       consumed = whole.read.consumed;
-      refused = inr (whole.read.at_end, gives some (record { taken = whole.bytes; seen = None; given = given }) live.reads refl s limits);
+      refused = inr (whole.read.at_end, no_file-refused s limits whole.bytes (gives some (record { taken = whole.bytes; seen = None; given = given }) live.reads refl));
     }) in
     ended-surveys s limits old new whole.bytes walk.kept.sieve.refusals.items refusal found whole.read.consumed (sifted-whole s limits walk.statements walk.kept whole.bytes given live) (subst (λ (f : Fault). RefusesRead s limits old new f) (sym is) refuses) ends
 

@@ -1,6 +1,6 @@
 -- A walk, token by token and piece by piece, whatever is kept.
-use Rattle.std.proofs.Common.{◌≡◌, ◌≤◌, ◌<◌, ◌+◌, ◌-◌, ◌^◌, ℕ, zero, suc, List, [], ◌∷◌, ◌++◌, length, take, drop, Option, Some, None, Result, Ok, Err, refl, sym, ap, subst, ◌∙◌, append_assoc, arith}
-use Rattle.std.proofs.lemmas.List.{append-nil, length-drop, take-append-drop}
+use Rattle.std.proofs.Common.{◌≡◌, ◌≢◌, ◌≤◌, ◌<◌, ◌+◌, ◌-◌, ◌^◌, ℕ, zero, suc, List, [], ◌∷◌, ◌++◌, length, take, drop, Option, Some, None, Result, Ok, Err, refl, sym, ap, subst, ◌∙◌, append_assoc, arith}
+use Rattle.std.proofs.lemmas.List.{append-nil, drop-drop, length-drop, take-append-drop}
 use Rattle.std.specs.List.{flat_map, slice_get}
 use Rattle.p21_spec_basics.specs.Limits.{Limits}
 use Rattle.p21_spec_laws.specs.Taken.{AreStatementsTaken}
@@ -11,54 +11,23 @@ use Rattle.p21_spec_file.specs.Accepted.{IsDead}
 use Rattle.p21_grammar.specs.Statements.{statement_of}
 use Rattle.p21_grammar.specs.declared.event.Event.{Event}
 use Rattle.p21_spec_schema.specs.Schema.{Schema}
-use Rattle.p21_stream_statements.proofs.Seen.{looked-up_to}
+use Rattle.p21_stream_statements.proofs.Pieces.{looked-within, seen-first, seen-on, within-on}
+use Rattle.p21_stream_statements.proofs.Refusing.{begins-dead}
 use Rattle.p21_stream_statements.proofs.Stepping.{taken-looked}
 use Rattle.p21_stream_statements.specs.Place.{HasPlace, RefusesByteAt, place_behind}
 use Rattle.p21_stream_statements.specs.declared.fault.Fault.{Fault}
 use Rattle.p21_stream_statements.specs.declared.fault.Fault.TheVariants as faults
 use Rattle.p21_stream_statements.specs.declared.refusal.Refusal.{Refusal}
 use Rattle.p21_stream_statements.specs.StatementReader as statements
+use Rattle.p21_stream_statements.specs.Reopening.{StaysInStatement}
+use Rattle.p21_stream_statements.specs.Source.{IsOfStatement}
 use Rattle.p21_stream_statements.specs.StatementReader.{IsSeenAt, StatementHistory, bytes_looked_at, limits_of}
 use Rattle.p21_stream.proofs.Within.{given-few, source-within, statements-few}
-use Rattle.p21_stream.specs.Walk.{Ends, EndsNoToken, EndsReading, Follows, IsDeadWithin, IsLive, IsUnderWay, LeftWithin, NeedsNoMemory, ReadGives, StepGives, StepPlaces, Takes}
+use Rattle.p21_stream.specs.Walk.{Ends, EndsNoToken, EndsReading, Follows, IsDeadWithin, IsLive, IsOfReader, IsUnderWay, LeftWithin, NeedsNoMemory, ReadGives, ReadStops, ReadsUpTo, StepGives, StepPlaces, StepStops, Takes}
 use Rattle.p21_stream.specs.declared.keeper.Stop.{Stop}
 use Rattle.p21_stream.specs.declared.keeper.Stop.TheVariants.{Most, Refused}
 
--- ---- pieces of pieces
-
-pub take-add : (m k : ℕ) (l : List ℕ) → take (m + k) l ≡ take m l ++ take k (drop m l)
-take-add zero k l = let same : zero + k ≡ k = omega arith in ap (λ (n : ℕ). take n l) same
-take-add (suc m) zero [] = let same : suc m + zero ≡ suc m = omega arith in ap (λ (n : ℕ). take {A = ℕ} n []) same
-take-add (suc m) (suc k) [] = let same : suc m + suc k ≡ suc (m + suc k) = omega arith in ap (λ (n : ℕ). take {A = ℕ} n []) same
-take-add (suc m) k (x ∷ xs) = let same : suc m + k ≡ suc (m + k) = omega arith in ap (λ (n : ℕ). take n (x ∷ xs)) same ∙ ap (λ (l : List ℕ). x ∷ l) (take-add m k xs)
-
-get-drop : (m : ℕ) (l : List ℕ) → slice_get (drop m l) 0 ≡ slice_get l m
-get-drop zero l = refl
-get-drop (suc m) [] = refl
-get-drop (suc m) (x ∷ xs) = get-drop m xs
-
-pub seen-first : (seen : Option ℕ) (m : ℕ) (l : List ℕ) → IsSeenAt seen l m → IsSeenAt seen (drop m l) 0
-seen-first None m l at = tt
-seen-first (Some byte) m l at = get-drop m l ∙ at
-
--- ---- what was looked at
-
--- what holds of the bytes looked at holds of the bytes taken and some of the piece
-pub looked-within : (P : List ℕ → Type 0) (reading on : StatementHistory) (piece : List ℕ) (count : ℕ) → on.taken ≡ reading.taken ++ take count piece → IsSeenAt on.seen piece count → count ≤ length piece → P (bytes_looked_at on)
-    → (upto : ℕ) × (upto ≤ length piece) × P (reading.taken ++ take upto piece)
-looked-within P reading on piece count taken_are seen_at within holds =
-    let up = looked-up_to reading.taken piece count on.seen within seen_at in
-    let Bytes : List ℕ → Type 0 = λ taken. P (taken ++ elim on.seen [ None ↦ [] | Some byte ↦ byte ∷ [] ]) in
-    (up.upto, up.within, subst P up.looked_are (subst Bytes taken_are holds))
-
--- what holds of the bytes behind so many of a piece and some more of it holds of the bytes before and some of the piece
-within-on : (reading on : StatementHistory) (piece : List ℕ) (count : ℕ) (P : List ℕ → Type 0) → on.taken ≡ reading.taken ++ take count piece → count ≤ length piece → (upto : ℕ) → upto ≤ length (drop count piece) → P (on.taken ++ take upto (drop count piece))
-    → (count + upto ≤ length piece) × P (reading.taken ++ take (count + upto) piece)
-within-on reading on piece count P taken_are within upto below holds =
-    let same : on.taken ++ take upto (drop count piece) ≡ reading.taken ++ take (count + upto) piece =
-    ap (λ (l : List ℕ). l ++ take upto (drop count piece)) taken_are ∙ append_assoc reading.taken (take count piece) (take upto (drop count piece)) ∙ ap (λ (l : List ℕ). reading.taken ++ l) (sym (take-add count upto piece)) in
-    let rest : length (drop count piece) ≡ length piece - count = length-drop count piece in
-    (omega (arith, below, rest, within), subst P same holds)
+-- ---- what a piece gives, by what the rest gives
 
 dead-on : (s : Schema) (limits : Limits) (reading on : StatementHistory) (piece : List ℕ) (count : ℕ) → on.taken ≡ reading.taken ++ take count piece → count ≤ length piece → IsDeadWithin s limits on (drop count piece) → IsDeadWithin s limits reading piece
 dead-on s limits reading on piece count taken_are within d =
@@ -100,6 +69,16 @@ place-on limits reading on piece count faults.WrongTarget place taken_are within
 place-on limits reading on piece count faults.NoMemory place taken_are within has = tt
 place-on limits reading on piece count faults.Read place taken_are within has = tt
 place-on limits reading on piece count faults.Write place taken_are within has = tt
+
+-- a fault of a statement is none of bytes or of the grammar
+pub none-of_reader : (fault : Fault) → IsOfStatement fault → IsOfReader fault → ⊥
+none-of_reader (faults.Token fault) of of_reader = of
+none-of_reader (faults.Grammar fault) of of_reader = of
+none-of_reader _ of of_reader = of_reader
+
+-- nor is want of memory
+no-memory : (fault : Fault) → IsOfReader fault → fault ≢ faults.NoMemory
+no-memory fault of is = subst IsOfReader is of
 
 -- all is as before
 pub as-before : {K : Type 0} (P : statements.Held → K → Type 0) (held next : statements.Held) (kept after : K) → next ≡ held → after ≡ kept → P next after → P held kept
@@ -145,7 +124,11 @@ module _ {K : Type 0} (s : Schema) (limits : Limits) (keeps left : List Statemen
   pub step-refused : ((given : List Statement) (kept : K) → keeps given kept → left given kept) → (held next : statements.Held) (kept : K) (piece : List ℕ) (refusal : Refusal) (fault : Fault) → refusal.fault ≡ fault → statements.StepGives held piece (Err fault) next → StepGives s limits keeps left held kept piece (Err refusal) next kept
   step-refused leaves held next kept piece refusal fault is gives other reading live at =
       let r = gives (λ none. other (is ∙ none)) reading live.reads at in (
-        record { upto = r.count; within = r.within; dead = r.dead s limits (sym (ap (λ p. p.0) live.limits_are)) (sym (ap (λ p. p.1) live.limits_are)) },
+        record {
+          upto = r.count;
+          within = r.within;
+          dead = begins-dead (limits_of held) (reading.taken ++ take r.count piece) limits (sym (ap (λ p. p.0) live.limits_are)) (sym (ap (λ p. p.1) live.limits_are)) s fault r.begins_none;
+        },
         left-within leaves held kept reading piece live at,
       )
 
@@ -227,6 +210,48 @@ module _ {K : Type 0} (s : Schema) (limits : Limits) (keeps left : List Statemen
       subst (λ (l : ℕ × ℕ). HasPlace l reading.taken piece refusal.fault (place_behind last)) same
       (place-on (limits_of next) reading on.reading piece count refusal.fault (place_behind last) on.taken_are within (has on.reading on.live (seen-first on.reading.seen count piece on.seen_at)))
 
+  -- ---- where the reading stands when it stops
+
+  -- behind a history that goes on behind so many of the piece
+  up-on : (held : statements.Held) (kept : K) (reading on : StatementHistory) (piece : List ℕ) (count : ℕ) → on.taken ≡ reading.taken ++ take count piece → count ≤ length piece → ReadsUpTo keeps limits on (drop count piece) held kept → ReadsUpTo keeps limits reading piece held kept
+  up-on held kept reading on piece count taken_are within up =
+      let (upto_within, taken) = within-on reading on piece count (λ bytes. up.reading.taken ≡ bytes) taken_are within up.count up.within up.taken_are in
+      record { reading = up.reading; live = up.live; count = count + up.count; within = upto_within; taken_are = taken; seen_at = seen-on up.reading.seen count up.count piece up.seen_at }
+
+  up-here : (held : statements.Held) (kept : K) (reading : StatementHistory) (piece : List ℕ) → IsLive keeps limits held kept reading → IsSeenAt reading.seen piece 0 → ReadsUpTo keeps limits reading piece held kept
+  up-here held kept reading piece live at = record { reading = reading; live = live; count = 0; within = omega arith; taken_are = sym (append-nil reading.taken); seen_at = at }
+
+  pub step-stops : (held next : statements.Held) (kept : K) (piece : List ℕ) (refusal : Refusal) (fault : Fault) → refusal.fault ≡ fault → statements.StepGives held piece (Err fault) next → StaysInStatement held next → StepStops keeps limits held kept piece (Err refusal) next kept
+  unfolding up-here
+  step-stops held next kept piece refusal fault is gives stays of reading live at = record {
+    held = held;
+    before = up-here held kept reading piece live at;
+    refuses = subst (λ (f : Fault). statements.RefusesWithin (limits_of held) f reading piece) (sym is) (gives (no-memory fault (subst IsOfReader is of)) reading live.reads at);
+    stays = stays;
+  }
+
+  -- where the rest stops so, the piece does
+  pub stops-on : (held next last : statements.Held) (kept after end : K) (piece : List ℕ) (count : ℕ) → StepGives s limits keeps left held kept piece (Ok (Some count)) next after → count ≤ length piece
+      → (result : Result (Unit {0}) Stop) → ReadStops keeps limits next after (drop count piece) result last end → ReadStops keeps limits held kept piece result last end
+  unfolding up-on
+  stops-on held next last kept after end piece count gives within (Ok done) stops = tt
+  stops-on held next last kept after end piece count gives within (Err (Refused refusal)) stops = λ of reading live at.
+      let on = gives reading live at in
+      let r = stops of on.reading on.live (seen-first on.reading.seen count piece on.seen_at) in
+      record {
+        held = r.held;
+        before = up-on r.held end reading on.reading piece count on.taken_are within r.before;
+        refuses = subst (λ (l : List ℕ). statements.RefusesWithin (limits_of r.held) refusal.fault r.before.reading l) (drop-drop r.before.count count piece) r.refuses;
+        stays = r.stays;
+      }
+  stops-on held next last kept after end piece count gives within (Err Most) stops = λ reading live at.
+      let on = gives reading live at in
+      up-on last end reading on.reading piece count on.taken_are within (stops on.reading on.live (seen-first on.reading.seen count piece on.seen_at))
+
+  -- as much is kept as was asked for
+  pub enough-stops : (held : statements.Held) (kept : K) (rest : List ℕ) → ReadStops keeps limits held kept rest (Err Most) held kept
+  enough-stops held kept rest = λ reading live at. up-here held kept reading rest live at
+
   -- ---- all tokens of a piece
 
   -- what the rest gives, the piece gives; and each round gave a token
@@ -235,13 +260,14 @@ module _ {K : Type 0} (s : Schema) (limits : Limits) (keeps left : List Statemen
     pub stay : stays limits old kept
     pub limits_are : limits_of held ≡ limits_of first
     pub places : (refusal : Refusal) (last : statements.Held) → StepPlaces keeps limits held kept rest (Err refusal) last → StepPlaces keeps limits first old piece (Err refusal) last
+    pub stops : (result : Result (Unit {0}) Stop) (last : statements.Held) (end : K) → ReadStops keeps limits held kept rest result last end → ReadStops keeps limits first old piece result last end
     pub quiet : (refusal : Refusal) → NeedsNoMemory {Answer = Option ℕ} keeps limits held kept rest (Err refusal) → NeedsNoMemory {Answer = Option ℕ} keeps limits first old piece (Err refusal)
     pub under_way : IsUnderWay keeps limits held kept rest
     pub rounds_few : rounds ≤ length under_way.live.reads.history.given
 
   pub rest-first : (stays : Limits → K → K → Type 0) (held : statements.Held) (kept : K) (piece : List ℕ) → stays limits kept kept → IsUnderWay keeps limits held kept piece → IsRest stays held kept piece held kept piece 0
   rest-first stays held kept piece stay way =
-      record { gives = λ result last end reads. reads; stay = stay; limits_are = refl; places = λ refusal last has. has; quiet = λ refusal needs. needs; under_way = way; rounds_few = omega arith }
+      record { gives = λ result last end reads. reads; stay = stay; limits_are = refl; places = λ refusal last has. has; stops = λ result last end stops. stops; quiet = λ refusal needs. needs; under_way = way; rounds_few = omega arith }
 
   pub rest-on : (stays : Limits → K → K → Type 0) (stays_on : (a b c : K) → stays limits a b → stays limits b c → stays limits a c) (first held next : statements.Held) (old kept after : K) (piece rest : List ℕ) (count rounds : ℕ) → IsRest stays first old piece held kept rest rounds
       → StepGives s limits keeps left held kept rest (Ok (Some count)) next after → count ≤ length rest
@@ -256,6 +282,7 @@ module _ {K : Type 0} (s : Schema) (limits : Limits) (keeps left : List Statemen
         stay = stays_on old kept after so_far.stay stay;
         limits_are = same ∙ so_far.limits_are;
         places = λ refusal last has. so_far.places refusal last (places-on held next last kept after rest count refusal gives within same has);
+        stops = λ result last end stops. so_far.stops result last end (stops-on held next last kept after end rest count gives within result stops);
         quiet = λ refusal needs. so_far.quiet refusal (λ reading live at pending are. absurd (none reading live at pending are));
         under_way = record { reading = on.reading; live = on.live; seen_at = seen-first on.reading.seen count rest on.seen_at; counted = way.counted };
         rounds_few = omega (arith, few, more);

@@ -1,6 +1,6 @@
 -- What a walk over the bytes of a file owes for a token and for a piece, whatever is kept of the statements (this project's own).
 -- What is kept is said by two relations: what is kept of the statements given, and what is left of them where one ends the reading.
-use Rattle.std.specs.Prelude.{◌≡◌, ◌≢◌, ◌≤◌, ◌<◌, ◌^◌, ℕ, List, [], ◌∷◌, ◌++◌, length, take, Option, Some, None, Result, Ok, Err}
+use Rattle.std.specs.Prelude.{◌≡◌, ◌≢◌, ◌≤◌, ◌<◌, ◌^◌, ℕ, List, [], ◌∷◌, ◌++◌, length, take, drop, Option, Some, None, Result, Ok, Err}
 use Rattle.std.specs.List.{flat_map}
 use Rattle.p21_spec_basics.specs.Limits.{Limits}
 use Rattle.p21_spec_laws.specs.Taken.{AreStatementsTaken}
@@ -13,8 +13,10 @@ use Rattle.p21_spec_file.specs.Reference.{Need}
 use Rattle.p21_spec_schema.specs.Schema.{Schema}
 use Rattle.p21_stream_kept.specs.Found.{HasFound}
 use Rattle.p21_stream_statements.specs.Place.{HasPlace, place_behind}
+use Rattle.p21_stream_statements.specs.Reopening.{StaysInStatement}
 use Rattle.p21_stream_statements.specs.Source.{IsOfBytes}
 use Rattle.p21_stream_statements.specs.declared.fault.Fault.{Fault}
+use Rattle.p21_stream_statements.specs.declared.fault.Fault.TheVariants as faults
 use Rattle.p21_stream_statements.specs.declared.fault.Fault.TheVariants.{NoMemory}
 use Rattle.p21_stream_statements.specs.declared.refusal.Refusal.{Refusal}
 use Rattle.p21_stream_statements.specs.StatementReader as statements
@@ -134,6 +136,42 @@ StepPlaces Keeps limits held kept piece (Err refusal) next = (reading : Statemen
 abbrev pub ReadPlaces : {K : Type 0} → (List Statement → K → Type 0) → Limits → statements.Held → K → List ℕ → Result (Unit {0}) Stop → statements.Held → Type 0
 ReadPlaces Keeps limits held kept piece (Err (Refused refusal)) next = StepPlaces Keeps limits held kept piece (Err refusal) next
 ReadPlaces Keeps limits held kept piece other next = Unit {0}
+
+-- ---- where the reading stands when it stops
+
+-- a history goes on behind so many bytes of the piece, and is live
+pub record ReadsUpTo {K : Type 0} (Keeps : List Statement → K → Type 0) (limits : Limits) (old : StatementHistory) (piece : List ℕ) (held : statements.Held) (kept : K) : Type 0 where
+  pub reading : StatementHistory
+  pub live : IsLive Keeps limits held kept reading
+  pub count : ℕ
+  pub within : count ≤ length piece
+  pub taken_are : reading.taken ≡ old.taken ++ take count piece
+  pub seen_at : IsSeenAt reading.seen piece count
+
+-- the fault is one of bytes or of the grammar
+abbrev pub IsOfReader : Fault → Type 0
+IsOfReader (faults.Token fault) = Unit {0}
+IsOfReader (faults.Grammar fault) = Unit {0}
+IsOfReader fault = ⊥
+
+-- The statement reader refuses bytes behind so many of the piece: nothing more is kept than of the statements in front, and the statement
+-- that was open is open still
+pub record RefusesBytes {K : Type 0} (Keeps : List Statement → K → Type 0) (limits : Limits) (old : StatementHistory) (piece : List ℕ) (fault : Fault) (next : statements.Held) (kept : K) : Type 0 where
+  pub held : statements.Held
+  pub before : ReadsUpTo Keeps limits old piece held kept
+  pub refuses : statements.RefusesWithin (limits_of held) fault before.reading (drop before.count piece)
+  pub stays : StaysInStatement held next
+
+-- what a refusal of bytes or of the grammar leaves: for each history that is live, where the byte that was seen is offered first
+abbrev pub StepStops : {K : Type 0} → (List Statement → K → Type 0) → Limits → statements.Held → K → List ℕ → Result (Option ℕ) Refusal → statements.Held → K → Type 0
+StepStops Keeps limits held kept piece (Ok answer) next after = Unit {0}
+StepStops Keeps limits held kept piece (Err refusal) next after = IsOfReader refusal.fault → (reading : StatementHistory) → IsLive Keeps limits held kept reading → IsSeenAt reading.seen piece 0 → RefusesBytes Keeps limits reading piece refusal.fault next after
+
+-- the same of a whole piece; and where as much is kept as was asked for, the reading may go on
+abbrev pub ReadStops : {K : Type 0} → (List Statement → K → Type 0) → Limits → statements.Held → K → List ℕ → Result (Unit {0}) Stop → statements.Held → K → Type 0
+ReadStops Keeps limits held kept piece (Ok done) next after = Unit {0}
+ReadStops Keeps limits held kept piece (Err (Refused refusal)) next after = StepStops Keeps limits held kept piece (Err refusal) next after
+ReadStops Keeps limits held kept piece (Err Most) next after = (reading : StatementHistory) → IsLive Keeps limits held kept reading → IsSeenAt reading.seen piece 0 → ReadsUpTo Keeps limits reading piece next after
 
 -- ---- why the reading stops
 

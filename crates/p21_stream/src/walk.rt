@@ -11,7 +11,7 @@ ghost use Rattle.std.specs.Prelude.{◌≡◌, ◌<◌, ◌^◌, [], IfErr, OnOk
 ghost use Rattle.p21_spec_schema.specs.Schema.{Schema as Meant};
 ghost use Rattle.p21_stream_statements.specs.Source.{IsOfBytes};
 ghost use Rattle.p21_stream_statements.specs.StatementReader.{IsLive, limits_of, nothing_read};
-ghost use Rattle.p21_stream.specs.Walk.{EndsNoToken, IsUnderWay, NeedsNoMemory, ReadGives, ReadPlaces, StaysOpen, StepGives, StepPlaces, StopNeedsNoMemory, StopsByBytes, StopsWhere, TakesWithinPiece};
+ghost use Rattle.p21_stream.specs.Walk.{EndsNoToken, IsUnderWay, NeedsNoMemory, ReadGives, ReadPlaces, ReadStops, StaysOpen, StepGives, StepPlaces, StepStops, StopNeedsNoMemory, StopsByBytes, StopsWhere, TakesWithinPiece};
 ghost use Rattle.p21_transcribe_instance.specs.ExternalSet.{AreExternalSets};
 ghost use Rattle.p21_transcribe_instance.specs.Steps.{IsPlanOf};
 
@@ -85,6 +85,7 @@ impl<K: Keeper> Walk<K> {
         ensures no_memory { StopNeedsNoMemory (K.keeps schema.now limits) limits self.old.statements self.old.kept piece.now result }
         ensures kind { IfErr result StopsByBytes }
         ensures place { ReadPlaces (K.keeps schema.now limits) limits self.old.statements self.old.kept piece.now result self.new.statements }
+        ensures stops { ReadStops (K.keeps schema.now limits) limits self.old.statements self.old.kept piece.now result self.new.statements self.new.kept }
         ensures open { OnOk result (K.is_full self.new.kept → ⊥) }
         ensures full { IfErr result (StopsWhere (K.is_full self.new.kept)) }
         ensures stays { K.stays limits self.old.kept self.new.kept }
@@ -149,6 +150,7 @@ impl<K: Keeper> Walk<K> {
         ensures no_token { EndsNoToken (K.keeps schema.now limits) limits self.old.statements self.old.kept piece.now result }
         ensures kind { IfErr result (λ refusal. IsOfBytes refusal.fault) }
         ensures place { StepPlaces (K.keeps schema.now limits) limits self.old.statements self.old.kept piece.now result self.new.statements }
+        ensures stops { StepStops (K.keeps schema.now limits) limits self.old.statements self.old.kept piece.now result self.new.statements self.new.kept }
         ensures open { StaysOpen (K.is_full self.new.kept) result }
         ensures stays { K.stays limits self.old.kept self.new.kept }
         ensures limits { limits_of self.new.statements ≡ limits_of self.old.statements }
@@ -185,6 +187,7 @@ impl<K: Keeper> Walk<K> {
         ensures no_token { EndsNoToken (K.keeps schema.now limits) limits self.old.statements self.old.kept piece.now result }
         ensures kind { IfErr result (λ refusal. IsOfBytes refusal.fault) }
         ensures place { StepPlaces (K.keeps schema.now limits) limits self.old.statements self.old.kept piece.now result self.new.statements }
+        ensures stops { StepStops (K.keeps schema.now limits) limits self.old.statements self.old.kept piece.now result self.new.statements self.new.kept }
         ensures open { StaysOpen (K.is_full self.new.kept) result }
         ensures stays { K.stays limits self.old.kept self.new.kept }
         ensures limits { limits_of self.new.statements ≡ limits_of self.old.statements }

@@ -2,8 +2,6 @@ mod Prefixes
 mod Lengths
 mod Known
 pub mod SectionNames
-pub mod Refusing
-pub mod Finishing
 pub mod Pieces
 pub mod Within
 pub mod Adding

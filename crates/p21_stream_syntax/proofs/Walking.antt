@@ -21,24 +21,25 @@ use Rattle.p21_spec_laws.specs.Taken.{AreStatementsTaken, headings_among, instan
 use Rattle.p21_spec_syntax.proofs.IllFormed.{missing-target}
 use Rattle.p21_spec_syntax.proofs.NoFiles.{no_file-begins, no_file-ill_formed}
 use Rattle.p21_spec_syntax.specs.WellFormedFile.{BeginsIllFormed, IsWellFormedFile, names_of, references_of}
+use Rattle.p21_stream_statements.proofs.Pieces.{looked-within, seen-first, within-on}
+use Rattle.p21_stream_statements.proofs.Refusing.{begins-no_file}
 use Rattle.p21_stream_statements.proofs.Stepping.{taken-looked}
 use Rattle.p21_stream_statements.specs.declared.fault.Fault.{Fault}
 use Rattle.p21_stream_statements.specs.declared.refusal.Refusal.{Refusal}
+use Rattle.p21_stream_statements.specs.StatementReader as statements
 use Rattle.p21_stream_statements.specs.StatementReader.{AreWholeStatements, Held, StatementHistory, bytes_looked_at, limits_of}
-use Rattle.p21_stream_syntax.proofs.Pieces.{looked-within, seen-first, within-on}
 use Rattle.p21_stream_syntax.proofs.Within.{given-few, source-within, statements-within}
 use Rattle.p21_stream_syntax.specs.Given.{AreInstances, IsOfSchema, Keeps, Kept, Takes}
-use Rattle.p21_stream_syntax.specs.StatementReader as reader
 use Rattle.p21_stream_syntax.specs.Walk.{FinishGives, HasTaken, IsUnderWay, ReadGives, StepGives}
 use Rattle.p21_syntax_words.specs.KeywordCounts.{AreCounts, keywords_of}
 use Rattle.p21_stream_syntax.specs.declared.well_formed.WellFormed.{WellFormed}
 
 -- ---- a step
 
-pub step-piece : (limits : Limits) (held next : Held) (kept : Kept) (piece : List ℕ) → reader.StepGives held piece (Ok None) next → limits_of next ≡ limits_of held → StepGives limits held kept piece (Ok None) next kept
+pub step-piece : (limits : Limits) (held next : Held) (kept : Kept) (piece : List ℕ) → statements.StepGives held piece (Ok None) next → limits_of next ≡ limits_of held → StepGives limits held kept piece (Ok None) next kept
 step-piece limits held next kept piece gives same reading live at = (reading.given, record { reads = gives reading live.reads at; limits_are = same ∙ live.limits_are; keeps = live.keeps })
 
-pub step-token : (limits : Limits) (held next : Held) (kept : Kept) (piece : List ℕ) (count : ℕ) → reader.StepGives held piece (Ok (Some (count, None))) next → limits_of next ≡ limits_of held → StepGives limits held kept piece (Ok (Some count)) next kept
+pub step-token : (limits : Limits) (held next : Held) (kept : Kept) (piece : List ℕ) (count : ℕ) → statements.StepGives held piece (Ok (Some (count, None))) next → limits_of next ≡ limits_of held → StepGives limits held kept piece (Ok (Some count)) next kept
 step-token limits held next kept piece count gives same reading live at =
     let goes = gives reading live.reads at in
     let more = goes.one_more in
@@ -50,7 +51,7 @@ step-token limits held next kept piece count gives same reading live at =
       more = omega (arith, more);
     }
 
-pub step-statement : (limits : Limits) (held next : Held) (kept after : Kept) (piece : List ℕ) (count : ℕ) (event : Event) → reader.StepGives held piece (Ok (Some (count, Some event))) next → limits_of next ≡ limits_of held → Takes kept (statement_of event) (Ok tt) after → StepGives limits held kept piece (Ok (Some count)) next after
+pub step-statement : (limits : Limits) (held next : Held) (kept after : Kept) (piece : List ℕ) (count : ℕ) (event : Event) → statements.StepGives held piece (Ok (Some (count, Some event))) next → limits_of next ≡ limits_of held → Takes kept (statement_of event) (Ok tt) after → StepGives limits held kept piece (Ok (Some count)) next after
 step-statement limits held next kept after piece count event gives same takes reading live at =
     let goes = gives reading live.reads at in
     let more = goes.one_more in
@@ -62,17 +63,17 @@ step-statement limits held next kept after piece count event gives same takes re
       more = omega (arith, more);
     }
 
-pub step-refused : (limits : Limits) (held next last : Held) (kept after : Kept) (piece : List ℕ) (refusal : Refusal) (fault : Fault) → refusal.fault ≡ fault → reader.StepGives held piece (Err fault) next → StepGives limits held kept piece (Err refusal) last after
+pub step-refused : (limits : Limits) (held next last : Held) (kept after : Kept) (piece : List ℕ) (refusal : Refusal) (fault : Fault) → refusal.fault ≡ fault → statements.StepGives held piece (Err fault) next → StepGives limits held kept piece (Err refusal) last after
 step-refused limits held next last kept after piece refusal fault is gives other reading live at =
     let r = gives (λ none. other (is ∙ none)) reading live.reads at in
     record {
       upto = r.count;
       within = r.within;
-      ill_formed = no_file-begins limits (reading.taken ++ take r.count piece) (r.begins_none limits (sym (ap (λ p. p.0) live.limits_are)) (sym (ap (λ p. p.1) live.limits_are)));
+      ill_formed = no_file-begins limits (reading.taken ++ take r.count piece) (begins-no_file (limits_of held) (reading.taken ++ take r.count piece) limits (sym (ap (λ p. p.0) live.limits_are)) (sym (ap (λ p. p.1) live.limits_are)) fault r.begins_none);
     }
 
 -- a statement with which no well-formed file begins
-pub step-ends : (limits : Limits) (held next last : Held) (kept after end : Kept) (piece : List ℕ) (count : ℕ) (event : Event) (refusal : Refusal) (fault : Fault) → refusal.fault ≡ fault → reader.StepGives held piece (Ok (Some (count, Some event))) next → count ≤ length piece
+pub step-ends : (limits : Limits) (held next last : Held) (kept after end : Kept) (piece : List ℕ) (count : ℕ) (event : Event) (refusal : Refusal) (fault : Fault) → refusal.fault ≡ fault → statements.StepGives held piece (Ok (Some (count, Some event))) next → count ≤ length piece
     → Takes kept (statement_of event) (Err fault) after → StepGives limits held kept piece (Err refusal) last end
 step-ends limits held next last kept after end piece count event refusal fault is gives within takes other reading live at =
     let goes = gives reading live.reads at in
@@ -148,7 +149,7 @@ names-schema : (schema : List ℕ) (h : Heading) → IsOfSchema schema h → Hea
 names-schema schema unnamed of = tt
 names-schema schema (named name text) of = of.1
 
-pub found-whole : (held : Held) (kept : Kept) (found : WellFormed) → reader.FinishGives held (Ok tt) → Each (Contains kept.names) kept.targets → found.instances ≡ length kept.names → found.schema.items ≡ kept.schema → part_views found.header.items ≡ kept.header → found.keywords ≡ kept.counts → FinishGives held kept (Ok found)
+pub found-whole : (held : Held) (kept : Kept) (found : WellFormed) → statements.FinishGives held (Ok tt) → Each (Contains kept.names) kept.targets → found.instances ≡ length kept.names → found.schema.items ≡ kept.schema → part_views found.header.items ≡ kept.header → found.keywords ≡ kept.counts → FinishGives held kept (Ok found)
 found-whole held kept found ends given_all counted schema_is header_is counts_are limits bytes (given, live) =
     let w : AreWholeStatements bytes given = ends (between bytes given) live.reads refl in
     let t : Structure = w.whole.structure in
@@ -185,10 +186,10 @@ found-whole held kept found ends given_all counted schema_is header_is counts_ar
       keywords_are = subst (AreCounts (keywords_of (instances_in t.sections))) (sym counts_are) (subst (λ (is : List (ℕ × Record)). AreCounts (keywords_of is) kept.counts) instances live.keeps.keywords);
     }
 
-pub finish-refused : (held : Held) (kept : Kept) (fault : Fault) (refusal : Refusal) → refusal.fault ≡ fault → reader.FinishGives held (Err fault) → FinishGives held kept (Err refusal)
+pub finish-refused : (held : Held) (kept : Kept) (fault : Fault) (refusal : Refusal) → refusal.fault ≡ fault → statements.FinishGives held (Err fault) → FinishGives held kept (Err refusal)
 finish-refused held kept fault refusal is gives other limits bytes (given, live) = no_file-ill_formed limits bytes (gives (λ none. other (is ∙ none)) (between bytes given) live.reads refl)
 
-pub finish-missing : (held : Held) (kept : Kept) (refusal : Refusal) → reader.FinishGives held (Ok tt) → (target : ℕ) × Contains kept.targets target × ¬ Contains kept.names target → FinishGives held kept (Err refusal)
+pub finish-missing : (held : Held) (kept : Kept) (refusal : Refusal) → statements.FinishGives held (Ok tt) → (target : ℕ) × Contains kept.targets target × ¬ Contains kept.names target → FinishGives held kept (Err refusal)
 finish-missing held kept refusal ends (target, waits, none) other limits bytes (given, live) =
     let w : AreWholeStatements bytes given = ends (between bytes given) live.reads refl in
     let are = live.keeps.instances in

@@ -1,7 +1,6 @@
 pub mod Prefix
 pub mod Shape
 pub mod Sections
-pub mod StatementReader
 pub mod Waiting
 pub mod Given
 pub mod Walk

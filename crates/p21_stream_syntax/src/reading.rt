@@ -6,10 +6,11 @@ ghost use Rattle.p21_spec_syntax.specs.WellFormedFile.{IsIllFormed};
 ghost use Rattle.p21_stream_syntax.specs.Walk.{IsFoundOf};
 ghost use Rattle.p21_stream_syntax.specs.Reading.{IsReadFrom, IsReadToEnd, IsWellFormedInput, PieceGives, ReadsMore, RefusesMore, RefusesSyntax, TakesAtMost, WalkHasTaken, read_failures};
 
+use crate::ill_formed::IllFormed;
 use crate::walk::{Walk, refused};
 use crate::well_formed::WellFormed;
 use p21_stream_io::{Watched, read_piece};
-use p21_stream_statements::{Fault, Refusal};
+use p21_stream_statements::{Fault, Place, Refusal};
 use p21_values::Limits;
 use std::alloc::Global;
 use std::io::Read;
@@ -32,19 +33,48 @@ pub fn syntax<R: Read>(
     ensures ok { IfOk result (λ found. IsWellFormedInput limits (R.remaining reader.old.inner) (R.remaining reader.new.inner) found) }
     ensures err { IfErr result (λ refusal. RefusesSyntax limits (R.remaining reader.old.inner) (R.remaining reader.new.inner) refusal.fault) }
     ensures consumed { TakesAtMost (limits.file_source + 1) (R.remaining reader.old.inner) (R.remaining reader.new.inner) }
-
     ensures moved { reader.new.moved ≤ reader.old.moved + (limits.file_source + 1) }
     ensures read { OnOk result (reader.new.failures ≡ reader.old.failures) }
     ensures failed { IfErr result (λ refusal. reader.new.failures ≡ read_failures reader.old.failures refusal.fault) }
 {
+    match syntax_located(alloc, limits, reader) {
+        Ok(found) => Ok(found),
+        Err(ill_formed) => Err(ill_formed.refusal),
+    }
+}
+
+/// As `syntax`, with where a refusal stands.
+///
+/// # Errors
+///
+/// Those of `syntax`.
+pub fn syntax_located<R: Read>(
+    alloc: Global,
+    limits: Limits,
+    reader: &mut Watched<R>,
+) -> Result<WellFormed, IllFormed>
+    ensures ok { IfOk result (λ found. IsWellFormedInput limits (R.remaining reader.old.inner) (R.remaining reader.new.inner) found) }
+    ensures err { IfErr result (λ ill_formed. RefusesSyntax limits (R.remaining reader.old.inner) (R.remaining reader.new.inner) ill_formed.refusal.fault) }
+    ensures consumed { TakesAtMost (limits.file_source + 1) (R.remaining reader.old.inner) (R.remaining reader.new.inner) }
+    ensures moved { reader.new.moved ≤ reader.old.moved + (limits.file_source + 1) }
+    ensures read { OnOk result (reader.new.failures ≡ reader.old.failures) }
+    ensures failed { IfErr result (λ ill_formed. reader.new.failures ≡ read_failures reader.old.failures ill_formed.refusal.fault) }
+{
     let mut walk = Walk::new(alloc, limits);
     match read_all(&mut walk, limits, reader) {
         Ok(()) => {}
-        Err(refusal) => return Err(refusal),
+        Err(refusal) => {
+            let place = walk.place(alloc, refusal.fault, refusal.at);
+            return Err(IllFormed { refusal, place });
+        }
     }
+    let places = walk.places();
     match walk.finish() {
         Ok(found) => Ok(found),
-        Err(refusal) => Err(refusal),
+        Err(refusal) => {
+            let place = Place::of(refusal.fault, places);
+            Err(IllFormed { refusal, place })
+        }
     }
 }
 
@@ -58,14 +88,41 @@ pub fn syntax_of(alloc: Global, limits: Limits, file: &[u8]) -> Result<WellForme
     ensures err { IfErr result (λ refusal. refusal.fault ≢ Fault.NoMemory → IsIllFormed limits file.now) }
     ensures kind { IfErr result (λ refusal. IsOfBytes refusal.fault) }
 {
+    match syntax_of_located(alloc, limits, file) {
+        Ok(found) => Ok(found),
+        Err(ill_formed) => Err(ill_formed.refusal),
+    }
+}
+
+/// As `syntax_of`, with where a refusal stands.
+///
+/// # Errors
+///
+/// Those of `syntax_of`.
+pub fn syntax_of_located(
+    alloc: Global,
+    limits: Limits,
+    file: &[u8],
+) -> Result<WellFormed, IllFormed>
+    ensures ok { IfOk result (λ found. IsFoundOf limits file.now found) }
+    ensures err { IfErr result (λ ill_formed. ill_formed.refusal.fault ≢ Fault.NoMemory → IsIllFormed limits file.now) }
+    ensures kind { IfErr result (λ ill_formed. IsOfBytes ill_formed.refusal.fault) }
+{
     let mut walk = Walk::new(alloc, limits);
     match walk.read(file) {
         Ok(()) => {}
-        Err(refusal) => return Err(refusal),
+        Err(refusal) => {
+            let place = walk.place(alloc, refusal.fault, refusal.at);
+            return Err(IllFormed { refusal, place });
+        }
     }
+    let places = walk.places();
     match walk.finish() {
         Ok(found) => Ok(found),
-        Err(refusal) => Err(refusal),
+        Err(refusal) => {
+            let place = Place::of(refusal.fault, places);
+            Err(IllFormed { refusal, place })
+        }
     }
 }
 
@@ -80,7 +137,6 @@ fn read_all<R: Read>(
     ensures ok { OnOk result (IsReadToEnd limits (R.remaining reader.old.inner) (R.remaining reader.new.inner) walk.new) }
     ensures err { IfErr result (λ refusal. RefusesSyntax limits (R.remaining reader.old.inner) (R.remaining reader.new.inner) refusal.fault) }
     ensures consumed { TakesAtMost (limits.file_source + 1) (R.remaining reader.old.inner) (R.remaining reader.new.inner) }
-
     ensures moved { reader.new.moved ≤ reader.old.moved + (limits.file_source + 1) }
     ensures read { OnOk result (reader.new.failures ≡ reader.old.failures) }
     ensures failed { IfErr result (λ refusal. reader.new.failures ≡ read_failures reader.old.failures refusal.fault) }
@@ -113,7 +169,6 @@ fn read_more<R: Read>(
     ensures ok { IfOk result (ReadsMore limits (R.remaining reader.old.inner) (R.remaining reader.new.inner) walk.old walk.new) }
     ensures err { IfErr result (λ refusal. RefusesMore limits (R.remaining reader.old.inner) (R.remaining reader.new.inner) walk.old refusal.fault) }
     ensures consumed { TakesAtMost (left + 1) (R.remaining reader.old.inner) (R.remaining reader.new.inner) }
-
     ensures moved { IfOk result (λ count. reader.new.moved ≤ reader.old.moved + count) }
     ensures moved_once { reader.new.moved ≤ reader.old.moved + 1 }
     ensures read { OnOk result (reader.new.failures ≡ reader.old.failures) }

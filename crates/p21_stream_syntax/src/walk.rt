@@ -7,10 +7,9 @@ ghost use Rattle.p21_stream_syntax.specs.Walk.{FinishGives, IsUnderWay, ReadGive
 ghost use Rattle.p21_spec_basics.specs.Limits.{Limits as MeantLimits};
 
 use crate::given::Given;
-use crate::statement_reader::StatementReader;
 use crate::well_formed::WellFormed;
 use p21_grammar::Event;
-use p21_stream_statements::{At, Fault, Refusal};
+use p21_stream_statements::{At, Fault, Place, Places, Refusal, Source, StatementReader};
 use p21_values::{Limits, Name};
 use std::alloc::Global;
 
@@ -21,6 +20,8 @@ pub(crate) struct Walk {
     pub(crate) given: Given,
     // The number of the open statement, counted from 1.
     pub(crate) statement: u64,
+    // The bytes of the open statement that stand in front of the next piece, or those of the refused one.
+    source: Source,
 }
 
 impl Walk {
@@ -37,6 +38,7 @@ impl Walk {
             statements: StatementReader::new(alloc, limits),
             given: Given::new(alloc),
             statement: 1,
+            source: Source::new(alloc),
         }
     }
 
@@ -56,14 +58,32 @@ impl Walk {
         loop {
             let taken = match self.step(rest) {
                 Ok(taken) => taken,
-                Err(refusal) => return Err(refusal),
+                Err(refusal) => {
+                    self.source.take(piece, self.statements.places());
+                    return Err(refusal);
+                }
             };
             let Some(count) = taken else {
+                let is_open = self.statements.pending() > 0;
+                self.source.pass(piece, self.statements.places(), is_open);
                 return Ok(());
             };
             rest = &rest[count..];
             rounds += 1;
         }
+    }
+
+    /// Where a refusal stands that `read` answered last, if it has a place.
+    pub(crate) fn place(&self, alloc: Global, fault: Fault, at: At) -> Option<Place> {
+        match self.source.place_of(alloc, Refusal { fault, at }, &[]) {
+            Some(inside) => Some(inside),
+            None => Place::of(fault, self.statements.places()),
+        }
+    }
+
+    /// Where it stands in the file: by `Place::of` it says where a refusal of `finish` stands. It takes no memory.
+    pub(crate) fn places(&self) -> Places {
+        self.statements.places()
     }
 
     /// Reads the bytes of one token, or the rest of a piece in which none is whole; says how many bytes where it was a
@@ -110,6 +130,7 @@ impl Walk {
             statements,
             given,
             statement,
+            source: _,
         } = self;
         match statements.finish() {
             Ok(()) => {}

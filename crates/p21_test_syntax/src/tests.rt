@@ -1,10 +1,14 @@
 //! What comes of files that are read by themselves.
 use p21_stream_io::Watched;
-use p21_stream_statements::{At, Refusal};
-use p21_stream_syntax::{WellFormed, syntax, syntax_of};
+use p21_stream_statements::{At, Place, Refusal};
+use p21_stream_syntax::{
+    IllFormed, WellFormed, syntax, syntax_located, syntax_of, syntax_of_located,
+};
 use p21_syntax_words::header_words;
 use p21_values::{Limits, Name, NoMemory};
 use std::alloc::Global;
+use std::io;
+use std::io::Read;
 
 /// The records of a header in front of the third.
 const NAMES: &str =
@@ -207,6 +211,83 @@ fn first_wrong(alloc: Global, rows: &[Row]) -> Option<usize> {
     rows.iter().position(|row| !comes_of(alloc, *row))
 }
 
+/// What stands behind the names of a file, up to its end, and how many bytes stand in front of what is refused: none where nothing is, and
+/// of a reference. The names have 85 bytes.
+type Placed = (&'static str, Option<u64>);
+
+const PLACED: &[Placed] = &[
+    ("FILE_SCHEMA(('S'));ENDSEC;DATA;#1=A();", None),
+    ("FILE_SCHEMA((''));ENDSEC;DATA;", Some(98)),
+    ("FILE_SCHEMA(($));ENDSEC;DATA;", Some(97)),
+    ("FILE_SCHEMA(('S'));ENDSEC;DATA('a',('T'));", Some(121)),
+    (
+        "FILE_SCHEMA(('S'));ENDSEC;DATA('a',('S'));ENDSEC;DATA('a',('S'));",
+        Some(139),
+    ),
+    (
+        "FILE_SCHEMA(('S'));ENDSEC;DATA;#1=A($);#2=B(#1);#01=A($);",
+        Some(133),
+    ),
+    ("FILE_SCHEMA(('S'));ENDSEC;DATA;#1=A(\"3\");", Some(123)),
+    ("FILE_SCHEMA(('S'));ENDSEC;DATA;#1=A(#2);", None),
+];
+
+/// A reader that gives a few bytes at once.
+#[derive(Clone, Copy)]
+struct Slow<'a> {
+    bytes: &'a [u8],
+    most: usize,
+}
+
+impl Read for Slow<'_> {
+    fn read(&mut self, buf: &mut [u8]) -> io::Result<usize> {
+        let count = buf.len().min(self.most).min(self.bytes.len());
+        buf[..count].copy_from_slice(&self.bytes[..count]);
+        self.bytes = &self.bytes[count..];
+        Ok(count)
+    }
+}
+
+/// Where a file is refused.
+fn place_in(answer: Result<WellFormed, IllFormed>) -> Option<u64> {
+    match answer {
+        Ok(_found) => None,
+        Err(ill_formed) => byte_of(ill_formed.place),
+    }
+}
+
+/// The byte of a place.
+fn byte_of(place: Option<Place>) -> Option<u64> {
+    match place {
+        Some(place) => Some(place.byte),
+        None => None,
+    }
+}
+
+/// Whether a file is refused there, in memory and from readers that give it in pieces.
+fn is_placed(alloc: Global, row: Placed) -> bool {
+    let (text, wanted) = row;
+    let Ok(file) = format!(in alloc; "{NAMES}{text}{BACK}") else {
+        return false;
+    };
+    let limits = Limits::usual();
+    for most in [1, 7, 10_000] {
+        let mut reader = Watched::new(Slow {
+            bytes: file.as_bytes(),
+            most,
+        });
+        if place_in(syntax_located(alloc, limits, &mut reader)) != wanted {
+            return false;
+        }
+    }
+    place_in(syntax_of_located(alloc, limits, file.as_bytes())) == wanted
+}
+
+/// The number of the first file that is refused elsewhere.
+fn first_elsewhere(alloc: Global, rows: &[Placed]) -> Option<usize> {
+    rows.iter().position(|row| !is_placed(alloc, *row))
+}
+
 /// Records of a header in front of FILE_SCHEMA and behind it, instances, the header in words, and the keywords with their counts.
 type Told = (
     &'static str,
@@ -274,4 +355,9 @@ fn tells_what_files_say_of_themselves(rt: HostRuntime) {
 #[test]
 fn reads_files_by_themselves(rt: HostRuntime) {
     assert_eq!(rt; first_wrong(rt.alloc(), ROWS), None);
+}
+
+#[test]
+fn located(rt: HostRuntime) {
+    assert_eq!(rt; first_elsewhere(rt.alloc(), PLACED), None);
 }

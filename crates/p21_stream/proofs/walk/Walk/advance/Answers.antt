@@ -3,8 +3,8 @@ use Rattle.p21_stream_statements.proofs.Placing.{statement-placed}
 use Rattle.p21_stream_statements.proofs.Sources.{statement-of_bytes}
 use Rattle.p21_stream_statements.specs.Place.{place_behind}
 use Rattle.p21_stream_statements.specs.StatementReader.{limits_of}
-use Rattle.p21_stream.proofs.Walking.{as-before}
-use Rattle.p21_stream.specs.Walk.{EndsNoToken, IsUnderWay, NeedsNoMemory, PassGives, StepGives, StepPlaces, TakesWithinPiece}
+use Rattle.p21_stream.proofs.Walking.{as-before, none-of_reader}
+use Rattle.p21_stream.specs.Walk.{EndsNoToken, IsUnderWay, NeedsNoMemory, PassGives, StepGives, StepPlaces, StepStops, TakesWithinPiece}
 use Rattle.p21_transcribe_instance.specs.ExternalSet.{AreExternalSets}
 use Rattle.p21_transcribe_instance.specs.Steps.{IsPlanOf}
 use Rattle.p21_stream.proofs.walk.Walk.advance.Goals as goal
@@ -98,3 +98,16 @@ returns-clause-place g c =
     let same : (new.statements ≡ old.statements) × (new.kept ≡ old.kept) =
     subst (λ (o : Option ℕ). PassGives c.args.schema.now c.args.limits keeps left old.statements old.kept c.args.piece.now (Ok o) new.statements new.kept) c.in_default.is c.in-Ok.ensures.gives in
     as-before (λ h k. StepPlaces keeps c.args.limits h k c.args.piece.now c.step.result c.step.new.self.statements) old.statements new.statements old.kept new.kept same.0 same.1 c.step.ensures.place
+
+pub returns-in-Err-clause-stops : goal.returns-in-Err-clause-stops
+returns-in-Err-clause-stops g c of reading live at = absurd (none-of_reader c.in-Err.refusal.fault c.in-Err.ensures.kind of)
+
+pub returns-clause-stops : goal.returns-clause-stops
+returns-clause-stops g c =
+    let keeps = g.K.Keeper.keeps c.args.schema.now c.args.limits in
+    let left = g.K.Keeper.left c.args.schema.now c.args.limits in
+    let old = c.args.self.now in
+    let new = c.pass_instances.new.self in
+    let same : (new.statements ≡ old.statements) × (new.kept ≡ old.kept) =
+    subst (λ (o : Option ℕ). PassGives c.args.schema.now c.args.limits keeps left old.statements old.kept c.args.piece.now (Ok o) new.statements new.kept) c.in_default.is c.in-Ok.ensures.gives in
+    as-before (λ h k. StepStops keeps c.args.limits h k c.args.piece.now c.step.result c.step.new.self.statements c.step.new.self.kept) old.statements new.statements old.kept new.kept same.0 same.1 c.step.ensures.stops

@@ -1,6 +1,6 @@
 use Rattle.std.proofs.Common.{◌+◌, ℕ, List, Ok, Err, Option, arith, sym, subst}
 use Rattle.std.proofs.lemmas.List.{take_rest}
-use Rattle.p21_stream.proofs.Walking.{IsRest, rest-enough, rest-first, rest-on, rounds-few}
+use Rattle.p21_stream.proofs.Walking.{IsRest, enough-stops, rest-enough, rest-first, rest-on, rounds-few}
 use Rattle.p21_stream.specs.Walk.{EndsNoToken, StaysOpen, StepGives, TakesWithinPiece}
 use Rattle.p21_stream.specs.declared.keeper.Stop.TheVariants.{Most, Refused}
 use Rattle.p21_stream.proofs.walk.Walk.read.Goals as goal
@@ -10,6 +10,16 @@ returns-in-Err-clause-gives g c = c.loop-rest.invariant.rest.gives (Err (Refused
 
 pub returns-in-Err-clause-place : goal.returns-in-Err-clause-place
 returns-in-Err-clause-place g c = c.loop-rest.invariant.rest.places c.in-Err.refusal c.advance.new.self.statements c.in-Err.ensures.place
+
+pub returns-in-Err-clause-stops : goal.returns-in-Err-clause-stops
+returns-in-Err-clause-stops g c = c.loop-rest.invariant.rest.stops (Err (Refused c.in-Err.refusal)) c.advance.new.self.statements c.advance.new.self.kept c.in-Err.ensures.stops
+
+pub returns-then-has_enough-clause-stops : goal.returns-then-has_enough-clause-stops
+returns-then-has_enough-clause-stops g c =
+    let keeps = g.K.Keeper.keeps c.args.schema.now c.args.limits in
+    let left = g.K.Keeper.left c.args.schema.now c.args.limits in
+    c.loop-rest.invariant.rest.stops (Err Most) c.loop-rest.self.statements c.loop-rest.self.kept
+    (enough-stops c.args.schema.now c.args.limits keeps left c.loop-rest.self.statements c.loop-rest.self.kept c.loop-rest.rest.now)
 
 pub returns-in-Err-clause-no_memory : goal.returns-in-Err-clause-no_memory
 returns-in-Err-clause-no_memory g c = c.loop-rest.invariant.rest.quiet c.in-Err.refusal c.in-Err.ensures.no_memory

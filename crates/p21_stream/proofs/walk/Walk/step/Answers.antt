@@ -6,7 +6,7 @@ use Rattle.p21_stream_statements.specs.Place.{HasPlace, place_behind}
 use Rattle.p21_stream_statements.specs.Source.{IsOfBytes, IsOfStatement}
 use Rattle.p21_stream_statements.specs.StatementReader as statements
 use Rattle.p21_stream_statements.specs.StatementReader.{limits_of}
-use Rattle.p21_stream.proofs.Walking.{statement-follows, step-ends, step-piece, step-quiet, step-refused, step-statement, step-token, token-none, token-quiet}
+use Rattle.p21_stream.proofs.Walking.{none-of_reader, statement-follows, step-ends, step-piece, step-quiet, step-refused, step-statement, step-stops, step-token, token-none, token-quiet}
 use Rattle.p21_stream.proofs.walk.Walk.step.Goals as goal
 
 pub returns-in-Err-clause-gives : goal.returns-in-Err-clause-gives
@@ -100,3 +100,13 @@ returns-in-Err-take-clause-place g c reading live at =
 
 pub returns-in-Err-take-clause-kind : goal.returns-in-Err-take-clause-kind
 returns-in-Err-take-clause-kind g c = subst IsOfBytes (sym c.refused-in-Err-take.ensures) (statement-of_bytes c.in-Err-take.fault c.in-Err-take.ensures.kind)
+
+pub returns-in-Err-clause-stops : goal.returns-in-Err-clause-stops
+returns-in-Err-clause-stops g c =
+    let keeps = g.K.Keeper.keeps c.args.schema.now c.args.limits in
+    let left = g.K.Keeper.left c.args.schema.now c.args.limits in
+    step-stops c.args.schema.now c.args.limits keeps left c.args.self.now.statements c.step.new.self c.args.self.now.kept c.args.piece.now c.refused.result c.in-Err.fault c.refused.ensures c.in-Err.ensures.gives c.in-Err.ensures.begins
+
+pub returns-in-Err-take-clause-stops : goal.returns-in-Err-take-clause-stops
+returns-in-Err-take-clause-stops g c of reading live at =
+    absurd (none-of_reader c.refused-in-Err-take.result.fault (subst IsOfStatement (sym c.refused-in-Err-take.ensures) c.in-Err-take.ensures.kind) of)

@@ -9,6 +9,6 @@ returns-in-Err-clause-gives c = finish-refused c.args.self.statements (kept_of c
 pub returns-in-Some-clause-gives : goal.returns-in-Some-clause-gives
 returns-in-Some-clause-gives c = finish-missing c.args.self.statements (kept_of c.args.self.given) c.refused-in-Some.result c.in-Ok.ensures.gives c.in-Some.ensures.some
 
-pub returns-in-None-clause-gives : goal.returns-in-None-clause-gives
-returns-in-None-clause-gives c =
+pub returns-clause-gives : goal.returns-clause-gives
+returns-clause-gives c =
     found-whole c.args.self.statements (kept_of c.args.self.given) c.into_well_formed.result c.in-Ok.ensures.gives (c.in-None.ensures.none refl) c.into_well_formed.ensures.instances c.into_well_formed.ensures.schema c.into_well_formed.ensures.header c.into_well_formed.ensures.keywords

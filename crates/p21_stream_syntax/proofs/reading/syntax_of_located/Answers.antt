@@ -1,6 +1,6 @@
 use Rattle.std.proofs.Common.{[]}
 use Rattle.p21_stream_syntax.proofs.Feeding.{nothing-taken, text-refused, text-taken, way-between}
-use Rattle.p21_stream_syntax.proofs.reading.syntax_of.Goals as goal
+use Rattle.p21_stream_syntax.proofs.reading.syntax_of_located.Goals as goal
 
 pub read-requires : goal.read-requires
 read-requires c =

@@ -1,5 +1,5 @@
 use Rattle.p21_stream_syntax.proofs.Feeding.{end-found, end-refused, nothing-read}
-use Rattle.p21_stream_syntax.proofs.reading.syntax.Goals as goal
+use Rattle.p21_stream_syntax.proofs.reading.syntax_located.Goals as goal
 
 pub read_all-requires-clause-new : goal.read_all-requires-clause-new
 read_all-requires-clause-new g c = nothing-read c.args.limits (g.R.Read.remaining c.args.reader.now.inner) c.new-walk.result c.new-walk.ensures.live c.new-walk.ensures.limits c.new-walk.ensures.kept
