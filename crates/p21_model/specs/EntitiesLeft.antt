@@ -1,5 +1,5 @@
 -- What is left of the entity set of an instance.
-use Rattle.std.specs.Prelude.{◌≡◌, ◌↔◌, ℕ, List, [], ◌∷◌, ◌++◌, Option, Some, None, Contains}
+use Rattle.std.specs.Prelude.{◌≡◌, ◌↔◌, ◌+◌, ℕ, List, [], ◌∷◌, ◌++◌, Option, Some, None, Contains, length}
 use Rattle.p21_express_graph.specs.Orders.{numbers}
 use Rattle.p21_express_graph.specs.declared.number.EntityId.{EntityId}
 use Rattle.p21_model.specs.declared.entities.Entities.{Entities}
@@ -41,6 +41,10 @@ TellsEntities a entities = AreLeftEntities a.schema.now (numbers a.owners.now) a
 -- the schema that declares them
 abbrev pub set_schema : Entities → Schema
 set_schema a = a.schema.now
+
+-- the entities in front of the next value, and the bytes from it on
+abbrev pub entities_size : Entities → ℕ
+entities_size a = length a.owners.now + length a.values.rest.now
 
 -- the next of them is handed out, and the others are left
 abbrev pub HandsOutEntity : List ℕ → Option EntityId → Entities → Type 0

@@ -1,10 +1,10 @@
 //! The entity set of an instance.
-ghost use Rattle.std.specs.Prelude.{◌≡◌, ◌<◌, ◌∷◌, [], ℕ, List, length, IfSome, IsNone, MatchOption};
+ghost use Rattle.std.specs.Prelude.{◌≡◌, ◌≤◌, ◌<◌, ◌∷◌, [], ℕ, List, length, IfSome, IsNone, MatchOption};
 ghost use Rattle.p21_spec_exchange.specs.Parameter.{Params};
 ghost use Rattle.p21_spec_exchange.specs.Record.{Part, Record};
 ghost use Rattle.p21_spec_schema.specs.Order.{order};
 ghost use Rattle.p21_express_graph.specs.Orders.{numbers};
-ghost use Rattle.p21_model.specs.EntitiesLeft.{AreEntitiesOf, ArePartEntities, HandsOutEntity, TellsEntities, set_schema};
+ghost use Rattle.p21_model.specs.EntitiesLeft.{AreEntitiesOf, ArePartEntities, HandsOutEntity, TellsEntities, entities_size, set_schema};
 ghost use Rattle.p21_model.specs.Left.{AreLeftParts, IsRecordText, NoKeywordFirst};
 ghost use Rattle.p21_model_values.specs.Written.{AreLeft};
 ghost use Rattle.p21_spec_file.specs.Meaning.{NamesEntity};
@@ -73,6 +73,7 @@ impl<'a> Entities<'a> {
     fn of_part(schema: &'a Schema, bytes: &'a [u8]) -> Option<Entities<'a>>
         ensures schema { IfSome result (λ found. set_schema found ≡ schema.now) }
         ensures shorter { IfSome result (λ found. length found.values.rest.now < length bytes.now) }
+        ensures few { IfSome result (λ found. length found.owners.now ≤ 1) }
         ensures some { (part : Part) (parts : List Part) (end : List ℕ) (entities : List ℕ) → AreLeftParts (part ∷ parts) end bytes.now →
             ArePartEntities schema.now (part ∷ parts) entities → MatchOption result ⊥ (λ found. TellsEntities found entities) }
         ensures none { NoKeywordFirst bytes.now → IsNone result }
@@ -91,6 +92,7 @@ impl<'a> Entities<'a> {
     pub fn next(&mut self) -> Option<EntityId>
         ensures handed { (entities : List ℕ) → TellsEntities self.old entities → HandsOutEntity entities result self.new }
         ensures schema { set_schema self.new ≡ set_schema self.old }
+        ensures shorter { IfSome result (λ entity. entities_size self.new < entities_size self.old) }
     {
         while self.owners.is_empty() {
             match self.behind_part() {
@@ -109,6 +111,7 @@ impl<'a> Entities<'a> {
     fn behind_part(&self) -> Option<Entities<'a>>
         ensures schema { IfSome result (λ found. set_schema found ≡ set_schema self.now) }
         ensures shorter { IfSome result (λ found. length found.values.rest.now < length self.now.values.rest.now) }
+        ensures few { IfSome result (λ found. length found.owners.now ≤ 1) }
         ensures told { (entities : List ℕ) → TellsEntities self.now entities → numbers self.now.owners.now ≡ [] → MatchOption result
             (entities ≡ []) (λ found. TellsEntities found entities) }
     {

@@ -2,8 +2,8 @@
 ghost use Rattle.p21_express_graph.specs.Meaning.{place as place_of};
 ghost use Rattle.p21_spec_exchange.specs.Record.{Record};
 ghost use Rattle.p21_spec_file.specs.CanonicalTexts.{IsInstanceText};
-ghost use Rattle.std.specs.Prelude.{◌≡◌, List};
-ghost use Rattle.p21_model.specs.EntitiesLeft.{TellsSet, set_schema};
+ghost use Rattle.std.specs.Prelude.{◌≡◌, ℕ, List};
+ghost use Rattle.p21_model.specs.EntitiesLeft.{AreEntitiesOf, TellsEntities, TellsSet, set_schema};
 ghost use Rattle.p21_model.specs.Left.{TellsRows, schema_of};
 ghost use Rattle.p21_model.specs.Rows.{AreRowsOf, Row};
 ghost use Rattle.p21_model.specs.Told.{TellsInstance, TellsValue};
@@ -38,6 +38,8 @@ impl<'a> Instance<'a> {
     /// The entities of the instance's set: the entity of each keyword, and in internal mapping all above it. It takes no memory.
     pub fn entities(&self) -> Entities<'a>
         ensures told { (record_ : Record) (stated : IsInstanceText self.now.schema.now self.now.name record_ self.now.line.now) → TellsSet stated result }
+        ensures any { (record_ : Record) (stated : IsInstanceText self.now.schema.now self.now.name record_ self.now.line.now)
+            (entities : List ℕ) → AreEntitiesOf self.now.schema.now stated.canonical entities → TellsEntities result entities }
         ensures schema { set_schema result ≡ self.now.schema.now }
     {
         self.schema.holds_together();

@@ -1,5 +1,5 @@
 //! Places one by one.
-ghost use Rattle.std.specs.Prelude.{◌≡◌, ◌∷◌, List, length, Contains, [], IfSome, MatchOption};
+ghost use Rattle.std.specs.Prelude.{◌≡◌, ◌≤◌, ◌∷◌, List, length, Contains, [], IfSome, MatchOption};
 ghost use Rattle.p21_express_graph.specs.Meaning.{place as place_of};
 ghost use Rattle.p21_express_graph.specs.Orders.{numbers};
 ghost use Rattle.p21_express_graph.specs.Resolved.{IsPlace};
@@ -53,7 +53,8 @@ fn own_count(schema: &Schema, entity: EntityId) -> u32
 
 /// Of entities this one alone, if it is among them.
 pub(crate) fn alone(entities: &[EntityId], entity: EntityId) -> &[EntityId]
-    ensures { Contains (numbers entities.now) entity.0 → numbers result.now ≡ entity.0 ∷ [] }
+    ensures found { Contains (numbers entities.now) entity.0 → numbers result.now ≡ entity.0 ∷ [] }
+    ensures few { length result.now ≤ 1 }
 {
     let mut rest = entities;
     while let Some((first, behind)) = rest.split_first() {

@@ -135,6 +135,10 @@ map-push : {X Y : Type 0} (f : X → Y) (xs : List X) (x : X) → map f (xs ++ x
 map-push f [] x = refl
 map-push {Y = Y} f (y ∷ xs) x = ap (λ (zs : List Y). f y ∷ zs) (map-push f xs x)
 
+pub map-more : {X Y : Type 0} (f : X → Y) (xs : List X) (k : ℕ) (d x : X) → k < length xs → x ≡ get_or xs k d → map f (take k xs) ++ f x ∷ [] ≡ map f (take (k + 1) xs)
+map-more {X} {Y} f xs k d x inside is =
+    ap (λ (y : Y). map f (take k xs) ++ y ∷ []) (ap f is) ∙ sym (map-push f (take k xs) (get_or xs k d)) ∙ ap (map f) (sym (take_more xs k d inside))
+
 -- the reference of one more row
 pub one-more-told : (users : List ℕ) (places : List (ℕ × ℕ)) (references : List Reference) (r : Reference) (rows : List UseRow) (k : ℕ) (d row : UseRow) → map (told_by users places) references ≡ map user_and_place (take k rows)
     → told_by users places r ≡ user_and_place row → k < length rows → row ≡ get_or rows k d → map (told_by users places) (references ++ r ∷ []) ≡ map user_and_place (take (k + 1) rows)

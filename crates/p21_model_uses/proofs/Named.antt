@@ -1,5 +1,5 @@
 -- The references to a name are found.
-use Rattle.std.specs.Prelude.{◌≡◌, ◌⊎◌, ◌↔◌, Result, Ok, Err, IfOk, ℕ, zero, suc, ◌<◌, ◌≤◌, Bool, true, false, List, [], ◌∷◌, ◌++◌, Contains, length, map, take, drop, filter, ltb, nat_eq, if◌then◌else◌, refl}
+use Rattle.std.specs.Prelude.{◌≡◌, ◌⊎◌, ◌↔◌, Result, Ok, Err, IfErr, IfOk, ℕ, zero, suc, ◌<◌, ◌≤◌, Bool, true, false, List, [], ◌∷◌, ◌++◌, Contains, length, map, take, drop, filter, ltb, nat_eq, if◌then◌else◌, refl}
 use Rattle.std.specs.List.{AllByRecursion as Each}
 use Rattle.std.specs.List.Sorted.{IsNonDecreasingBy, IsPartitionPoint, IsStrictlySortedBy}
 use Rattle.std.specs.Cmp.{ranks}
@@ -10,8 +10,9 @@ use Rattle.std.proofs.lemmas.Bool.{ltb-false, ltb-true}
 use Rattle.std.proofs.lemmas.List.Elements.{Contains-get_or, at_from_Contains, filter-append}
 use Rattle.std.proofs.lemmas.Map.Keys.{Less-from_sorted}
 use Rattle.p21_spec_basics.proofs.Members.{Each-member, Each-of_members, Each-weaker}
-use Rattle.p21_model_uses.specs.Tables.{AreNamed, IsTable, IsWithin, between, by_name, use_of, uses_in, uses_to}
-use Rattle.p21_model_uses.specs.UseRows.{UseRow}
+use Rattle.p21_model_uses.specs.Tables.{AreNamed, IsOfMany, IsOfUses, IsTable, IsWithin, between, by_name, use_of, uses_in, uses_to}
+use Rattle.p21_model_uses.specs.UseRows.{AreInOrder, UseRow}
+use Rattle.p21_model_uses.specs.declared.fault.UsersFault.{UsersFault}
 use Rattle.p21_model_uses.specs.declared.groups.Used.{Used}
 use Rattle.p21_model_uses.specs.declared.references.Reference.{Reference}
 
@@ -130,3 +131,7 @@ pub ordered-members : {F : Type 0} (r : Result (List UseRow) F) (rows ordered gi
     → IfOk r (λ table. (u : UseRow) → Contains table u ↔ Contains given u)
 ordered-members (Ok table) rows ordered given is same members = λ u. subst (λ (us : List UseRow). Contains us u ↔ Contains given u) (sym (is ∙ same)) (members u)
 ordered-members (Err fault) rows ordered given is same members = is
+
+pub ordered-fault : {T : Type 0} (r : Result T UsersFault) (rows ordered given : List UseRow) → IfErr r (IsOfMany (length rows)) → rows ≡ ordered → AreInOrder ordered → ((u : UseRow) → Contains ordered u ↔ Contains given u) → IfErr r (IsOfUses given)
+ordered-fault (Ok table) rows ordered given many same order members = many
+ordered-fault (Err fault) rows ordered given many same order members = record { uses = ordered; order = order; members = members; many = subst (λ (us : List UseRow). IsOfMany (length us) fault) same many }

@@ -1,17 +1,19 @@
 -- Uses in order, each once.
-use Rattle.std.specs.Prelude.{◌≡◌, ◌↔◌, ◌⊎◌, ℕ, zero, suc, ◌<◌, ◌≤◌, Bool, true, false, List, [], ◌∷◌, ◌&&◌, nat_eq, Contains, refl}
+use Rattle.std.specs.Prelude.{◌≡◌, ◌⊎◌, ℕ, zero, suc, ◌+◌, ◌<◌, ◌≤◌, Bool, true, false, List, [], ◌∷◌, ◌&&◌, Err, nat_eq, Contains, length, refl}
 use Rattle.std.specs.Cmp.{IsEquivalence, IsTotalOrder, nat_cmp_is}
 use Rattle.std.specs.List.{dedup}
-use Rattle.std.specs.List.Sorted.{IsNonDecreasingBy, IsPermutation, IsSorted, IsStrictlySortedBy}
-use Rattle.std.specs.Ordering.{nat_cmp, is_eq, is_lt, ordering_then, eq_by_cmp}
+use Rattle.std.specs.List.Sorted.{IsBinarySearchResult, IsNonDecreasingBy, IsPermutation, IsSorted, IsStrictlySortedBy}
+use Rattle.std.specs.Ordering.{nat_cmp, is_eq, is_le, is_lt, ordering_reverse, ordering_then, eq_by_cmp}
 use Rattle.std.proofs.Common.{Ordering, Less, Equal, Greater, arith, ap, sym, subst, ◌∙◌, inl, inr, get_or, true≢false}
 use Rattle.std.proofs.lemmas.Bool.{eqb-true}
 use Rattle.std.proofs.lemmas.Bool.Decides.{nat_tests}
 use Rattle.std.proofs.lemmas.Cmp.{and_equiv, on_equiv, on_total, nat_cmp_total, nat_eq_equiv, then_total}
-use Rattle.std.proofs.lemmas.List.Elements.{Contains-get_or}
+use Rattle.std.proofs.lemmas.List.Elements.{Contains-get_or, at_from_Contains}
 use Rattle.std.proofs.lemmas.List.Kept.{Contains-dedup, Contains-from_dedup, IsStrictlySortedBy-dedup}
-use Rattle.std.proofs.lemmas.List.Sorted.{Contains-permutation, IsPermutation-sym}
+use Rattle.std.proofs.lemmas.List.Sorted.{Contains-permutation, IsPermutation-sym, length_permutation, searchable_from_sorted}
+use Rattle.std.proofs.lemmas.Map.Keys.{Less-from_sorted}
 use Rattle.p21_spec_basics.proofs.Members.{Each-member}
+use Rattle.p21_model_uses.specs.Tables.{AreEachOnce, pair_cmp}
 use Rattle.p21_model_uses.specs.UseRows.{AreInOrder, UseRow, use_cmp}
 
 use_total : IsTotalOrder use_cmp
@@ -71,12 +73,61 @@ names-rise (u ∷ us) rises zero (suc j) d up low = name-low u (get_or us j d) (
 names-rise (u ∷ us) rises (suc i) zero d up low = absurd (omega (arith, up))
 names-rise (u ∷ us) rises (suc i) (suc j) d up low = names-rise us rises.1 i j d (omega (arith, up)) (omega (arith, low))
 
-pub sorted-order : (sorted us : List UseRow) → IsSorted use_cmp sorted → us ≡ dedup use_eq sorted → AreInOrder us
-sorted-order sorted us rises is = subst AreInOrder (sym is) (IsStrictlySortedBy-dedup use_total use_ties sorted rises)
+-- an order, and the test of what it takes as equal
+pub record IsOrderWith {X : Type 0} (R : X → X → Ordering) (E : X → X → Bool) : Type 0 where
+  pub total : IsTotalOrder R
+  pub ties : (x y : X) → E x y ≡ eq_by_cmp R x y
+  pub equiv : IsEquivalence E
+  pub same : (x y : X) → E x y ≡ true → x ≡ y
 
-pub sorted-members : (rows sorted us : List UseRow) → IsPermutation rows sorted → us ≡ dedup use_eq sorted → (u : UseRow) → Contains us u ↔ Contains rows u
-sorted-members rows sorted us moved is u =
-    let Has : List UseRow → Type 0 = λ xs. Contains xs u in (
-      λ among. Contains-permutation sorted rows u (IsPermutation-sym rows sorted moved) (Contains-from_dedup use_eq sorted u (subst Has is among)),
-      λ among. subst Has (sym is) (Contains-dedup use_equiv use_same sorted u (Contains-permutation rows sorted u moved among)),
-    )
+pub use-order : IsOrderWith use_cmp use_eq
+use-order = record { total = use_total; ties = use_ties; equiv = use_equiv; same = use_same }
+
+pub number-order : IsOrderWith nat_cmp nat_eq
+number-order = record { total = nat_cmp_total; ties = number-tie; equiv = nat_eq_equiv; same = eqb-true }
+
+abbrev pub pair_eq : ℕ × ℕ → ℕ × ℕ → Bool
+pair_eq x y = nat_eq x.0 y.0 && nat_eq x.1 y.1
+
+pub pair-order : IsOrderWith pair_cmp pair_eq
+pair-order = record {
+  total = then_total (on_total (λ (p : ℕ × ℕ). p.0) nat_cmp_total) (on_total (λ (p : ℕ × ℕ). p.1) nat_cmp_total);
+  ties = λ x y. both-tie (nat_cmp x.0 y.0) (nat_cmp x.1 y.1) (nat_eq x.0 y.0) (nat_eq x.1 y.1) (number-tie x.0 y.0) (number-tie x.1 y.1);
+  equiv = and_equiv (on_equiv (λ (p : ℕ × ℕ). p.0) nat_eq_equiv) (on_equiv (λ (p : ℕ × ℕ). p.1) nat_eq_equiv);
+  same = λ x y same. let (a, b) = both-true (nat_eq x.0 y.0) (nat_eq x.1 y.1) same in ap (λ k. (k, x.1)) (eqb-true x.0 y.0 a) ∙ ap (λ k. (y.0, k)) (eqb-true x.1 y.1 b);
+}
+
+-- what a sort and a dedup leave of a list
+pub each-once : {X : Type 0} {R : X → X → Ordering} {E : X → X → Bool} (o : IsOrderWith R E) (all sorted once : List X) → IsPermutation all sorted → IsSorted R sorted → once ≡ dedup E sorted
+    → length once ≤ length sorted → AreEachOnce R all once
+each-once {X} {R} {E} o all sorted once moved rising is bound = record {
+  rises = subst (IsStrictlySortedBy R) (sym is) (IsStrictlySortedBy-dedup o.total o.ties sorted rising);
+  members = λ x. let Has : List X → Type 0 = λ xs. Contains xs x in (
+    λ among. Contains-permutation sorted all x (IsPermutation-sym all sorted moved) (Contains-from_dedup E sorted x (subst Has is among)),
+    λ among. subst Has (sym is) (Contains-dedup o.equiv o.same sorted x (Contains-permutation all sorted x moved among)),
+  );
+  bound = subst (λ (n : ℕ). length once ≤ n) (length_permutation all sorted moved) bound;
+}
+
+equal-to-itself : (o : Ordering) → o ≡ ordering_reverse o → o ≡ Equal
+equal-to-itself Equal same = refl
+equal-to-itself Less same = absurd (true≢false (ap is_lt same))
+equal-to-itself Greater same = absurd (true≢false (sym (ap is_lt same)))
+
+-- what stands among those that rise is found
+pub not-missing : {X : Type 0} {R : X → X → Ordering} (o : IsTotalOrder R) (xs : List X) (x : X) (at : ℕ) → IsStrictlySortedBy R xs → Contains xs x
+    → IsBinarySearchResult (λ y. R y x) xs (Err at) → ⊥
+not-missing {X} {R} o xs x at rises among searched =
+    let point = searched (searchable_from_sorted o (λ y. y) xs x sorted) in
+    let (k, inside, is_x) = at_from_Contains xs x among in
+    let equal : R (get_or xs k x) x ≡ Equal = ap (λ y. R y x) (is_x x) ∙ equal-to-itself (R x x) (o.antisymm x x) in
+    elim (either k at) [
+      | inl low ↦ true≢false (ap is_lt (sym (point.0 k x (omega arith) low) ∙ equal))
+      | inr from ↦ true≢false (sym (ap is_le (sym (point.1 k x from inside) ∙ equal)))
+    ]
+  where
+    either : (x y : ℕ) → (x < y) ⊎ (y ≤ x)
+    either x y = grind arith
+
+    sorted : IsSorted R xs
+    sorted k d from below = ap is_lt (o.antisymm (get_or xs (k + 1) d) (get_or xs k d) ∙ ap ordering_reverse (Less-from_sorted R xs k (k + 1) d rises (omega arith) below))

@@ -1,10 +1,12 @@
 -- The table of uses: references by the numbers of their users and attributes, and where those to each name begin and end.
-use Rattle.std.specs.Prelude.{◌≡◌, ℕ, ◌-◌, ◌<◌, ◌≤◌, List, [], ◌∷◌, Option, Some, None, length, map, take, drop, filter, nat_eq}
+use Rattle.std.specs.Prelude.{◌≡◌, ◌↔◌, ℕ, ◌-◌, ◌^◌, ◌<◌, ◌≤◌, Contains, List, [], ◌∷◌, Option, Some, None, length, map, take, drop, filter, nat_eq, ⊤}
 use Rattle.std.specs.List.{flat_map, slice_index_or, AllByRecursion as Each}
 use Rattle.std.specs.List.Sorted.{IsStrictlySortedBy}
-use Rattle.std.specs.Ordering.{nat_cmp}
+use Rattle.std.specs.Ordering.{nat_cmp, ordering_then}
 use Rattle.std.specs.declared.cmp.Ordering.{Ordering}
-use Rattle.p21_model_uses.specs.UseRows.{UseRow}
+use Rattle.p21_model_uses.specs.UseRows.{AreInOrder, UseRow}
+use Rattle.p21_model_uses.specs.declared.fault.UsersFault.{UsersFault}
+use Rattle.p21_model_uses.specs.declared.fault.UsersFault.TheVariants.{NoMemory, TooMany}
 use Rattle.p21_model_uses.specs.declared.groups.Used.{Used}
 use Rattle.p21_model_uses.specs.declared.references.Reference.{Reference}
 
@@ -14,6 +16,21 @@ told_by users places r = (slice_index_or users r.user 0, (slice_index_or places 
 
 abbrev pub user_and_place : UseRow → ℕ × ℕ × ℕ
 user_and_place u = (u.1, u.2, u.3)
+
+abbrev pub user_of : UseRow → ℕ
+user_of u = u.1
+
+abbrev pub place_of : UseRow → ℕ × ℕ
+place_of u = (u.2, u.3)
+
+abbrev pub pair_cmp : ℕ × ℕ → ℕ × ℕ → Ordering
+pair_cmp a b = ordering_then (nat_cmp a.0 b.0) (nat_cmp a.1 b.1)
+
+-- those of a list, each once, rising
+pub record AreEachOnce {X : Type 0} (cmp : X → X → Ordering) (all once : List X) : Type 0 where
+  pub rises : IsStrictlySortedBy cmp once
+  pub members : (x : X) → Contains once x ↔ Contains all x
+  pub bound : length once ≤ length all
 
 -- both numbers are in their tables
 abbrev pub IsWithin : List ℕ → List (ℕ × ℕ) → Reference → Type 0
@@ -62,3 +79,15 @@ HandsOutRow [] None left = left ≡ []
 HandsOutRow [] (Some found) left = ⊥
 HandsOutRow (u ∷ uses) None left = ⊥
 HandsOutRow (u ∷ uses) (Some found) left = (found ≡ user_and_place u) × (left ≡ uses)
+
+-- want of memory owes nothing; of too many uses there are at least as many as a number of 32 bits doesn't count
+abbrev pub IsOfMany : ℕ → UsersFault → Type 0
+IsOfMany count NoMemory = ⊤
+IsOfMany count TooMany = 2 ^ 32 ≤ count
+
+-- the same of the uses that these rows have, each once
+pub record IsOfUses (rows : List UseRow) (fault : UsersFault) : Type 0 where
+  pub uses : List UseRow
+  pub order : AreInOrder uses
+  pub members : (u : UseRow) → Contains uses u ↔ Contains rows u
+  pub many : IsOfMany (length uses) fault

@@ -11,18 +11,33 @@ pub enum UsersFault {
 }
 
 impl From<NoMemory> for UsersFault {
+    ghost use Rattle.std.specs.Prelude.{◌≡◌};
+    ghost use Rattle.p21_model_uses.specs.declared.fault.UsersFault.TheVariants.{NoMemory};
+
+    ghost from_gives = { λ _ fault. fault ≡ NoMemory };
+
     fn from(_: NoMemory) -> UsersFault {
         UsersFault::NoMemory
     }
 }
 
 impl From<AllocError> for UsersFault {
+    ghost use Rattle.std.specs.Prelude.{◌≡◌};
+    ghost use Rattle.p21_model_uses.specs.declared.fault.UsersFault.TheVariants.{NoMemory};
+
+    ghost from_gives = { λ _ fault. fault ≡ NoMemory };
+
     fn from(_: AllocError) -> UsersFault {
         UsersFault::NoMemory
     }
 }
 
 impl<T: Drop> From<AllocFailed<T>> for UsersFault {
+    ghost use Rattle.std.specs.Prelude.{◌≡◌};
+    ghost use Rattle.p21_model_uses.specs.declared.fault.UsersFault.TheVariants.{NoMemory};
+
+    ghost from_gives = { λ _ fault. fault ≡ NoMemory };
+
     fn from(_: AllocFailed<T>) -> UsersFault {
         UsersFault::NoMemory
     }

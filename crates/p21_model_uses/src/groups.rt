@@ -1,7 +1,7 @@
 //! Where the uses of each name begin and end.
-ghost use Rattle.std.specs.Prelude.{◌≡◌, ◌≤◌, false, true, IfOk, IfSome, leb, length};
+ghost use Rattle.std.specs.Prelude.{◌≡◌, ◌^◌, ◌≤◌, false, true, IfErr, IfOk, IfSome, IsNone, leb, length};
 ghost use Rattle.std.specs.List.Sorted.{IsPartitionPoint};
-ghost use Rattle.p21_model_uses.specs.Tables.{AreGroupsOf};
+ghost use Rattle.p21_model_uses.specs.Tables.{AreGroupsOf, IsOfMany};
 ghost use Rattle.p21_model_uses.specs.UseRows.{AreInOrder, UseRow as MeantRow};
 
 use crate::fault::UsersFault;
@@ -20,7 +20,8 @@ pub(crate) struct Used {
 /// The names that are used, rising.
 pub(crate) fn groups_of(alloc: Global, rows: &[UseRow]) -> Result<Vec<Used>, UsersFault>
     requires { AreInOrder rows.now }
-    ensures { IfOk result (λ used. AreGroupsOf rows.now (length rows.now) used.items) }
+    ensures groups { IfOk result (λ used. AreGroupsOf rows.now (length rows.now) used.items) }
+    ensures fault { IfErr result (IsOfMany (length rows.now)) }
 {
     let mut used = Vec::new(alloc);
     let mut at = 0;
@@ -48,7 +49,8 @@ fn end_of(rows: &[UseRow], name: u64) -> usize
 
 /// The uses of a name from here to there, unless a number of 32 bits doesn't reach so far.
 fn group_of(name: u64, start: usize, end: usize) -> Option<Used>
-    ensures { IfSome result (λ found. (found.name ≡ name) × (found.start ≡ start) × (found.end ≡ end)) }
+    ensures some { IfSome result (λ found. (found.name ≡ name) × (found.start ≡ start) × (found.end ≡ end)) }
+    ensures none { IsNone result → start ≤ end → 2 ^ 32 ≤ end }
 {
     let Some(start) = narrow(start) else {
         return None;

@@ -1,7 +1,7 @@
 //! The table: who refers to whom.
-ghost use Rattle.std.specs.Prelude.{◌≡◌, ◌≤◌, ◌↔◌, ℕ, false, true, List, Contains, IfOk, filter, length, ltb, nat_eq};
+ghost use Rattle.std.specs.Prelude.{◌≡◌, ◌≤◌, ◌↔◌, ℕ, false, true, List, Contains, IfErr, IfOk, filter, length, ltb, nat_eq};
 ghost use Rattle.std.specs.List.Sorted.{IsPartitionPoint, IsStrictlySortedBy};
-ghost use Rattle.p21_model_uses.specs.Tables.{AreNamed, HandsOutRow, IsTable, between, by_name};
+ghost use Rattle.p21_model_uses.specs.Tables.{AreNamed, HandsOutRow, IsOfMany, IsOfUses, IsTable, between, by_name};
 ghost use Rattle.p21_model_uses.specs.declared.groups.Used.{Used as MeantUsed};
 ghost use Rattle.p21_model_uses.specs.UseRows.{AreInOrder, UseRow as MeantRow};
 
@@ -50,10 +50,11 @@ impl UseTable {
     ///
     /// # Errors
     ///
-    /// `NoMemory`; `TooMany`, where they are more than a number of 32 bits counts.
+    /// `NoMemory`; `TooMany`, only where without repetitions they are more than a number of 32 bits counts.
     pub fn new(alloc: Global, rows: Vec<UseRow>) -> Result<UseTable, UsersFault>
         ensures order { IfOk result (λ table. AreInOrder table) }
         ensures members { IfOk result (λ table. (u : MeantRow) → Contains table u ↔ Contains rows.items u) }
+        ensures fault { IfErr result (IsOfUses rows.items) }
     {
         let ordered = in_order(rows);
         UseTable::of_ordered(alloc, &ordered)
@@ -62,7 +63,8 @@ impl UseTable {
     /// The table of uses that stand in order.
     fn of_ordered(alloc: Global, rows: &[UseRow]) -> Result<UseTable, UsersFault>
         requires { AreInOrder rows.now }
-        ensures { IfOk result (λ table. table ≡ rows.now) }
+        ensures table { IfOk result (λ table. table ≡ rows.now) }
+        ensures fault { IfErr result (IsOfMany (length rows.now)) }
     {
         let users = users_of(alloc, rows)?;
         let places = places_of(alloc, rows)?;
