@@ -6,6 +6,6 @@ use p21_mapping_values::Typed;
 #[derive(Drop)]
 pub struct Instance<'a> {
     pub name: u64,
-    pub heading: &'a [&'a [u8]],
+    pub heading: &'a [&'a [char]],
     pub typed: Typed<'a>,
 }

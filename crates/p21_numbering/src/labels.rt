@@ -27,7 +27,7 @@ pub fn node(
     alloc: Global,
     schema: &Schema,
     name: u64,
-    heading: &[&[u8]],
+    heading: &[&[char]],
     typed: &Typed<'_>,
 ) -> Result<Node, NoMemory>
     requires { HasKnownParts schema.now (typed_view typed.now) }
@@ -68,7 +68,7 @@ fn append_keyword(schema: &Schema, entity: EntityId, out: &mut Vec<u8>) -> Resul
 }
 
 /// The texts of a heading and a text as a row.
-fn label(alloc: Global, heading: &[&[u8]], text: &[u8]) -> Result<Vec<u64>, AllocError>
+fn label(alloc: Global, heading: &[&[char]], text: &[u8]) -> Result<Vec<u64>, AllocError>
     ensures { IfOk result (λ row. row.items ≡ row_of_texts (lent_rows heading.now ++ (text.now ∷ []))) }
 {
     let row = with_texts(Vec::new(alloc), heading)?;

@@ -23,7 +23,7 @@ use std::collections::BTreeMap;
 pub fn said(
     alloc: Global,
     schema: &Schema,
-    heading: &[&[u8]],
+    heading: &[&[char]],
     typed: &Typed<'_>,
     names: &BTreeMap<u64, u64>,
 ) -> Result<Vec<u64>, NoMemory>

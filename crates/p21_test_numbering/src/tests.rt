@@ -1,3 +1,4 @@
+mod files;
 mod graphs;
 mod labels;
 mod orders;

@@ -6,9 +6,9 @@ use std::alloc::Global;
 use std::rt::HostRuntime;
 
 /// The texts of a heading, and the label of a record without entities in its section.
-const HEADING: &[&[u8]] = &[b"AB", b""];
+const HEADING: &[&[char]] = &[&['A', '\u{141}'], &[]];
 
-const LABEL: &[u64] = &[66, 67, 0, 0, 0];
+const LABEL: &[u64] = &[66, 322, 0, 0, 0];
 
 fn has_label(alloc: Global, schema: &Schema) -> bool {
     let typed = Typed {

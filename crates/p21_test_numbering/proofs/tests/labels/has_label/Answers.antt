@@ -1,5 +1,5 @@
 use Rattle.std.specs.List.{AllByRecursion as Each}
-use Rattle.std.specs.Prelude.{◌≡◌, List, []}
+use Rattle.std.specs.Prelude.{List}
 use Rattle.std.proofs.Common.{sym, subst, ◌∙◌}
 use Rattle.p21_spec_basics.proofs.Members.{Contains-none}
 use Rattle.p21_express_graph.specs.declared.number.EntityId.{EntityId}
@@ -7,7 +7,6 @@ use Rattle.p21_express_graph.specs.Lookups.{AreEntities}
 use Rattle.p21_mapping_values.specs.declared.value.Values.{Values}
 use Rattle.p21_mapping_values.specs.KnownTypes.{HaveKnownTypes}
 use Rattle.p21_mapping_values.specs.TypedView.{ids_view, rows_view}
-use Rattle.p21_numbering.specs.NodesOf.{HasKnownParts}
 use Rattle.p21_test_numbering.proofs.tests.labels.has_label.Goals as goal
 
 pub node-requires : goal.node-requires
