@@ -1,0 +1,5 @@
+pub mod Lines
+pub mod OtherValues
+pub mod Changes
+pub mod About
+pub mod Laws

@@ -1,0 +1,4 @@
+pub mod Decided
+pub mod Headers
+pub mod Values
+pub mod Files
