@@ -5,7 +5,7 @@
  * compared; a session reads a file that comes in pieces. What these words mean is said in docs/DEFINITIONS.md, and
  * docs/LIBRARY.md has a whole program.
  *
- * Handles. A schema, a session and a text are each kept in a struct of one pointer. It begins as P21_EMPTY, and from then on
+ * Handles. A schema, a session, a list and a text are each kept in a struct of one pointer. It begins as P21_EMPTY, and from then on
  * the calls alone change it: it isn't copied, written or compared. A call that hands something out lets go of what the handle
  * held before. The call that frees it leaves it empty, and an empty handle may be freed.
  *
@@ -55,6 +55,11 @@ typedef struct p21_session {
 typedef struct p21_text {
     void *inside;
 } p21_text;
+
+/* What is refused of a file. */
+typedef struct p21_list {
+    void *inside;
+} p21_list;
 
 /* A handle that holds nothing. */
 #define P21_EMPTY { NULL }
@@ -106,6 +111,27 @@ typedef struct p21_report {
     uint64_t instances; /* how many instances an accepted file has */
     uint64_t bytes;     /* how many bytes its canonical file has */
 } p21_report;
+
+/*
+ * Where in a file a refusal stands. Each call that takes a place writes all of it. What isn't known is 0: all of it where nothing
+ * is refused, and the byte of a reference that isn't served (P21_DANGLING, P21_WRONG_TARGET), of which only the file can say it.
+ */
+typedef struct p21_place {
+    uint64_t byte;       /* how many bytes of the file stand in front of it; p21_move gives its line and column */
+    uint32_t entity;     /* the attribute whose value is refused: the number of the entity that declares it, and its own one; */
+    uint32_t attribute;  /* p21_place_name has the names */
+    uint32_t indices[8]; /* which element of the value: the way there through the aggregates, the outermost first, each from 1 on */
+    uint8_t levels;      /* how many indices there are */
+    uint8_t known;       /* 1 where `byte` is known */
+    uint8_t valued;      /* 1 where a value of an attribute is refused */
+} p21_place;
+
+/* How much of a file a list is about. */
+enum {
+    P21_WHOLE = 1, /* all of it */
+    P21_PART = 2,  /* as far as to the last refusal, which ended the reading */
+    P21_MOST = 3   /* as far as to the last refusal, since no more were asked for */
+};
 
 /* Made from docs/FAULTS.md by making/make-refusals, up to the mark of the end: edit the document. */
 /* The refusals of files, as docs/FAULTS.md explains them. */
@@ -241,6 +267,60 @@ uint8_t p21_session_finish(p21_session *session, p21_report *report);
 /* Lets go of a session, or of the accepted file that it ended in. */
 void p21_session_free(p21_session *session);
 
+/* ---- Where a refusal stands. These calls do what the ones of the same name do, and write the place too. */
+
+uint8_t p21_check_located(const p21_schema *schema, const uint8_t *file, size_t length, p21_report *report, p21_place *place);
+uint8_t p21_canonical_located(const p21_schema *schema, const uint8_t *file, size_t length, p21_text *text, p21_report *report,
+                              p21_place *place);
+/* The place is one of the file that `subject` names. */
+uint8_t p21_same_located(const p21_schema *schema, const uint8_t *first, size_t first_length, const uint8_t *second,
+                         size_t second_length, uint8_t *same, p21_report *report, p21_place *place);
+uint8_t p21_session_finish_located(p21_session *session, p21_report *report, p21_place *place);
+
+/* Writes where the refusal stands that p21_session_feed answered last; nothing is known of a session that refused nothing. */
+uint8_t p21_session_place(const p21_session *session, p21_place *place);
+
+/*
+ * Hands out the name of an attribute behind that of the entity that declares it, as `POINT.X`: of the numbers that a place has
+ * under this schema. P21_REFUSED: the schema has no such attribute. It has no report.
+ */
+uint8_t p21_place_name(const p21_schema *schema, uint32_t entity, uint32_t attribute, p21_text *text);
+
+/* ---- All refusals of a file. */
+
+/*
+ * Reads a file to its end, and hands out a list of what is refused of it, `most` refusals at most and one at least. P21_DONE: the
+ * list is handed out; the report has the counts where the file is accepted, and then the list has nothing. An instance that is
+ * refused is left out, and the reading goes on: of its references nothing is said, nor of references to its name. Every other
+ * refusal ends the reading, and is the last one. The file isn't copied.
+ */
+uint8_t p21_survey(const p21_schema *schema, const uint8_t *file, size_t length, uint64_t most, p21_list *list, p21_report *report);
+
+/* Writes how many refusals a list has, and how much of the file they are about. */
+uint8_t p21_list_count(const p21_list *list, size_t *count, uint8_t *extent);
+
+/*
+ * Writes the refusal of this number in a list, counted from 0, and where it stands. They are in the order of the file, those of
+ * references behind the others. P21_REFUSED: the list has no such number, and nothing is written.
+ */
+uint8_t p21_list_refusal(const p21_list *list, size_t number, p21_report *report, p21_place *place);
+
+/* Lets go of a list. */
+void p21_list_free(p21_list *list);
+
+/* ---- A file by itself, without a schema. */
+
+/*
+ * Whether a file is well formed: bytes, tokens and grammar, the header, the name of the schema, names given once, and references
+ * to names that instances have. P21_DONE: the report has how many instances there are, and three texts are handed out, each in
+ * UTF-8: the name of the schema in upper case; the header in words, a line for each text, as `author: NAME`; and a line for each
+ * keyword with how many records have it, as `POINT 12`. P21_REFUSED: it isn't well formed. The file isn't copied.
+ */
+uint8_t p21_syntax(const uint8_t *file, size_t length, p21_text *schema, p21_text *header, p21_text *keywords, p21_report *report,
+                   p21_place *place);
+
+/* ---- Accepted files and texts. */
+
 /*
  * Hands out the canonical statement of an instance of an accepted file, without a line feed. P21_REFUSED: there is no
  * instance of this name. It has no report.
@@ -270,6 +350,7 @@ void p21_text_free(p21_text *text);
 }
 #endif
 
+#include "p21_lines.h"
 #include "p21_refusals.h"
 
 #endif

@@ -4,6 +4,7 @@
  *     p21::schema schema(express);
  *     std::cout << schema.check(file).instances << '\n';
  *     std::cout << schema.canonical(file).view();
+ *     std::cout << p21::syntax(file).schema.view();
  *
  * A text is a std::string_view, or a pointer and a length; none is copied, and none is kept. What is refused is thrown
  * as p21::refused, want of memory as std::bad_alloc, and a call on what was moved away or ended as std::logic_error.
@@ -28,8 +29,8 @@ namespace p21 {
 /* A schema or a file is refused; what() is the line that the program prints, and of two files says which. */
 class refused : public std::runtime_error {
 public:
-    explicit refused(const p21_report &report, const std::string &which = "")
-        : std::runtime_error(which + line_of(report)), report_(report) {}
+    explicit refused(const p21_report &report, const std::string &which = "", const p21_place &place = {})
+        : std::runtime_error(which + line_of(report)), report_(report), place_(place) {}
 
     const p21_report &report() const noexcept { return report_; }
     bool is_schema() const noexcept { return report_.subject == P21_SCHEMA; }
@@ -40,6 +41,13 @@ public:
     }
     std::optional<std::uint64_t> statement() const noexcept { return at(P21_STATEMENT); }
     std::optional<std::uint64_t> instance() const noexcept { return at(P21_INSTANCE); }
+
+    /* Where it stands; `schema::place_name` has the names of an attribute. */
+    const p21_place &place() const noexcept { return place_; }
+    /* How many bytes of the file stand in front of it, where that is known; p21::position_of gives its line and column. */
+    std::optional<std::uint64_t> byte() const noexcept {
+        return place_.known ? std::optional<std::uint64_t>(place_.byte) : std::nullopt;
+    }
 
 private:
     static const char *name_of(const p21_report &report) noexcept {
@@ -57,7 +65,16 @@ private:
     }
 
     p21_report report_;
+    p21_place place_;
 };
+
+/* The line and the column, both counted from 1, of the byte of a text in front of which so many stand. */
+inline p21_position position_of(std::string_view text, std::uint64_t byte) noexcept {
+    p21_position position = P21_FIRST;
+    const std::size_t length = byte < text.size() ? static_cast<std::size_t>(byte) : text.size();
+    if (length > 0) p21_move(&position, reinterpret_cast<const std::uint8_t *>(text.data()), length);
+    return position;
+}
 
 namespace detail {
 
@@ -88,16 +105,24 @@ inline std::string_view view(const void *at, std::size_t length) noexcept {
     return {static_cast<const char *>(at), length};
 }
 
-inline void judge(std::uint8_t status, const p21_report &report = {}, const char *which = "") {
+inline void judge(std::uint8_t status, const p21_report &report = {}, const char *which = "", const p21_place &place = {}) {
     if (status == P21_FAILED) throw std::bad_alloc();
     if (status == P21_MISUSED) throw std::logic_error("p21: this object holds nothing any more");
-    if (status == P21_REFUSED) throw refused(report, which);
+    if (status == P21_REFUSED) throw refused(report, which, place);
 }
 
 /* Makes a call of C whose last parameter is a report. */
 template <typename Call, typename... Given> p21_report call(Call function, Given... given) {
     p21_report report;
     judge(function(given..., &report), report);
+    return report;
+}
+
+/* Makes one whose last parameters are a report and a place. */
+template <typename Call, typename... Given> p21_report call_located(Call function, Given... given) {
+    p21_report report;
+    p21_place place;
+    judge(function(given..., &report, &place), report, "", place);
     return report;
 }
 
@@ -120,6 +145,31 @@ public:
     }
 };
 
+/* The refusals that one reading finds of a file, in its order. */
+class refusals : public detail::holder<p21_list, p21_list_free> {
+public:
+    std::size_t size() const noexcept { return count_; }
+    /* P21_WHOLE, P21_PART or P21_MOST: how much of the file they are about. */
+    int extent() const noexcept { return extent_; }
+
+    /* The refusal of this number, counted from 0; std::out_of_range where there are fewer. */
+    refused at(std::size_t number) const {
+        p21_report report;
+        p21_place place;
+        const std::uint8_t status = p21_list_refusal(get(), number, &report, &place);
+        if (status == P21_REFUSED) throw std::out_of_range("p21: there are fewer refusals");
+        detail::judge(status);
+        return refused(report, "", place);
+    }
+
+private:
+    friend class schema;
+    void count() { detail::judge(p21_list_count(get(), &count_, &extent_)); }
+
+    std::size_t count_ = 0;
+    std::uint8_t extent_ = P21_WHOLE;
+};
+
 /* The schema that an EXPRESS text declares. */
 class schema : public detail::holder<p21_schema, p21_schema_free> {
 public:
@@ -136,7 +186,7 @@ public:
 
     /* Whether a file is accepted: its counts, or p21::refused. */
     counts check(std::string_view file) const {
-        const p21_report report = detail::call(p21_check, get(), detail::at(file), file.size());
+        const p21_report report = detail::call_located(p21_check_located, get(), detail::at(file), file.size());
         return {report.instances, report.bytes};
     }
     counts check(const void *file, std::size_t length) const { return check(detail::view(file, length)); }
@@ -144,7 +194,7 @@ public:
     /* The canonical file of a file. */
     text canonical(std::string_view file) const {
         text made;
-        detail::call(p21_canonical, get(), detail::at(file), file.size(), made.get());
+        detail::call_located(p21_canonical_located, get(), detail::at(file), file.size(), made.get());
         return made;
     }
     text canonical(const void *file, std::size_t length) const { return canonical(detail::view(file, length)); }
@@ -153,12 +203,49 @@ public:
     bool same(std::string_view first, std::string_view second) const {
         std::uint8_t answer = 0;
         p21_report report;
-        const std::uint8_t status = p21_same(get(), detail::at(first), first.size(), detail::at(second), second.size(),
-                                             &answer, &report);
-        detail::judge(status, report, report.subject == P21_SECOND ? "second: " : "first: ");
+        p21_place place;
+        const std::uint8_t status = p21_same_located(get(), detail::at(first), first.size(), detail::at(second), second.size(),
+                                                     &answer, &report, &place);
+        detail::judge(status, report, report.subject == P21_SECOND ? "second: " : "first: ", place);
         return answer == 1;
     }
+
+    /* What is refused of a file, so many refusals at most: none where it is accepted. */
+    refusals survey(std::string_view file, std::uint64_t most = UINT64_MAX) const {
+        refusals found;
+        detail::call(p21_survey, get(), detail::at(file), file.size(), most, found.get());
+        found.count();
+        return found;
+    }
+
+    /* The name of the attribute that a place has, behind that of the entity that declares it, as "POINT.X"; or nothing. */
+    std::optional<std::string> place_name(const p21_place &place) const {
+        if (!place.valued) return std::nullopt;
+        text made;
+        const std::uint8_t status = p21_place_name(get(), place.entity, place.attribute, made.get());
+        if (status == P21_REFUSED) return std::nullopt;
+        detail::judge(status);
+        return std::string(made.view());
+    }
 };
+
+/* What a well-formed file says of itself. */
+struct overview {
+    std::uint64_t instances = 0;
+    text schema;   /* the name of its schema, in upper case */
+    text header;   /* a line for each text, as "author: NAME" */
+    text keywords; /* a line for each keyword, as "POINT 12" */
+};
+
+/* Whether a file is well formed by itself, without a schema: what it says of itself, or p21::refused. */
+inline overview syntax(std::string_view file) {
+    overview found;
+    const p21_report report = detail::call_located(p21_syntax, detail::at(file), file.size(), found.schema.get(),
+                                                   found.header.get(), found.keywords.get());
+    found.instances = report.instances;
+    return found;
+}
+inline overview syntax(const void *file, std::size_t length) { return syntax(detail::view(file, length)); }
 
 /* An accepted file. */
 class accepted : public detail::holder<p21_session, p21_session_free> {
@@ -206,12 +293,18 @@ public:
     explicit session(const schema &under) { detail::judge(p21_session_new(under.get(), get())); }
 
     /* The next piece; p21::refused where nothing that is accepted begins so. */
-    void feed(std::string_view piece) { detail::call(p21_session_feed, get(), detail::at(piece), piece.size()); }
+    void feed(std::string_view piece) {
+        p21_report report;
+        p21_place place = {};
+        const std::uint8_t status = p21_session_feed(get(), detail::at(piece), piece.size(), &report);
+        if (status == P21_REFUSED) detail::judge(p21_session_place(get(), &place));
+        detail::judge(status, report, "", place);
+    }
     void feed(const void *piece, std::size_t length) { feed(detail::view(piece, length)); }
 
     /* The end of the file. The session holds nothing any more. */
     accepted finish() {
-        const p21_report report = detail::call(p21_session_finish, get());
+        const p21_report report = detail::call_located(p21_session_finish_located, get());
         return {std::move(*this), {report.instances, report.bytes}};
     }
 };

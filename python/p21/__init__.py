@@ -34,10 +34,12 @@ from p21._faults import Refused, SchemaRefused
 from p21._files import Hash, canonical, check, hash, same
 from p21._library import version
 from p21._numbers import RefusalNumber, SchemaRefusalNumber
+from p21._places import RefusalPlace
 from p21._schema import Schema
 from p21._session import Accepted, Report, Session, accept
 from p21._source import Buffer, Source
 from p21._survey import Survey, survey
+from p21._syntax import Syntax, syntax
 from p21._where import Place, where
 
 __all__ = [
@@ -47,6 +49,7 @@ __all__ = [
     "Hash",
     "Place",
     "RefusalNumber",
+    "RefusalPlace",
     "Refused",
     "Report",
     "Schema",
@@ -55,6 +58,7 @@ __all__ = [
     "Session",
     "Source",
     "Survey",
+    "Syntax",
     "accept",
     "canonical",
     "check",
@@ -62,6 +66,7 @@ __all__ = [
     "hash",
     "same",
     "survey",
+    "syntax",
     "version",
     "where",
 ]

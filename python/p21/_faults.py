@@ -4,6 +4,7 @@ from typing import Optional, Union
 
 from p21._html import table
 from p21._numbers import ABSENT, RefusalNumber, SchemaRefusalNumber
+from p21._places import RefusalPlace
 from p21._texts import FILES, SCHEMAS, Words
 
 
@@ -16,6 +17,8 @@ class Refused(Exception):
         statement: the number of the statement where it is refused, counted from 1, if a statement is named.
         instance: the name of the instance in which it is refused, if an instance is named.
         which: for ``same`` and ``diff``, whether the ``first`` or the ``second`` file is refused.
+        place: where in the file it stands, a ``RefusalPlace``: byte, line and column, and of a value of a record the attribute and the
+            element. None where nothing of it is known.
         sentence: what that means, in a sentence.
         advice: what it mostly comes from and what to do about it, as docs/FAULTS.md says.
 
@@ -39,13 +42,20 @@ class Refused(Exception):
         statement: Optional[int] = None,
         instance: Optional[int] = None,
         which: Optional[str] = None,
+        place: Optional[RefusalPlace] = None,
     ) -> None:
-        super().__init__(number, name, statement, instance, which)
+        super().__init__(number, name, statement, instance, which, place)
         self.number = self._numbered(number)
         self.name = name
         self.statement = statement
         self.instance = instance
         self.which = which
+        self.place = place
+
+    def stand_at(self, place: RefusalPlace) -> None:
+        """Says where it stands."""
+        self.place = place
+        self.args = (*self.args[:5], place)
 
     @staticmethod
     def _numbered(number: int) -> Union[RefusalNumber, SchemaRefusalNumber]:
@@ -85,6 +95,8 @@ class Refused(Exception):
             rows.insert(1, ("instance", f"#{self.instance}"))
         if self.statement is not None:
             rows.insert(1, ("statement", str(self.statement)))
+        if self.place is not None:
+            rows.insert(1, ("place", str(self.place)))
         if self.which is not None:
             rows.insert(1, ("file", self.which))
         return table(None, rows)
@@ -118,12 +130,19 @@ class SchemaRefused(Refused):
         return f"schema refused {self._shown()} {self.name}"
 
 
-def file_refusal(number: int, absent: int, statement: Optional[int], instance: Optional[int], which: Optional[str]) -> Refused:
+def file_refusal(
+    number: int,
+    absent: int,
+    statement: Optional[int],
+    instance: Optional[int],
+    which: Optional[str],
+    place: Optional[RefusalPlace],
+) -> Refused:
     """The refusal of a file."""
     name = FILES[number].name
     if number == RefusalNumber.LEFT_OUT:
         name = f"{name}({ABSENT[absent]})"
-    return Refused(number, name, statement, instance, which)
+    return Refused(number, name, statement, instance, which, place)
 
 
 def schema_refusal(number: int) -> SchemaRefused:

@@ -7,7 +7,8 @@ from typing import NamedTuple, Tuple, cast
 from p21._buffers import Passed
 from p21._faults import Refused
 from p21._html import table
-from p21._library import LIBRARY, Handle, ReportStruct, judge, taken
+from p21._library import LIBRARY, Handle, PlaceStruct, ReportStruct, judge, taken
+from p21._lines import telling_lines
 from p21._schema import SchemaOrPath, schema_of
 from p21._session import Report, accept, refused_as
 from p21._source import Buffer, Source, is_buffer, is_path
@@ -36,9 +37,9 @@ def check(schema: SchemaOrPath, source: Source) -> Report:
     if not _is_in_memory(source):
         with accept(schema, source) as accepted:
             return accepted.report
-    report = ReportStruct()
-    with schema_of(schema)._shared() as handle, Passed(cast(Buffer, source)) as (at, length):
-        judge(LIBRARY.p21_check(handle, at, length, report), report)
+    report, place = ReportStruct(), PlaceStruct()
+    with schema_of(schema)._shared() as handle, telling_lines(source), Passed(cast(Buffer, source)) as (at, length):
+        judge(LIBRARY.p21_check_located(handle, at, length, report, place), report, place, handle)
     return Report(report.instances, report.bytes)
 
 
@@ -54,9 +55,9 @@ def canonical(schema: SchemaOrPath, source: Source) -> bytes:
         with accept(schema, source) as accepted:
             return accepted.canonical()
     text = Handle()
-    report = ReportStruct()
-    with schema_of(schema)._shared() as handle, Passed(cast(Buffer, source)) as (at, length):
-        judge(LIBRARY.p21_canonical(handle, at, length, text, report), report)
+    report, place = ReportStruct(), PlaceStruct()
+    with schema_of(schema)._shared() as handle, telling_lines(source), Passed(cast(Buffer, source)) as (at, length):
+        judge(LIBRARY.p21_canonical_located(handle, at, length, text, report, place), report, place, handle)
     return taken(text)
 
 
@@ -83,9 +84,11 @@ def same(schema: SchemaOrPath, first: Source, second: Source) -> bool:
         one, other = texts(schema, first, second)
         return one == other
     answer = ctypes.c_uint8()
-    report = ReportStruct()
-    with schema_of(schema)._shared() as handle, Passed(cast(Buffer, first)) as one_text, Passed(cast(Buffer, second)) as other_text:
-        judge(LIBRARY.p21_same(handle, *one_text, *other_text, answer, report), report, of_two=True)
+    report, place = ReportStruct(), PlaceStruct()
+    with schema_of(schema)._shared() as handle, telling_lines(first, second):
+        with Passed(cast(Buffer, first)) as one_text, Passed(cast(Buffer, second)) as other_text:
+            status = LIBRARY.p21_same_located(handle, *one_text, *other_text, answer, report, place)
+            judge(status, report, place, handle, of_two=True)
     return answer.value == 1
 
 

@@ -4,9 +4,10 @@ import ctypes
 import os
 import pathlib
 import sys
-from typing import Any
+from typing import Any, Optional, Tuple
 
 from p21._faults import file_refusal, schema_refusal
+from p21._places import RefusalPlace
 
 DONE, REFUSED, MISUSED, FAILED = 0, 1, 2, 3
 SCHEMA, FILE, SECOND = 1, 2, 3
@@ -32,6 +33,20 @@ class ReportStruct(ctypes.Structure):
         ("at", ctypes.c_uint64),
         ("instances", ctypes.c_uint64),
         ("bytes", ctypes.c_uint64),
+    ]
+
+
+class PlaceStruct(ctypes.Structure):
+    """Where a refusal stands, as the library writes it."""
+
+    _fields_ = [
+        ("byte", ctypes.c_uint64),
+        ("entity", ctypes.c_uint32),
+        ("attribute", ctypes.c_uint32),
+        ("indices", ctypes.c_uint32 * 8),
+        ("levels", ctypes.c_uint8),
+        ("known", ctypes.c_uint8),
+        ("valued", ctypes.c_uint8),
     ]
 
 
@@ -66,17 +81,21 @@ def _declared() -> Any:
         raise ImportError(said) from error
     handle = ctypes.POINTER(Handle)
     report = ctypes.POINTER(ReportStruct)
+    place = ctypes.POINTER(PlaceStruct)
     text = [ctypes.c_void_p, ctypes.c_size_t]
     calls = {
         "p21_schema_new": (text + [handle, report], ctypes.c_uint8),
         "p21_schema_share": ([handle, handle], ctypes.c_uint8),
         "p21_schema_free": ([handle], None),
-        "p21_check": ([handle] + text + [report], ctypes.c_uint8),
-        "p21_canonical": ([handle] + text + [handle, report], ctypes.c_uint8),
-        "p21_same": ([handle] + text + text + [ctypes.POINTER(ctypes.c_uint8), report], ctypes.c_uint8),
+        "p21_place_name": ([handle, ctypes.c_uint32, ctypes.c_uint32, handle], ctypes.c_uint8),
+        "p21_check_located": ([handle] + text + [report, place], ctypes.c_uint8),
+        "p21_canonical_located": ([handle] + text + [handle, report, place], ctypes.c_uint8),
+        "p21_same_located": ([handle] + text + text + [ctypes.POINTER(ctypes.c_uint8), report, place], ctypes.c_uint8),
+        "p21_syntax": (text + [handle, handle, handle, report, place], ctypes.c_uint8),
         "p21_session_new": ([handle, handle], ctypes.c_uint8),
         "p21_session_feed": ([handle] + text + [report], ctypes.c_uint8),
-        "p21_session_finish": ([handle, report], ctypes.c_uint8),
+        "p21_session_place": ([handle, place], ctypes.c_uint8),
+        "p21_session_finish_located": ([handle, report, place], ctypes.c_uint8),
         "p21_session_free": ([handle], None),
         "p21_accepted_line": ([handle, ctypes.c_uint64, handle], ctypes.c_uint8),
         "p21_accepted_write": ([handle, handle], ctypes.c_uint8),
@@ -109,8 +128,36 @@ def version() -> str:
     return f"{parts.major}.{parts.minor}.{parts.patch}"
 
 
-def judge(status: int, report: ReportStruct, of_two: bool = False) -> None:
-    """Raises what a status and its report say."""
+def _names_of(place: PlaceStruct, schema: Optional[Handle]) -> Tuple[Optional[str], Optional[str]]:
+    """The entity and the attribute of a place, by the schema under which it is one."""
+    text = Handle()
+    if not place.valued or schema is None or LIBRARY.p21_place_name(schema, place.entity, place.attribute, text) != DONE:
+        return None, None
+    entity, _, attribute = taken(text).decode("ascii").partition(".")
+    return entity, attribute
+
+
+def _place_in(place: PlaceStruct, schema: Optional[Handle]) -> Optional[RefusalPlace]:
+    """What is known of a place, if anything is."""
+    if not place.known and not place.valued:
+        return None
+    entity, attribute = _names_of(place, schema)
+    return RefusalPlace(
+        byte=place.byte if place.known else None,
+        entity=entity,
+        attribute=attribute,
+        indices=tuple(place.indices[: place.levels]),
+    )
+
+
+def judge(
+    status: int,
+    report: ReportStruct,
+    place: Optional[PlaceStruct] = None,
+    schema: Optional[Handle] = None,
+    of_two: bool = False,
+) -> None:
+    """Raises what a status and its report say, and where it stands."""
     if status == DONE:
         return
     if status == FAILED:
@@ -125,6 +172,7 @@ def judge(status: int, report: ReportStruct, of_two: bool = False) -> None:
         statement=report.at if report.place == STATEMENT else None,
         instance=report.at if report.place == INSTANCE else None,
         which=("second" if report.subject == SECOND else "first") if of_two else None,
+        place=_place_in(place, schema) if place is not None else None,
     )
 
 

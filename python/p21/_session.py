@@ -8,7 +8,8 @@ from typing import Any, NamedTuple, NoReturn, Optional, Type
 
 from p21._buffers import Passed
 from p21._html import table
-from p21._library import FAILED, LIBRARY, REFUSED, CursorStruct, Handle, ReportStruct, judge, taken
+from p21._library import FAILED, LIBRARY, REFUSED, CursorStruct, Handle, PlaceStruct, ReportStruct, judge, taken
+from p21._lines import telling_lines
 from p21._schema import SchemaOrPath, name_in, schema_of
 from p21._source import Buffer, Source, pieces
 
@@ -183,9 +184,19 @@ class Session(_Held):
             raise MemoryError("p21: out of memory")
         super().__init__(handle, name_in(read.text))
         self._fed = 0
+        # A handle of the schema, for the names of attributes.
+        self._under = Handle()
+        read._share(self._under)
 
     def __enter__(self) -> "Session":
         return self
+
+    def close(self) -> None:
+        """Lets go of it. A second time nothing happens."""
+        with self._lock:
+            super().close()
+            if hasattr(self, "_under"):
+                LIBRARY.p21_schema_free(self._under)
 
     def feed(self, piece: Buffer) -> None:
         """Takes the next piece: any object with a buffer. It isn't copied, and not kept.
@@ -195,9 +206,12 @@ class Session(_Held):
             MemoryError: there is no memory.
             ValueError: it is closed, or ended.
         """
-        report = ReportStruct()
+        report, place = ReportStruct(), PlaceStruct()
         with Passed(piece) as (at, length), self._lock:
-            judge(LIBRARY.p21_session_feed(self._open(), at, length, report), report)
+            status = LIBRARY.p21_session_feed(self._open(), at, length, report)
+            if status == REFUSED:
+                LIBRARY.p21_session_place(self._handle, place)
+            judge(status, report, place, self._under)
             self._fed += length
 
     def finish(self) -> Accepted:
@@ -208,9 +222,9 @@ class Session(_Held):
             MemoryError: there is no memory.
             ValueError: it is closed, or ended.
         """
-        report = ReportStruct()
+        report, place = ReportStruct(), PlaceStruct()
         with self._lock:
-            judge(LIBRARY.p21_session_finish(self._open(), report), report)
+            judge(LIBRARY.p21_session_finish_located(self._open(), report, place), report, place, self._under)
             handle = Handle(self._handle.inside)
             self._handle.inside = None
         return Accepted(handle, self._schema, Report(report.instances, report.bytes))
@@ -227,7 +241,7 @@ def accept(schema: SchemaOrPath, source: Source) -> Accepted:
     >>> p21.accept(schema, point)
     <p21.Accepted under s, 1 instances, 169 canonical bytes>
     """
-    with Session(schema) as session:
+    with Session(schema) as session, telling_lines(source):
         for piece in pieces(source):
             session.feed(piece)
         return session.finish()
@@ -236,5 +250,5 @@ def accept(schema: SchemaOrPath, source: Source) -> Accepted:
 def refused_as(which: str, refusal: Any) -> Any:
     """The refusal of one of two files."""
     refusal.which = which
-    refusal.args = (*refusal.args[:4], which)
+    refusal.args = (*refusal.args[:4], which, *refusal.args[5:])
     return refusal

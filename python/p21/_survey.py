@@ -2,17 +2,17 @@
 
 import dataclasses
 import re
-from typing import List, Optional
+from typing import Any, Dict, List, Optional
 
 from p21._faults import Refused
 from p21._html import table
+from p21._places import RefusalPlace
 from p21._schema import SchemaOrPath
 from p21._source import Source
 from p21._tools import as_paths, no_answer, program, run
+from p21._where import row_in
 
-_LINE = re.compile(r"refused (\d+) (\S.*?) (?:in #(\d+)|at statement (\d+))")
 _ACCEPTED = re.compile(rb"accepted, instances \d+, canonical bytes \d+\n")
-_END = re.compile(r"refusals \d+(, the rest was not read|, no more were looked for)?")
 
 
 @dataclasses.dataclass(frozen=True)
@@ -20,7 +20,7 @@ class Survey:
     """What a file is refused for: the first refusal of each record, and those of references, but none of or to a refused record.
 
     Attributes:
-        refusals: each refusal, in the order in which ``check`` would meet them; none where the file is accepted.
+        refusals: each refusal with its place, in the order in which ``check`` would meet them; none where the file is accepted.
         is_whole: whether the file was read to its end, and the list wasn't ended by ``most``.
     """
 
@@ -34,8 +34,15 @@ class Survey:
         return f"<p21.Survey, {len(self)} refusals{'' if self.is_whole else ', and not all of the file'}>"
 
     def _repr_html_(self) -> str:
-        rows = [(int(it.number), it.name, it.statement, it.instance and f"#{it.instance}", it.sentence) for it in self.refusals]
-        return table(("number", "name", "statement", "instance", "what it means"), rows)
+        rows = [(int(it.number), it.name, it.statement, it.instance and f"#{it.instance}", it.place and str(it.place), it.sentence) for it in self.refusals]
+        return table(("number", "name", "statement", "instance", "place", "what it means"), rows)
+
+
+def _refusal_of(row: Dict[str, Any]) -> Refused:
+    """A refusal, by its object."""
+    known = {name: row[name] for name in ("byte", "line", "column", "entity", "attribute") if name in row}
+    place = RefusalPlace(**known, indices=tuple(row.get("indices", ()))) if known else None
+    return Refused(row["number"], row["name"], row.get("statement"), row.get("instance"), place=place)
 
 
 def survey(schema: SchemaOrPath, source: Source, most: Optional[int] = None) -> Survey:
@@ -48,17 +55,14 @@ def survey(schema: SchemaOrPath, source: Source, most: Optional[int] = None) -> 
     Raises: ``OSError`` where a path can't be read, the program isn't here or has no ``--all``, or it ends without an answer;
     ``MemoryError`` where there is no memory.
     """
-    words = ["--all"] if most is None else ["--all", "--most", str(most)]
+    words = ["--format", "jsonl", "--all"] if most is None else ["--format", "jsonl", "--all", "--most", str(most)]
     with as_paths(schema, source) as (schema_path, path):
         done = run([program(), "check", *words, "--", schema_path, path])
     said = done.stderr.decode("utf-8", "replace")
     if done.returncode == 0 and _ACCEPTED.fullmatch(done.stdout):
         return Survey([], True)
-    lines = [_LINE.fullmatch(line) for line in said.splitlines()]
-    end = next((found for found in map(_END.fullmatch, said.splitlines()) if found), None)
+    rows = [row_in(line) for line in said.split("\n")]
+    end = next((row for row in rows if "refusals" in row), None)
     if done.returncode != 1 or end is None:
         raise no_answer(said, done.returncode)
-    refusals = [
-        Refused(int(it[1]), it[2], instance=int(it[3]) if it[3] else None, statement=int(it[4]) if it[4] else None) for it in lines if it
-    ]
-    return Survey(refusals, end[1] is None)
+    return Survey([_refusal_of(row) for row in rows if "number" in row], end["extent"] == "whole")

@@ -230,7 +230,12 @@ def test_each_refusal_has_words():
 
 @pytest.mark.parametrize(
     "refusal",
-    [p21.Refused(45, "Count", instance=3), p21.Refused(26, "LeftOut(Scope)", statement=8, which="second"), p21.SchemaRefused(5, "Circular")],
+    [
+        p21.Refused(45, "Count", instance=3),
+        p21.Refused(26, "LeftOut(Scope)", statement=8, which="second"),
+        p21.Refused(49, "WrongKind", instance=1, place=p21.RefusalPlace(278, 9, 30, "CARTESIAN_POINT", "COORDINATES", (1,))),
+        p21.SchemaRefused(5, "Circular"),
+    ],
 )
 def test_refusals_pickle(refusal):
     copy = pickle.loads(pickle.dumps(refusal))
@@ -246,6 +251,104 @@ def test_which_of_two(product):
                     call(product, make(first), make(second))
                 assert found.value.which == which and str(found.value) == f"{which}: refused 45 Count in #3"
                 assert pickle.loads(pickle.dumps(found.value)).which == which
+
+
+# Where the files of examples/refused are refused: byte, line and column, entity, attribute and indices.
+PLACES = {
+    "BadByte": (0, 1, 1, None, None, ()),
+    "BadDirective": (135, 5, 15, None, None, ()),
+    "Count": (355, 11, 31, "AXIS2_PLACEMENT_3D", "REF_DIRECTION", ()),
+    "Dangling": None,
+    "EndsEarly": (332, 11, 24, None, None, ()),
+    "Missing": (289, 10, 11, "PERSON", "ID", ()),
+    "NotUtf8": (263, 9, 19, None, None, ()),
+    "SchemaName": (202, 6, 14, None, None, ()),
+    "UnknownEntity": (312, 11, 4, None, None, ()),
+    "WrongKind": (278, 9, 30, "CARTESIAN_POINT", "COORDINATES", (1,)),
+}
+
+
+def refusal_of(call, *words):
+    with pytest.raises(p21.Refused) as found:
+        call(*words)
+    return found.value
+
+
+@pytest.mark.parametrize("name", PLACES)
+def test_where_a_file_is_refused(product, name):
+    path, wanted = EXAMPLES / "refused" / f"{name}.step", PLACES[name]
+    for source in (path, str(path), path.read_bytes(), memoryview(path.read_bytes())):
+        for call in (p21.check, p21.canonical, p21.accept):
+            assert refusal_of(call, product, source).place == wanted
+        assert refusal_of(p21.same, product, PRODUCT.read_bytes(), source).place == wanted
+        assert refusal_of(p21.same, product, source, PRODUCT).place == wanted
+    # What came in pieces, or was given open, isn't read again.
+    unread = wanted and (wanted[0], None, None, *wanted[3:])
+    with open(path, "rb") as file:
+        assert refusal_of(p21.check, product, file).place == unread
+    for size in (1, 7, 100):
+        with p21.Session(product) as session:
+
+            def feed(size=size, session=session):
+                text = path.read_bytes()
+                for at in range(0, len(text), size):
+                    session.feed(text[at : at + size])
+                session.finish()
+
+            assert refusal_of(feed).place == unread
+
+
+def test_a_place_under_a_schema_that_is_closed():
+    schema = p21.Schema(POINTS)
+    session = p21.Session(schema)
+    schema.close()
+    place = refusal_of(session.feed, HEAD + b"#1=POINT(1.,2);").place
+    assert (place.entity, place.attribute, place.byte) == ("POINT", "Y", len(HEAD) + 12)
+
+
+def test_lines_and_columns():
+    from p21._places import position
+
+    text = b"ab\nc\r\n\rd\n\n"
+    wanted = {0: (1, 1), 1: (1, 2), 2: (1, 3), 3: (2, 1), 4: (2, 2), 6: (3, 1), 7: (4, 1), 8: (4, 2), 9: (5, 1), 10: (6, 1), 11: None}
+    for byte, found in wanted.items():
+        for size in (1, 2, 3, 100):
+            assert position((text[at : at + size] for at in range(0, len(text), size)), byte) == found, (byte, size)
+
+
+def test_the_places_of_the_program(product, program):
+    for path in sorted((EXAMPLES / "refused").glob("*.step")):
+        words = [program, "check", "--format", "jsonl", EXAMPLES / "product.exp", path]
+        row = json.loads(subprocess.run(words, stderr=subprocess.PIPE, check=False).stderr)
+        place = refusal_of(p21.check, product, path).place
+        if row["number"] != p21.RefusalNumber.DANGLING:
+            named = tuple(row.get(name) for name in ("byte", "line", "column", "entity", "attribute"))
+            assert place == (*named, tuple(row.get("indices", ()))), path.name
+
+
+# --- Files by themselves ---
+
+
+def test_syntax(product):
+    for source in (PRODUCT, PRODUCT.read_bytes(), open(PRODUCT, "rb")):
+        found = p21.syntax(source)
+        assert (found.instances, found.schema) == (128, "PRODUCT_MODEL")
+        assert found.header[:3] == [("description", "A block with six faces"), ("implementation level", "2;1"), ("file name", "block.step")]
+        assert ("author", "Edda Kr\u00fcger") in found.header and ("originating system", "") in found.header
+        assert found.keywords["ADVANCED_FACE"] == 6 and list(found.keywords) == sorted(found.keywords)
+    assert repr(found) == "<p21.Syntax of PRODUCT_MODEL, 128 instances>" and "ADVANCED_FACE" in found._repr_html_()
+    by_themselves = {"BadByte": 1, "BadDirective": 4, "Dangling": 56, "EndsEarly": 24, "NotUtf8": 6}
+    for name, place in PLACES.items():
+        path = EXAMPLES / "refused" / f"{name}.step"
+        if name not in by_themselves:
+            assert p21.syntax(path).instances > 0
+            continue
+        refusal = refusal_of(p21.syntax, path)
+        assert (refusal.number, refusal.place) == (by_themselves[name], place)
+    with pytest.raises(FileNotFoundError):
+        p21.syntax(EXAMPLES / "none.step")
+    with pytest.raises(ValueError):
+        p21.syntax("ISO-10303-21;HEADER;")
 
 
 # --- A canonical file piece by piece ---
@@ -465,7 +568,7 @@ def test_help(program):
         os.chdir(folder)
     assert tried >= 30
     documented = [name for name in p21.__all__ if ">>>" in (getattr(p21, name).__doc__ or "")]
-    assert set(p21.__all__) - set(documented) <= {"Buffer", "Source", "Report", "Hash", "Differences", "Place", "Survey", "survey", "accept"}
+    assert set(p21.__all__) - set(documented) <= {"Buffer", "Source", "Report", "Hash", "Differences", "Place", "Survey", "Syntax", "survey", "accept"}
 
 
 # --- What the tools answer ---
@@ -538,6 +641,7 @@ def test_survey(product, program):
     found = p21.survey(schema, text)
     assert [str(it) for it in found.refusals] == ["refused 45 Count in #2", "refused 49 WrongKind in #4"] and found.is_whole
     assert found.refusals[1].sentence == "The value is of another kind than its type."
+    assert found.refusals[1].place == (text.index(b"(4,") + 1, 5, 10, "POINT", "X", ()) and "POINT.X" in found._repr_html_()
     found = p21.survey(schema, text, most=1)
     assert [str(it) for it in found.refusals] == ["refused 45 Count in #2"] and not found.is_whole
     found = p21.survey(schema, text[:-20])

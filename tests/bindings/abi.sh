@@ -36,8 +36,8 @@ if [ -n "$types" ]; then
     abidw --load-all-types --no-corpus-path --no-comp-dir-path --no-show-locs --out-file "$types" "$work/libp21.so"
     exit
 fi
-# Two types of the system's headers that no function has are none of ours.
-printf '[suppress_type]\n  name_regexp = ^(__fsid_t|max_align_t)$\n' > "$work/ours"
+# Two types of the system's headers that no function has are none of ours, and that of p21_lines.h is the caller's own.
+printf '[suppress_type]\n  name_regexp = ^(__fsid_t|max_align_t|p21_position)$\n' > "$work/ours"
 diff "$here/symbols.txt" "$symbols"
 same_symbols=$?
 abidiff --non-reachable-types --no-show-locs --suppressions "$work/ours" "$here/p21.abi" "$work/libp21.so"

@@ -17,7 +17,8 @@ extern long counting_taken(void);
 extern long counting_refused(void);
 extern void counting_refuse(long);
 
-#define HANDLES 6
+#define HANDLES 7
+/* The orders of all but the last one, which stands among them at each place in turn. */
 #define ORDERS 720
 #define LARGEST 65536
 
@@ -74,6 +75,7 @@ typedef struct held {
     p21_session accepted;
     p21_text file;
     p21_text line;
+    p21_list list;
 } held;
 
 static void fill(held *of, p21_report *report) {
@@ -86,6 +88,7 @@ static void fill(held *of, p21_report *report) {
     judge(p21_session_finish(&of->accepted, report) == P21_DONE, "a session ends");
     judge(p21_accepted_write(&of->accepted, &of->file) == P21_DONE, "a file is handed out");
     judge(p21_accepted_line(&of->accepted, 1, &of->line) == P21_DONE, "a line is handed out");
+    judge(p21_survey(&of->schema, refused.at, refused.length, UINT64_MAX, &of->list, report) == P21_DONE, "a list is handed out");
     note_live();
 }
 
@@ -106,19 +109,28 @@ static void let_go(held *of, int handle) {
     case 4:
         p21_text_free(&of->file);
         break;
-    default:
+    case 5:
         p21_text_free(&of->line);
+        break;
+    default:
+        p21_list_free(&of->list);
     }
 }
 
 /* The order of this number of those in which all handles can be let go. */
 static void order_of(int number, int order[HANDLES]) {
-    int left[HANDLES] = {0, 1, 2, 3, 4, 5};
-    for (int i = 0; i < HANDLES; i++) {
-        int at = number % (HANDLES - i);
-        number /= HANDLES - i;
+    int left[HANDLES - 1] = {0, 1, 2, 3, 4, 5};
+    int last = number % HANDLES;
+    for (int i = 0, many = HANDLES - 1; i < HANDLES; i++) {
+        if (i == last) {
+            order[i] = HANDLES - 1;
+            continue;
+        }
+        int at = number % many;
+        number /= many;
+        many--;
         order[i] = left[at];
-        memmove(&left[at], &left[at + 1], (size_t)(HANDLES - i - 1 - at) * sizeof left[0]);
+        memmove(&left[at], &left[at + 1], (size_t)(many - at) * sizeof left[0]);
     }
 }
 
@@ -127,7 +139,7 @@ static void test_orders(void) {
         long before = counting_live();
         int order[HANDLES];
         order_of(number, order);
-        held of = {P21_EMPTY, P21_EMPTY, P21_EMPTY, P21_EMPTY, P21_EMPTY, P21_EMPTY};
+        held of = {P21_EMPTY, P21_EMPTY, P21_EMPTY, P21_EMPTY, P21_EMPTY, P21_EMPTY, P21_EMPTY};
         p21_report report;
         fill(&of, &report);
         for (int i = 0; i < HANDLES; i++) {
@@ -141,21 +153,31 @@ static void test_orders(void) {
     }
 }
 
+/* An entity that has an attribute, by the place of a value that is refused. */
+static uint32_t entity_of(const p21_schema *schema) {
+    p21_report report;
+    p21_place place;
+    judge(p21_check_located(schema, refused.at, refused.length, &report, &place) == P21_REFUSED && place.valued == 1, "a value is refused");
+    return place.entity;
+}
+
 /* Each call that hands something out lets go of what the handle held: whatever that was. */
 static void test_replaced(void) {
     for (int kind = 0; kind < HANDLES; kind++) {
-        for (int call = 0; call < 6; call++) {
+        for (int call = 0; call < 9; call++) {
             long before = counting_live();
-            held of = {P21_EMPTY, P21_EMPTY, P21_EMPTY, P21_EMPTY, P21_EMPTY, P21_EMPTY};
+            held of = {P21_EMPTY, P21_EMPTY, P21_EMPTY, P21_EMPTY, P21_EMPTY, P21_EMPTY, P21_EMPTY};
             p21_report report;
             fill(&of, &report);
-            void *handles[HANDLES] = {&of.schema, &of.shared, &of.under_way, &of.accepted, &of.file, &of.line};
+            void *handles[HANDLES] = {&of.schema, &of.shared, &of.under_way, &of.accepted, &of.file, &of.line, &of.list};
             p21_schema schema = P21_EMPTY;
             judge(p21_schema_new(product_schema.at, product_schema.length, &schema, &report) == P21_DONE, "a schema is read");
             p21_session accepted = P21_EMPTY;
             judge(p21_session_new(&schema, &accepted) == P21_DONE, "a session begins");
             judge(p21_session_feed(&accepted, product.at, product.length, &report) == P21_DONE, "a file is taken");
             judge(p21_session_finish(&accepted, &report) == P21_DONE, "a session ends");
+            p21_text further[2] = {P21_EMPTY, P21_EMPTY};
+            p21_place place;
             uint8_t status;
             switch (call) {
             case 0:
@@ -173,12 +195,23 @@ static void test_replaced(void) {
             case 4:
                 status = p21_schema_share(&schema, handles[kind]);
                 break;
+            case 5:
+                status = p21_survey(&schema, refused.at, refused.length, 1, handles[kind], &report);
+                break;
+            case 6:
+                status = p21_syntax(product.at, product.length, handles[kind], &further[0], &further[1], &report, &place);
+                break;
+            case 7:
+                status = p21_place_name(&schema, entity_of(&schema), 0, handles[kind]);
+                break;
             default:
                 status = p21_accepted_line(&accepted, 1, handles[kind]);
             }
             judge(status == P21_DONE, "a call hands something out");
             p21_schema_free(&schema);
             p21_session_free(&accepted);
+            p21_text_free(&further[0]);
+            p21_text_free(&further[1]);
             for (int handle = 0; handle < HANDLES; handle++) {
                 let_go(&of, handle);
             }
@@ -218,6 +251,14 @@ static void test_others(void) {
     judge(p21_same(&schema, refused.at, refused.length, other.at, other.length, &same, &report) == P21_REFUSED, "the first is refused");
     judge(p21_same(&schema, product.at, product.length, refused.at, refused.length, &same, &report) == P21_REFUSED, "the second is refused");
     judge(p21_text_bytes(&text, &at, &length) == P21_MISUSED, "an empty handle has no text");
+    p21_place place;
+    p21_text words[2] = {P21_EMPTY, P21_EMPTY};
+    judge(p21_check_located(&schema, refused.at, refused.length, &report, &place) == P21_REFUSED, "a file is refused at a place");
+    judge(p21_canonical_located(&schema, refused.at, refused.length, &text, &report, &place) == P21_REFUSED, "a file isn't written, at a place");
+    judge(p21_same_located(&schema, product.at, product.length, refused.at, refused.length, &same, &report, &place) == P21_REFUSED,
+          "the second is refused at a place");
+    judge(p21_syntax(product.at, product.length / 2, &text, &words[0], &words[1], &report, &place) == P21_REFUSED, "a file isn't well formed");
+    judge(p21_place_name(&schema, UINT32_MAX, 0, &text) == P21_REFUSED, "there is no such attribute");
     judge(counting_live() == with_schema, "a call that hands nothing out leaves no block");
     p21_session session = P21_EMPTY;
     judge(p21_session_feed((p21_session *)&schema, product.at, 1, &report) == P21_MISUSED, "a schema takes no piece");
@@ -227,7 +268,8 @@ static void test_others(void) {
     judge(counting_live() == with_schema, "a misused handle keeps what it holds");
     judge(p21_session_new(&schema, &session) == P21_DONE, "a session begins");
     judge(p21_session_feed(&session, refused.at, refused.length, &report) == P21_REFUSED, "a piece is refused");
-    judge(p21_session_finish(&session, &report) == P21_REFUSED, "a refused session ends");
+    judge(p21_session_place(&session, &place) == P21_DONE && place.known == 1, "it has a place");
+    judge(p21_session_finish_located(&session, &report, &place) == P21_REFUSED, "a refused session ends");
     judge(counting_live() == with_schema, "the end of a refused session leaves no block");
     p21_schema_free(&schema);
     judge(counting_live() == before, "a schema is freed");
@@ -246,22 +288,38 @@ static bool is_read(p21_session *accepted) {
     return true;
 }
 
+/* What a small file says of itself. */
+static bool is_told(p21_report *report) {
+    p21_text texts[3] = {P21_EMPTY, P21_EMPTY, P21_EMPTY};
+    p21_place place;
+    bool is = p21_syntax(text_at(small_file), sizeof small_file - 1, &texts[0], &texts[1], &texts[2], report, &place) == P21_DONE;
+    judge(is == (texts[0].inside != NULL) && is == (texts[1].inside != NULL) && is == (texts[2].inside != NULL), "all three texts or none");
+    for (int i = 0; i < 3; i++) {
+        p21_text_free(&texts[i]);
+    }
+    return is;
+}
+
 /* Each call once over a small file, until one of them has no memory. */
 static bool is_done(held *of, p21_report *report) {
     const uint8_t *file = text_at(small_file);
     size_t length = sizeof small_file - 1;
     uint8_t same;
+    p21_place place;
     return p21_schema_new(text_at(small_schema), sizeof small_schema - 1, &of->schema, report) == P21_DONE &&
            p21_schema_share(&of->schema, &of->shared) == P21_DONE && p21_check(&of->shared, file, length, report) == P21_DONE && p21_canonical(&of->schema, file, length, &of->file, report) == P21_DONE &&
            p21_same(&of->schema, file, length, file, length, &same, report) == P21_DONE && p21_session_new(&of->schema, &of->under_way) == P21_DONE &&
            p21_session_feed(&of->under_way, file, length / 2, report) == P21_DONE && p21_session_new(&of->schema, &of->accepted) == P21_DONE &&
            p21_session_feed(&of->accepted, file, length, report) == P21_DONE && p21_session_finish(&of->accepted, report) == P21_DONE &&
            p21_accepted_write(&of->accepted, &of->file) == P21_DONE && p21_accepted_line(&of->accepted, 1, &of->line) == P21_DONE &&
-           is_read(&of->accepted);
+           is_read(&of->accepted) && p21_survey(&of->schema, file, length, UINT64_MAX, &of->list, report) == P21_DONE &&
+           is_told(report) &&
+           p21_check_located(&of->schema, file, length / 2, report, &place) == P21_REFUSED &&
+           p21_place_name(&of->schema, 0, 0, &of->line) == P21_DONE;
 }
 
 static void test_want_of_memory(void) {
-    held whole = {P21_EMPTY, P21_EMPTY, P21_EMPTY, P21_EMPTY, P21_EMPTY, P21_EMPTY};
+    held whole = {P21_EMPTY, P21_EMPTY, P21_EMPTY, P21_EMPTY, P21_EMPTY, P21_EMPTY, P21_EMPTY};
     p21_report report;
     long begun = counting_taken();
     judge(is_done(&whole, &report), "each call over the small file");
@@ -272,7 +330,7 @@ static void test_want_of_memory(void) {
     judge(many > 100, "the calls take memory");
     for (long number = 1; number <= many; number++) {
         long before = counting_live();
-        held of = {P21_EMPTY, P21_EMPTY, P21_EMPTY, P21_EMPTY, P21_EMPTY, P21_EMPTY};
+        held of = {P21_EMPTY, P21_EMPTY, P21_EMPTY, P21_EMPTY, P21_EMPTY, P21_EMPTY, P21_EMPTY};
         counting_refuse(number);
         is_done(&of, &report);
         counting_refuse(0);
@@ -309,7 +367,7 @@ static void test_unshared(void) {
 
 /* A canonical file is read piece by piece where there is no memory at all. */
 static void test_reading(void) {
-    held of = {P21_EMPTY, P21_EMPTY, P21_EMPTY, P21_EMPTY, P21_EMPTY, P21_EMPTY};
+    held of = {P21_EMPTY, P21_EMPTY, P21_EMPTY, P21_EMPTY, P21_EMPTY, P21_EMPTY, P21_EMPTY};
     p21_report report;
     fill(&of, &report);
     long taken = counting_taken();

@@ -314,6 +314,268 @@ static void test_shared(bytes express, bytes product) {
           "both are let go");
 }
 
+/* Is a text this one? */
+static bool is_word(p21_text *text, const char *word) { return is_text(text, (const uint8_t *)word, strlen(word)); }
+
+static bool is_nowhere(const p21_place *place) {
+    static const p21_place nowhere;
+    return place->byte == 0 && place->entity == 0 && place->attribute == 0 && place->levels == 0 && place->known == 0 && place->valued == 0 &&
+           memcmp(place->indices, nowhere.indices, sizeof nowhere.indices) == 0;
+}
+
+/* Where a file of `examples` is refused. */
+typedef struct spot {
+    const char *name;
+    uint8_t known;
+    uint64_t byte;
+    uint64_t line;
+    uint64_t column;
+    const char *attribute;
+    uint32_t index;
+} spot;
+
+static bool is_spot(const p21_schema *schema, const p21_place *place, bytes file, const spot *wanted) {
+    p21_position position = P21_FIRST;
+    p21_text name = P21_EMPTY;
+    bool is_named = wanted->attribute == NULL
+                        ? place->valued == 0
+                        : place->valued == 1 && p21_place_name(schema, place->entity, place->attribute, &name) == P21_DONE &&
+                              is_word(&name, wanted->attribute);
+    p21_text_free(&name);
+    p21_move(&position, file.at, (size_t)place->byte);
+    return is_named && place->known == wanted->known && place->byte == wanted->byte && position.line == wanted->line &&
+           position.column == wanted->column && place->levels == (wanted->index > 0) && place->indices[0] == wanted->index;
+}
+
+/* A file in pieces of a size: its report and its place, wherever it is refused. */
+static uint8_t refused_in_pieces(p21_schema *schema, bytes file, size_t size, p21_report *report, p21_place *place) {
+    p21_session session = P21_EMPTY;
+    judge(p21_session_new(schema, &session) == P21_DONE && p21_session_place(&session, place) == P21_DONE && is_nowhere(place), "no place yet");
+    for (size_t i = 0; i < file.length; i += size) {
+        size_t length = file.length - i < size ? file.length - i : size;
+        uint8_t status = p21_session_feed(&session, file.at + i, length, report);
+        if (status != P21_DONE) {
+            p21_place last;
+            p21_report again;
+            judge(p21_session_place(&session, place) == P21_DONE, "the place of a piece that is refused");
+            judge(p21_session_finish_located(&session, &again, &last) == status && again.number == report->number && last.byte == place->byte &&
+                      last.known == place->known && last.valued == place->valued && last.attribute == place->attribute && session.inside == NULL,
+                  "the same at the end");
+            return status;
+        }
+    }
+    uint8_t status = p21_session_finish_located(&session, report, place);
+    p21_session_free(&session);
+    return status;
+}
+
+static void test_places(const char *folder, p21_schema *schema, bytes product) {
+    static const spot rows[] = {
+        {"refused/BadByte.step", 1, 0, 1, 1, NULL, 0},
+        {"refused/BadDirective.step", 1, 135, 5, 15, NULL, 0},
+        {"refused/Count.step", 1, 355, 11, 31, "AXIS2_PLACEMENT_3D.REF_DIRECTION", 0},
+        {"refused/Dangling.step", 0, 0, 1, 1, NULL, 0},
+        {"refused/EndsEarly.step", 1, 332, 11, 24, NULL, 0},
+        {"refused/Missing.step", 1, 289, 10, 11, "PERSON.ID", 0},
+        {"refused/NotUtf8.step", 1, 263, 9, 19, NULL, 0},
+        {"refused/SchemaName.step", 1, 202, 6, 14, NULL, 0},
+        {"refused/UnknownEntity.step", 1, 312, 11, 4, NULL, 0},
+        {"refused/WrongKind.step", 1, 278, 9, 30, "CARTESIAN_POINT.COORDINATES", 1},
+    };
+    p21_report report;
+    p21_text text = P21_EMPTY;
+    uint8_t same = 7;
+    for (size_t i = 0; i < sizeof rows / sizeof rows[0]; i++) {
+        bytes file = read_file(folder, rows[i].name);
+        p21_place place;
+        p21_report plain;
+        judge(p21_check_located(schema, file.at, file.length, &report, &place) == P21_REFUSED && is_spot(schema, &place, file, &rows[i]), rows[i].name);
+        judge(p21_check(schema, file.at, file.length, &plain) == P21_REFUSED && plain.number == report.number && plain.at == report.at &&
+                  plain.place == report.place && plain.subject == report.subject,
+              "the same report without a place");
+        memset(&place, 0xA5, sizeof place);
+        judge(p21_canonical_located(schema, file.at, file.length, &text, &report, &place) == P21_REFUSED && is_spot(schema, &place, file, &rows[i]) &&
+                  text.inside == NULL,
+              rows[i].name);
+        memset(&place, 0xA5, sizeof place);
+        judge(p21_same_located(schema, product.at, product.length, file.at, file.length, &same, &report, &place) == P21_REFUSED && same == 7 &&
+                  report.subject == P21_SECOND && is_spot(schema, &place, file, &rows[i]),
+              rows[i].name);
+        memset(&place, 0xA5, sizeof place);
+        judge(p21_same_located(schema, file.at, file.length, product.at, product.length, &same, &report, &place) == P21_REFUSED && same == 7 &&
+                  report.subject == P21_FILE && is_spot(schema, &place, file, &rows[i]),
+              rows[i].name);
+        for (size_t size = 1; size <= 1000; size *= 10) {
+            memset(&place, 0xA5, sizeof place);
+            judge(refused_in_pieces(schema, file, size, &report, &place) == P21_REFUSED && is_spot(schema, &place, file, &rows[i]), rows[i].name);
+        }
+        free(file.at);
+    }
+    p21_place place;
+    memset(&place, 0xA5, sizeof place);
+    judge(p21_check_located(schema, product.at, product.length, &report, &place) == P21_DONE && has_counts(&report, 128, 4872) && is_nowhere(&place),
+          "a file that is accepted has no place");
+    memset(&place, 0xA5, sizeof place);
+    judge(p21_canonical_located(schema, product.at, product.length, &text, &report, &place) == P21_DONE && has_counts(&report, 128, 4872) &&
+              is_nowhere(&place),
+          "nor has its canonical file");
+    memset(&place, 0xA5, sizeof place);
+    judge(p21_same_located(schema, product.at, product.length, product.at, product.length, &same, &report, &place) == P21_DONE && same == 1 &&
+              is_quiet(&report) && is_nowhere(&place),
+          "nor have two");
+    memset(&place, 0xA5, sizeof place);
+    judge(refused_in_pieces(schema, product, 4096, &report, &place) == P21_DONE && has_counts(&report, 128, 4872) && is_nowhere(&place),
+          "nor has a session that ends well");
+    judge(p21_place_name(schema, UINT32_MAX, 0, &text) == P21_REFUSED && p21_place_name(schema, 0, UINT32_MAX, &text) == P21_REFUSED,
+          "the schema has no such attribute");
+    p21_text_free(&text);
+}
+
+/* The line and the column of each byte of a text, by pieces of one byte and at once. */
+static void test_lines(void) {
+    static const char text[] = "ab\nc\r\n\rd\n\n";
+    static const struct {
+        size_t byte;
+        uint64_t line;
+        uint64_t column;
+    } rows[] = {{0, 1, 1}, {1, 1, 2}, {2, 1, 3}, {3, 2, 1}, {4, 2, 2}, {6, 3, 1}, {7, 4, 1}, {8, 4, 2}, {9, 5, 1}, {10, 6, 1}};
+    for (size_t i = 0; i < sizeof rows / sizeof rows[0]; i++) {
+        p21_position at_once = P21_FIRST;
+        p21_position by_bytes = P21_FIRST;
+        p21_move(&at_once, (const uint8_t *)text, rows[i].byte);
+        for (size_t j = 0; j < rows[i].byte; j++) {
+            p21_move(&by_bytes, (const uint8_t *)text + j, 1);
+        }
+        judge(at_once.line == rows[i].line && at_once.column == rows[i].column, "the line and the column of a byte");
+        judge(by_bytes.line == rows[i].line && by_bytes.column == rows[i].column, "the same byte by byte");
+    }
+}
+
+/* A file that is refused in many places, and its lines end in three ways. */
+static const char broken[] = "ISO-10303-21;\nHEADER;\nFILE_DESCRIPTION((''),'2;1');\nFILE_NAME('','',(''),(''),'','','');\n"
+                             "FILE_SCHEMA(('PRODUCT_MODEL'));\nENDSEC;\nDATA;\n#1=PERSON($,$,$,$);\n#2=DIRECTION('');\r\n"
+                             "#3=CARTESIAN_POINT('',(1.,2,3.));\r#4=AXIS2_PLACEMENT_3D('',#9,$,$);\nENDSEC;\nEND-ISO-10303-21;\n";
+
+static void test_lists(p21_schema *schema, bytes product) {
+    static const struct {
+        uint8_t number;
+        uint64_t at;
+        spot spot;
+    } rows[] = {
+        {P21_MISSING, 1, {"", 1, 145, 8, 11, "PERSON.ID", 0}},
+        {P21_COUNT, 2, {"", 1, 170, 9, 16, "DIRECTION.DIRECTION_RATIOS", 0}},
+        {P21_WRONG_KIND, 3, {"", 1, 200, 10, 27, "CARTESIAN_POINT.COORDINATES", 2}},
+        {P21_DANGLING, 4, {"", 0, 0, 1, 1, NULL, 0}},
+    };
+    static const struct {
+        size_t length;
+        uint64_t most;
+        size_t count;
+        uint8_t extent;
+        uint8_t last;
+    } lists[] = {
+        {sizeof broken - 1, UINT64_MAX, 4, P21_WHOLE, P21_DANGLING},  {sizeof broken - 1, 2, 2, P21_MOST, P21_COUNT},
+        {sizeof broken - 1, 0, 1, P21_MOST, P21_MISSING},             {sizeof broken - 20, UINT64_MAX, 4, P21_PART, P21_ENDS_EARLY},
+        {0, UINT64_MAX, 1, P21_PART, P21_ENDS_EARLY},
+    };
+    const bytes file = {(uint8_t *)broken, sizeof broken - 1};
+    p21_list list = P21_EMPTY;
+    p21_report report;
+    p21_place place;
+    size_t count = 7;
+    uint8_t extent = 7;
+    for (size_t i = 0; i < sizeof lists / sizeof lists[0]; i++) {
+        judge(p21_survey(schema, file.at, lists[i].length, lists[i].most, &list, &report) == P21_DONE && is_quiet(&report), "a file is surveyed");
+        judge(p21_list_count(&list, &count, &extent) == P21_DONE && count == lists[i].count && extent == lists[i].extent, "how many are refused");
+        judge(p21_list_refusal(&list, count - 1, &report, &place) == P21_DONE && report.number == lists[i].last, "the last one");
+        report.number = 7;
+        judge(p21_list_refusal(&list, count, &report, &place) == P21_REFUSED && report.number == 7, "none behind it, and all stays as it was");
+    }
+    judge(p21_survey(schema, file.at, file.length, UINT64_MAX, &list, &report) == P21_DONE, "a file is surveyed whole");
+    for (size_t i = 0; i < sizeof rows / sizeof rows[0]; i++) {
+        memset(&place, 0xA5, sizeof place);
+        judge(p21_list_refusal(&list, i, &report, &place) == P21_DONE && report.subject == P21_FILE && report.number == rows[i].number &&
+                  report.place == P21_INSTANCE && report.at == rows[i].at && report.instances == 0 && report.bytes == 0,
+              "a refusal of a list");
+        judge(is_spot(schema, &place, file, &rows[i].spot), "its place");
+    }
+    judge(p21_survey(schema, product.at, product.length, UINT64_MAX, &list, &report) == P21_DONE && has_counts(&report, 128, 4872) &&
+              p21_list_count(&list, &count, &extent) == P21_DONE && count == 0 && extent == P21_WHOLE &&
+              p21_list_refusal(&list, 0, &report, &place) == P21_REFUSED,
+          "nothing is refused of a file that is accepted");
+    p21_list_free(&list);
+    judge(list.inside == NULL && p21_list_count(&list, &count, &extent) == P21_MISUSED && count == 0, "a list that is let go");
+}
+
+/* Files by themselves. */
+static void test_syntax(const char *folder, bytes product) {
+    static const char header[] = "description: A block with six faces\nimplementation level: 2;1\nfile name: block.step\n"
+                                 "time stamp: 2024-03-15T10:30:00\nauthor: Edda Kr\303\274ger\norganization: Block works\n"
+                                 "preprocessor version: written by hand\noriginating system:\nauthorization: none\nschema: PRODUCT_MODEL\n";
+    static const char keywords[] = "ADVANCED_FACE 6\nAXIS2_PLACEMENT_3D 7\nCALENDAR_DATE 1\nCARTESIAN_POINT 8\n";
+    static const struct {
+        const char *name;
+        uint8_t number;
+        uint64_t instances;
+        uint8_t known;
+        uint64_t byte;
+    } rows[] = {
+        {"refused/BadByte.step", P21_BAD_BYTE, 0, 1, 0},        {"refused/BadDirective.step", P21_BAD_DIRECTIVE, 0, 1, 135},
+        {"refused/Count.step", 0, 3, 0, 0},                     {"refused/Dangling.step", P21_DANGLING, 0, 0, 0},
+        {"refused/EndsEarly.step", P21_ENDS_EARLY, 0, 1, 332},  {"refused/Missing.step", 0, 2, 0, 0},
+        {"refused/NotUtf8.step", P21_NOT_UTF8, 0, 1, 263},      {"refused/SchemaName.step", 0, 1, 0, 0},
+        {"refused/UnknownEntity.step", 0, 3, 0, 0},             {"refused/WrongKind.step", 0, 1, 0, 0},
+    };
+    /* What stands inside a header record or the line of a section, and a name that stands twice. */
+    static const struct {
+        const char *behind;
+        uint8_t number;
+        uint64_t byte;
+    } texts[] = {
+        {"FILE_SCHEMA((''));ENDSEC;DATA;ENDSEC;END-ISO-10303-21;", P21_SCHEMA_NAME, 98},
+        {"FILE_SCHEMA(($));ENDSEC;DATA;ENDSEC;END-ISO-10303-21;", P21_HEADER_SHAPE, 97},
+        {"FILE_SCHEMA(('S'));ENDSEC;DATA('a',('S'));ENDSEC;DATA('a',('S'));ENDSEC;END-ISO-10303-21;", P21_SECTION_TWICE, 139},
+        {"FILE_SCHEMA(('S'));ENDSEC;DATA;#1=A($);#2=B(#1);#01=A($);ENDSEC;END-ISO-10303-21;", P21_DUPLICATE_NAME, 133},
+        {"FILE_SCHEMA(('S'));ENDSEC;DATA('a',('T'));ENDSEC;END-ISO-10303-21;", P21_SCHEMA_NAME, 121},
+        {"FILE_SCHEMA(('S'));ENDSEC;DATA;#1=A(\"3\");ENDSEC;END-ISO-10303-21;", P21_BAD_BINARY, 123},
+    };
+    p21_text schema = P21_EMPTY, words = P21_EMPTY, counts = P21_EMPTY;
+    p21_report report;
+    p21_place place;
+    memset(&place, 0xA5, sizeof place);
+    judge(p21_syntax(product.at, product.length, &schema, &words, &counts, &report, &place) == P21_DONE && has_counts(&report, 128, 0) &&
+              is_nowhere(&place),
+          "a file is well formed");
+    judge(is_word(&schema, "PRODUCT_MODEL"), "the name of its schema");
+    judge(is_word(&words, header), "its header in words");
+    const uint8_t *at = NULL;
+    size_t length = 0;
+    judge(p21_text_bytes(&counts, &at, &length) == P21_DONE && length > sizeof keywords && memcmp(at, keywords, sizeof keywords - 1) == 0, "its keywords");
+    for (size_t i = 0; i < sizeof rows / sizeof rows[0]; i++) {
+        bytes file = read_file(folder, rows[i].name);
+        uint8_t status = p21_syntax(file.at, file.length, &schema, &words, &counts, &report, &place);
+        judge(status == (rows[i].number > 0 ? P21_REFUSED : P21_DONE) && report.subject == (rows[i].number > 0 ? P21_FILE : 0) &&
+                  report.number == rows[i].number && report.instances == rows[i].instances && report.bytes == 0,
+              rows[i].name);
+        judge(place.known == rows[i].known && place.byte == rows[i].byte && place.valued == 0 && place.levels == 0, rows[i].name);
+        free(file.at);
+    }
+    judge(is_word(&schema, "PRODUCT_MODEL"), "a refusal leaves the texts as they were");
+    for (size_t i = 0; i < sizeof texts / sizeof texts[0]; i++) {
+        char file[512];
+        int count = snprintf(file, sizeof file, "ISO-10303-21;HEADER;FILE_DESCRIPTION((''),'2;1');FILE_NAME('','',(''),(''),'','','');%s", texts[i].behind);
+        judge(p21_syntax((const uint8_t *)file, (size_t)count, &schema, &words, &counts, &report, &place) == P21_REFUSED &&
+                  report.number == texts[i].number && place.known == 1 && place.byte == texts[i].byte,
+              texts[i].behind);
+    }
+    judge(p21_syntax(product.at, 0, &schema, &words, &counts, &report, &place) == P21_REFUSED && report.number == P21_ENDS_EARLY && place.known == 1 &&
+              place.byte == 0,
+          "no bytes are no file");
+    p21_text_free(&schema);
+    p21_text_free(&words);
+    p21_text_free(&counts);
+}
+
 /* The refusals in words. */
 static void test_words(void) {
     judge(strcmp(p21_refusal_name(P21_NOT_DISTINCT), "NotDistinct") == 0 && strcmp(p21_schema_refusal_name(P21_SCHEMA_CIRCULAR), "Circular") == 0,
@@ -348,6 +610,21 @@ static void test_misuse(p21_schema *schema, bytes file) {
     judge(p21_session_feed(&session, file.at, file.length, &report) == P21_MISUSED, "no session to feed");
     judge(p21_session_finish(&session, &report) == P21_MISUSED, "no session to end");
     judge(p21_accepted_line(&session, 1, &text) == P21_MISUSED, "no file to look into");
+    p21_place place;
+    p21_list list = P21_EMPTY;
+    uint8_t extent = 7;
+    judge(p21_check_located(&none, file.at, file.length, &report, &place) == P21_MISUSED && is_quiet(&report) && is_nowhere(&place), "no schema to check by");
+    judge(p21_canonical_located(&none, file.at, file.length, &text, &report, &place) == P21_MISUSED && text.inside == NULL, "no schema to write by");
+    judge(p21_same_located(&none, file.at, file.length, file.at, file.length, &same, &report, &place) == P21_MISUSED && same == 7,
+          "no schema to compare by");
+    judge(p21_session_finish_located(&session, &report, &place) == P21_MISUSED && is_nowhere(&place), "no session to end");
+    place.byte = 7;
+    judge(p21_session_place(&session, &place) == P21_MISUSED && place.byte == 7, "no session that refused");
+    judge(p21_session_place((p21_session *)schema, &place) == P21_MISUSED, "a schema is no session that refused");
+    judge(p21_place_name(&none, 0, 0, &text) == P21_MISUSED && text.inside == NULL, "no schema to name by");
+    judge(p21_survey(&none, file.at, file.length, 1, &list, &report) == P21_MISUSED && list.inside == NULL, "no schema to survey by");
+    judge(p21_list_count((p21_list *)schema, &length, &extent) == P21_MISUSED && length == 7 && extent == 7, "a schema is no list");
+    judge(p21_list_refusal(&list, 0, &report, &place) == P21_MISUSED, "no list to look into");
     p21_cursor cursor = P21_START;
     uint8_t byte = 7;
     judge(p21_accepted_read(&session, &cursor, &byte, 1, &length) == P21_MISUSED && byte == 7 && length == 7, "no file to read on in");
@@ -391,6 +668,10 @@ int main(int count, char **words) {
     test_reading(&schema, product, 4872);
     test_reading(&schema, product, 65536);
     test_cursors(&schema, product);
+    test_lines();
+    test_places(words[1], &schema, product);
+    test_lists(&schema, product);
+    test_syntax(words[1], product);
     test_refused_session(&schema, refused);
     test_misuse(&schema, product);
 

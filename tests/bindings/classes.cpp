@@ -54,6 +54,7 @@ static bool is_misused(const std::function<void()> &call) {
 
 static_assert(!std::is_copy_constructible_v<p21::text> && std::is_nothrow_move_constructible_v<p21::text>);
 static_assert(!std::is_copy_constructible_v<p21::session> && std::is_nothrow_move_constructible_v<p21::session>);
+static_assert(!std::is_copy_constructible_v<p21::refusals> && std::is_nothrow_move_constructible_v<p21::refusals>);
 static_assert(!std::is_copy_constructible_v<p21::accepted> && std::is_nothrow_move_constructible_v<p21::accepted>);
 static_assert(std::is_copy_constructible_v<p21::schema> && std::is_nothrow_move_constructible_v<p21::schema>);
 
@@ -78,7 +79,41 @@ static void test_files(const p21::schema &schema, const std::string &folder) {
         judge(refusal.number() == P21_COUNT && refusal.name() == "Count" && !refusal.is_schema(), "a number and a name");
         judge(refusal.sentence() == "The record has another number of values than the entity.", "a sentence");
         judge(refusal.instance() == 3 && !refusal.statement(), "an instance and no statement");
+        judge(refusal.byte() == 355 && schema.place_name(refusal.place()) == "AXIS2_PLACEMENT_3D.REF_DIRECTION", "a byte and an attribute");
+        const p21_position position = p21::position_of(refused, *refusal.byte());
+        judge(position.line == 11 && position.column == 31, "a line and a column");
     }
+    try {
+        schema.same(product, text_of(folder + "/refused/Dangling.step"));
+    } catch (const p21::refused &refusal) {
+        judge(refusal.number() == P21_DANGLING && !refusal.byte() && !schema.place_name(refusal.place()), "a reference has no byte");
+    }
+}
+
+/* All refusals of a file, and what one says of itself. */
+static void test_readings(const p21::schema &schema, const std::string &folder) {
+    const std::string product = text_of(folder + "/product.step"), refused = text_of(folder + "/refused/Count.step");
+    const p21::refusals none = schema.survey(product);
+    judge(none.size() == 0 && none.extent() == P21_WHOLE, "nothing is refused");
+    p21::refusals found = schema.survey(refused);
+    judge(found.size() == 1 && found.extent() == P21_WHOLE && found.at(0).byte() == 355, "one refusal");
+    judge(std::string(found.at(0).what()) == "refused 45 Count in #3", "its line");
+    bool is_past = false;
+    try {
+        found.at(1);
+    } catch (const std::out_of_range &) {
+        is_past = true;
+    }
+    judge(is_past, "no refusal behind the last one");
+    const p21::refusals moved = std::move(found);
+    judge(moved.size() == 1 && moved.at(0).number() == P21_COUNT, "a list that was moved");
+    judge(schema.survey(std::string_view(refused).substr(0, 300), 5).extent() == P21_PART, "a list that the end of a file ends");
+    const p21::overview overview = p21::syntax(product);
+    judge(overview.instances == 128 && overview.schema.view() == "PRODUCT_MODEL", "the instances and the schema of a file");
+    judge(overview.header.view().find("author: Edda Kr\303\274ger\n") != std::string_view::npos, "its header");
+    judge(overview.keywords.view().substr(0, 16) == "ADVANCED_FACE 6\n", "its keywords");
+    judge(p21::syntax(refused.data(), refused.size()).instances == 3, "a pointer and a length");
+    judge(line_of([] { p21::syntax({}); }) == "refused 24 EndsEarly at statement 1", "no bytes at all");
 }
 
 static void test_schemas(const p21::schema &schema, const std::string &product) {
@@ -112,7 +147,19 @@ static void test_sessions(const p21::schema &schema, const std::string &product)
     judge(is_misused([&] { session.feed("X"); }) && is_misused([&] { session.finish(); }), "a session that ended");
     p21::session dead(schema);
     judge(line_of([&] { dead.feed("\xff"); }) == "refused 1 BadByte at statement 1", "a piece that is refused");
+    try {
+        dead.feed("X");
+    } catch (const p21::refused &refusal) {
+        judge(refusal.byte() == 0, "where it is refused");
+    }
     judge(line_of([&] { dead.finish(); }) == "refused 1 BadByte at statement 1", "its end");
+    p21::session cut(schema);
+    cut.feed("ISO-10303-21;");
+    try {
+        cut.finish();
+    } catch (const p21::refused &refusal) {
+        judge(refusal.number() == P21_ENDS_EARLY && refusal.byte() == 13, "where a file that is cut ends");
+    }
 }
 
 /* Threads that use one schema and one accepted file at once, each some files, sessions and copies. */
@@ -149,6 +196,7 @@ int main(int count, char **words) {
     const std::string product = text_of(folder + "/product.step"), other = text_of(folder + "/product-other.step");
     const p21::schema schema(text_of(folder + "/product.exp"));
     test_files(schema, folder);
+    test_readings(schema, folder);
     test_schemas(schema, product);
     test_sessions(schema, product);
     test_threads(schema, product, other);

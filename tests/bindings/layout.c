@@ -107,6 +107,29 @@ static void test_accepted(p21_schema *schema, const uint8_t *file, size_t length
     }
 }
 
+/* A value in an aggregate that is refused: the numbers in the fields of its place. */
+static void test_place(p21_schema *schema) {
+    static const char text[] = "ISO-10303-21;HEADER;FILE_DESCRIPTION((''),'2;1');FILE_NAME('','',(''),(''),'','','');"
+                               "FILE_SCHEMA(('PRODUCT_MODEL'));ENDSEC;DATA;#1=CARTESIAN_POINT('',(1.,2,3.));";
+    p21_report report;
+    p21_place found;
+    p21_text name = P21_EMPTY;
+    judge(p21_check_located(schema, (const uint8_t *)text, sizeof text - 1, &report, &found) == P21_REFUSED, "a value is refused");
+    judge(p21_place_name(schema, found.entity, found.attribute, &name) == P21_DONE, "it is of an attribute");
+    p21_text_free(&name);
+    for (size_t i = 0; i < sizeof fillings; i++) {
+        const field fields[] = {FIELD(p21_place, byte, sizeof text - 8), FIELD(p21_place, entity, found.entity),
+                                FIELD(p21_place, attribute, found.attribute), {"p21_place.indices", offsetof(p21_place, indices), 8, 2},
+                                {"p21_place.indices", offsetof(p21_place, indices) + 8, 8, 0}, {"p21_place.indices", offsetof(p21_place, indices) + 16, 8, 0},
+                                {"p21_place.indices", offsetof(p21_place, indices) + 24, 8, 0}, FIELD(p21_place, levels, 1),
+                                FIELD(p21_place, known, 1), FIELD(p21_place, valued, 1)};
+        place of;
+        fill(&of, fillings[i]);
+        judge(p21_check_located(schema, (const uint8_t *)text, sizeof text - 1, &report, (p21_place *)of.at) == P21_REFUSED, "the value is refused again");
+        judge(has_fields(&of, fillings[i], fields, sizeof fields / sizeof fields[0], sizeof(p21_place)), "the fields of a place");
+    }
+}
+
 /* A handle is a pointer and nothing else: the bytes around it stay as they were, and let go it is null. */
 static bool is_handle(const place *of, uint8_t byte, bool is_empty) {
     place wanted;
@@ -123,26 +146,33 @@ static void empty(place *of, uint8_t byte) {
 }
 
 static void test_handles(p21_schema *schema, const uint8_t *express, size_t express_length, const uint8_t *file, size_t length) {
-    judge(sizeof(p21_schema) == sizeof(void *) && sizeof(p21_session) == sizeof(void *) && sizeof(p21_text) == sizeof(void *),
+    judge(sizeof(p21_schema) == sizeof(void *) && sizeof(p21_session) == sizeof(void *) && sizeof(p21_text) == sizeof(void *) &&
+              sizeof(p21_list) == sizeof(void *),
           "a handle is a pointer");
     for (size_t i = 0; i < sizeof fillings; i++) {
         p21_report report;
-        place of_schema, of_session, of_text;
+        place of_schema, of_session, of_text, of_list;
         empty(&of_schema, fillings[i]);
         empty(&of_session, fillings[i]);
         empty(&of_text, fillings[i]);
+        empty(&of_list, fillings[i]);
         p21_schema *at_schema = (p21_schema *)of_schema.at;
         p21_session *at_session = (p21_session *)of_session.at;
         p21_text *at_text = (p21_text *)of_text.at;
+        p21_list *at_list = (p21_list *)of_list.at;
         judge(p21_schema_new(express, express_length, at_schema, &report) == P21_DONE, "a schema is read");
         judge(p21_session_new(schema, at_session) == P21_DONE, "a session begins");
         judge(p21_canonical(schema, file, length, at_text, &report) == P21_DONE, "a text is handed out");
+        judge(p21_survey(schema, file, length, 1, at_list, &report) == P21_DONE, "a list is handed out");
+        judge(is_handle(&of_list, fillings[i], false), "the handle of a list");
         judge(is_handle(&of_schema, fillings[i], false), "the handle of a schema");
         judge(is_handle(&of_session, fillings[i], false), "the handle of a session");
         judge(is_handle(&of_text, fillings[i], false), "the handle of a text");
         p21_schema_free(at_schema);
         p21_session_free(at_session);
         p21_text_free(at_text);
+        p21_list_free(at_list);
+        judge(is_handle(&of_list, fillings[i], true), "the handle of a list that is let go");
         judge(is_handle(&of_schema, fillings[i], true), "the handle of a schema that is let go");
         judge(is_handle(&of_session, fillings[i], true), "the handle of a session that is let go");
         judge(is_handle(&of_text, fillings[i], true), "the handle of a text that is let go");
@@ -206,6 +236,7 @@ int main(int count, char **words) {
     test_refused(&schema, file, length);
     test_accepted(&schema, file, length);
     test_cursor(&schema, file, length);
+    test_place(&schema);
     test_handles(&schema, express, express_length, file, length);
     p21_schema_free(&schema);
     puts(wrong ? "something is wrong" : "all stands where the header has it");

@@ -84,21 +84,32 @@ def catch(tasks):
     words = tasks.words("Catch a refusal with its place")
     tasks.judge("accepted", (b"accepted, instances 128\n", "", 0), tasks.run(words, SCHEMA, EXAMPLES / "product.step"))
     of_schema = ["refused 31 SchemaName at statement 5", "The file is of another schema than the one given."]
-    further = {"cpp": {"Count": ["the instance is #3"], "SchemaName": ["the statement is number 5"]}}
-    for name, lines in (("Count", ["refused 45 Count in #3", COUNT]), ("SchemaName", of_schema)):
+    dangling = ["refused 56 Dangling in #2", "A reference names an instance that is not in the file."]
+    # The places are those of tests/tools_where.py.
+    rows = (("Count", ["refused 45 Count in #3", COUNT], ":11:31: AXIS2_PLACEMENT_3D.REF_DIRECTION"), ("SchemaName", of_schema, ":6:14"), ("Dangling", dangling, None))
+    for name, lines, place in rows:
         path = EXAMPLES / "refused" / f"{name}.step"
-        if tasks.language == "python":
-            if not tasks.has_program:
-                continue
-            # The lines and columns are those of tests/tools_where.py.
-            lines = [*lines, f"{path}:{ {'Count': '11:31', 'SchemaName': '6:14'}[name] }"]
-        lines = [*lines, *further.get(tasks.language, {}).get(name, [])]
+        lines = [*lines, f"{path}{place}"] if place is not None else lines
         output, error, status = tasks.run(words, SCHEMA, path)
         tasks.judge(f"refused, {name}", (lines, "", 1), (output.decode().splitlines(), error, status))
     output, _, status = tasks.run(words, EXAMPLES / "product.step", SCHEMA)
     wanted = ["schema refused S2 Syntax", "No declaration goes on so."]
     tasks.judge("a schema that is none", (wanted, 1), (output.decode().splitlines(), status))
     tasks.unanswered("a folder", *tasks.run(words, SCHEMA, EXAMPLES))
+
+
+def syntax(tasks):
+    """What a file says of itself."""
+    words = tasks.words("Say what a file is, without a schema")
+    output, error, status = tasks.run(words, EXAMPLES / "product.step")
+    lines = output.decode().splitlines()
+    tasks.judge("well formed", ("well formed, instances 128, schema PRODUCT_MODEL", "", 0), (lines[0], error, status))
+    tasks.judge("a header in words", ["file name: block.step", "author: Edda Krüger", "originating system:"], [lines[3], lines[5], lines[8]])
+    tasks.judge("keywords", ["ADVANCED_FACE 6", "AXIS2_PLACEMENT_3D 7"], lines[11:13])
+    path = EXAMPLES / "refused" / "EndsEarly.step"
+    output, error, status = tasks.run(words, path)
+    tasks.judge("not well formed", (["refused 24 EndsEarly at statement 10", f"{path}:11:24"], "", 1), (output.decode().splitlines(), error, status))
+    tasks.unanswered("a folder", *tasks.run(words, EXAMPLES))
 
 
 def canonical(tasks):
@@ -224,7 +235,7 @@ def table(tasks):
 def main():
     language, library, *command = sys.argv[1:]
     tasks = Tasks(language, library, command)
-    for task in (catch, canonical, compare, receive, hashes, table):
+    for task in (catch, syntax, canonical, compare, receive, hashes, table):
         task(tasks)
     if not tasks.has_program:
         tasks.left_out.append("what asks the program")

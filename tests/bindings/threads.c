@@ -33,6 +33,7 @@ typedef struct worker {
     pthread_t thread;
     const p21_schema *schema;
     const p21_session *accepted;
+    const p21_list *list;
     p21_schema own;
     int right;
 } worker;
@@ -72,6 +73,16 @@ static bool is_read(const p21_session *session) {
     return count == 0 && whole == 4872;
 }
 
+/* Has a list the refusal that it must have, at its place? */
+static bool has_refusal(const p21_list *list) {
+    p21_report report;
+    p21_place place;
+    size_t count;
+    uint8_t extent;
+    return p21_list_count(list, &count, &extent) == P21_DONE && count == 1 && p21_list_refusal(list, 0, &report, &place) == P21_DONE &&
+           report.number == P21_COUNT && place.byte == 355;
+}
+
 static void *work(void *given) {
     worker *its = given;
     for (int round = 0; round < ROUNDS; round++) {
@@ -79,6 +90,7 @@ static void *work(void *given) {
         p21_schema shared = P21_EMPTY;
         p21_session session = P21_EMPTY;
         p21_text text = P21_EMPTY;
+        p21_list list = P21_EMPTY;
         uint8_t same = 9;
         its->right += p21_check(its->schema, product.at, product.length, &report) == P21_DONE && report.instances == 128;
         its->right += p21_check(its->schema, refused.at, refused.length, &report) == P21_REFUSED && report.number == P21_COUNT;
@@ -90,6 +102,9 @@ static void *work(void *given) {
         its->right += p21_session_feed(&session, product.at, product.length, &report) == P21_DONE;
         its->right += p21_session_finish(&session, &report) == P21_DONE && has_line(&session) && is_read(&session);
         its->right += has_line(its->accepted) && is_read(its->accepted);
+        its->right += p21_survey(its->schema, refused.at, refused.length, 9, &list, &report) == P21_DONE && has_refusal(&list);
+        its->right += has_refusal(its->list);
+        p21_list_free(&list);
         p21_session_free(&session);
         p21_text_free(&text);
     }
@@ -111,13 +126,16 @@ int main(int count, char **words) {
     p21_report report;
     p21_schema schema = P21_EMPTY;
     p21_session accepted = P21_EMPTY;
+    p21_list list = P21_EMPTY;
     int right = p21_schema_new(express.at, express.length, &schema, &report) == P21_DONE;
     right += p21_session_new(&schema, &accepted) == P21_DONE;
     right += p21_session_feed(&accepted, product.at, product.length, &report) == P21_DONE;
     right += p21_session_finish(&accepted, &report) == P21_DONE;
+    right += p21_survey(&schema, refused.at, refused.length, 9, &list, &report) == P21_DONE;
     for (int i = 0; i < THREADS; i++) {
         workers[i].schema = is_early ? &workers[i].own : &schema;
         workers[i].accepted = &accepted;
+        workers[i].list = &list;
         right += !is_early || p21_schema_share(&schema, &workers[i].own) == P21_DONE;
     }
     if (is_early) {
@@ -131,10 +149,11 @@ int main(int count, char **words) {
     }
     p21_schema_free(&schema);
     p21_session_free(&accepted);
+    p21_list_free(&list);
     for (int i = 0; i < THREADS; i++) {
-        right += workers[i].right == 9 * ROUNDS && workers[i].own.inside == NULL;
+        right += workers[i].right == 11 * ROUNDS && workers[i].own.inside == NULL;
     }
-    bool is_right = right == 4 + 4 * THREADS;
+    bool is_right = right == 5 + 4 * THREADS;
     puts(is_right ? "each thread finds what it must" : "wrong: a call finds something else");
     return is_right ? 0 : 1;
 }

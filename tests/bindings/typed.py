@@ -19,7 +19,9 @@ def checked(schema: p21.Schema, paths: List[Path]) -> Dict[str, int]:
         except p21.Refused as refusal:
             number: int = refusal.number
             instance: Optional[int] = refusal.instance
-            print(path, number, refusal.name, refusal.sentence, refusal.advice, instance, file=sys.stderr)
+            place: Optional[p21.RefusalPlace] = refusal.place
+            line: Optional[int] = place.line if place is not None else None
+            print(path, number, refusal.name, refusal.sentence, refusal.advice, instance, line, file=sys.stderr)
             found[str(path)] = 0
         else:
             found[str(path)] = report.instances
@@ -29,6 +31,13 @@ def checked(schema: p21.Schema, paths: List[Path]) -> Dict[str, int]:
 def by_path(path: Path) -> int:
     """How many instances a file has, under a schema that is given by its path."""
     return p21.check(path.with_suffix(".exp"), path).instances + p21.check(str(path.with_suffix(".exp")), path).instances
+
+
+def described(path: Path) -> str:
+    """What a file says of itself."""
+    found: p21.Syntax = p21.syntax(path)
+    records: int = sum(found.keywords.values())
+    return f"{found.schema} {found.instances} {records} {dict(found.header).get('author')}"
 
 
 def compared(schema: p21.Schema, first: bytes, second: Path) -> bool:

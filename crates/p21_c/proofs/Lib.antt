@@ -1,3 +1,4 @@
 pub mod Owning
 pub mod Answering
 pub mod Lending
+pub mod Telling

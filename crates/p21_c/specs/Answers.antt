@@ -1,16 +1,16 @@
 -- What the calls of C answer.
-use Rattle.std.specs.Prelude.{◌≡◌, ◌≢◌, ◌↔◌, ◌⊎◌, ℕ, Bool, true, false, IsTrue, List, length, Option, None, Some, Result, Ok, Err, IfErr, Contains}
+use Rattle.std.specs.Prelude.{◌≡◌, ◌≢◌, ◌↔◌, ◌⊎◌, ◌++◌, ◌∷◌, ℕ, Bool, true, false, IsTrue, List, length, Option, None, Some, Result, Ok, Err, IfErr, Contains}
 use Rattle.std.specs.Global.{Vec}
 use Rattle.std.specs.Vec.{vec_ptr}
 use denote.RawPtr.{Ptr}
 use Rattle.p21_spec_basics.specs.Limits.{usual}
-use Rattle.p21_c.specs.Contents.{HoldsText, handed_content, output_in, schema_in, session_in}
+use Rattle.p21_c.specs.Contents.{HoldsText, handed_content, list_in, output_in, schema_in, session_in}
 use Rattle.p21_c.specs.declared.contents.Content.{Content}
 use Rattle.p21_spec_laws.specs.CanonicalLaws.{MeanTheSame}
 use Rattle.p21_express.specs.ReadSchema.{SchemaRead}
 use Rattle.p21_express_outline.specs.declared.fault.SchemaFault.{SchemaFault}
 use Rattle.p21_spec_file.specs.Accepted.{IsAccepted}
-use Rattle.p21_spec_schema.specs.Schema.{Schema}
+use Rattle.p21_spec_schema.specs.Schema.{EntityNamed, Place as AttributePlace, PlaceNamed, Schema, attribute_at}
 use Rattle.p21_stream.specs.Answers.{IsOnlyCanonicalFile}
 use Rattle.p21_stream_output.specs.Output.{Output, output_text}
 use Rattle.p21_stream_output.specs.Reading.{Takes, rest_at, start}
@@ -22,8 +22,20 @@ use Rattle.p21_stream.specs.Canonical.{IsCanonicalOutput}
 use Rattle.p21_stream.specs.Held.{SessionHeld, limits_of, refusal_of, schema_of}
 use Rattle.p21_stream.specs.Histories.{FeedChecks, FeedGives, FeedNeedsNoMemory, FinishGives, KeepsSchema, RefusesAgain, RefusesAtEnd, Stands, nothing_taken}
 use Rattle.p21_stream_store.specs.StoredInstance.{instance_names}
-use Rattle.p21_c.specs.Reports.{done, refused, misused, failed, file_subject, second_subject, done_answer, misused_answer, no_memory_answer, accepted_answer, refused_answer, schema_refused_answer}
+use Rattle.p21_c.specs.Reports.{counted_answer, counts_of, extent_of, listed_count, done, refused, misused, failed, file_subject, second_subject, done_answer, misused_answer, no_memory_answer, accepted_answer, refused_answer, schema_refused_answer}
+use Rattle.p21_c.specs.Places.{IsPlaceIn}
 use Rattle.p21_c.specs.declared.answers.Answer.{Answer}
+use Rattle.p21_c.specs.declared.answers.Report.{Report}
+use Rattle.p21_grammar_tree.specs.View.{part_views}
+use Rattle.p21_spec_syntax.specs.WellFormedFile.{IsIllFormed}
+use Rattle.p21_stream.specs.Listed.{refusal_at}
+use Rattle.p21_stream.specs.Survey.{ListsAtMost, SurveysInput, asked_for}
+use Rattle.p21_stream.specs.declared.listing.LocatedSurvey.{LocatedSurvey}
+use Rattle.p21_stream_syntax.specs.Walk.{IsFoundOf}
+use Rattle.p21_stream_syntax.specs.declared.well_formed.WellFormed.{WellFormed}
+use Rattle.p21_syntax_words.specs.HeaderText.{header_text}
+use Rattle.p21_syntax_words.specs.KeywordCounts.{counts_text}
+use Rattle.p21_c.specs.declared.places.Place.{Place}
 
 -- ---- what is handed out
 
@@ -48,6 +60,18 @@ StoresSchema s answer made = ((schema_in made ≡ Some s) × (answer ≡ done_an
 abbrev pub SharesSchema : Option Schema → ℕ → Option Content → Type 0
 SharesSchema None status made = (made ≡ None) × (status ≡ misused)
 SharesSchema (Some s) status made = ((schema_in made ≡ Some s) × (status ≡ done)) ⊎ ((made ≡ None) × (status ≡ failed))
+
+-- the name of an attribute behind that of the entity that declares it, with a point between
+abbrev pub IsNameOf : Schema → AttributePlace → List ℕ → Type 0
+IsNameOf s place text = (entity : List ℕ) × (attribute : List ℕ) × EntityNamed s place.entity entity × PlaceNamed s place attribute × (text ≡ entity ++ 46 ∷ attribute)
+
+-- it is handed out; or nothing
+abbrev pub MakesName : Option Schema → AttributePlace → ℕ → Option Content → Type 0
+MakesName None place status made = (made ≡ None) × (status ≡ misused)
+MakesName (Some s) place status made =
+    ((text : List ℕ) × IsNameOf s place text × HoldsText made text × (status ≡ done))
+    ⊎ ((attribute_at s place ≡ None) × (made ≡ None) × (status ≡ refused))
+    ⊎ ((made ≡ None) × (status ≡ failed))
 
 -- ---- files in memory
 
@@ -136,6 +160,11 @@ Finishes (Some held) answer old new =
     ((output : Output) × IsFinished held (Ok output) × (output_in new ≡ Some output) × (answer ≡ accepted_answer output))
     ⊎ ((refusal : Refusal) × IsFinished held (Err refusal) × (new ≡ None) × (answer ≡ refused_answer file_subject refusal))
 
+-- where the refusal stands that the session answered
+abbrev pub ShowsPlace : Option SessionHeld → ℕ → Place → Place → Type 0
+ShowsPlace None status old new = (status ≡ misused) × (new ≡ old)
+ShowsPlace (Some held) status old new = (status ≡ done) × IsPlaceIn held new
+
 -- ---- accepted files
 
 -- the statement of the instance of this name, if there is one; or nothing
@@ -157,6 +186,48 @@ abbrev pub ReadsFile : Option Output → ℕ → Cursor → Cursor → List ℕ 
 ReadsFile None status cursor_old cursor_new old new count_old count_new = (status ≡ misused) × (cursor_new ≡ cursor_old) × (new ≡ old) × (count_new ≡ count_old)
 ReadsFile (Some output) status cursor_old cursor_new old new count_old count_new =
     (status ≡ done) × Takes (rest_at output cursor_old) (rest_at output cursor_new) old new count_new × (rest_at output start ≡ output_text output)
+
+-- ---- lists
+
+-- what is refused of a file; or nothing, since there is no memory
+abbrev pub MakesList : Option Schema → List ℕ → ℕ → Answer → Option Content → Type 0
+MakesList None file most answer made = (made ≡ None) × (answer ≡ misused_answer)
+MakesList (Some s) file most answer made =
+    ((list : LocatedSurvey) × (rest : Option (List ℕ)) × SurveysInput s usual (Some file) rest list.found × ListsAtMost (asked_for most) list.found × (list_in made ≡ Some list) × (answer ≡ counts_of list.found))
+    ⊎ ((made ≡ None) × (answer ≡ no_memory_answer))
+
+-- how many refusals are listed, and how much of the file they are about
+abbrev pub CountsList : Option LocatedSurvey → ℕ → ℕ → ℕ → ℕ → ℕ → Type 0
+CountsList None status count_old count_new extent_old extent_new = (status ≡ misused) × (count_new ≡ count_old) × (extent_new ≡ extent_old)
+CountsList (Some list) status count_old count_new extent_old extent_new = (status ≡ done) × (count_new ≡ listed_count list.found) × (extent_new ≡ extent_of list.found)
+
+-- the refusal that stands at a number
+abbrev pub ShowsListed : Option Refusal → ℕ → Report → Report → Type 0
+ShowsListed None status old new = (status ≡ refused) × (new ≡ old)
+ShowsListed (Some refusal) status old new = (status ≡ done) × (new ≡ (refused_answer file_subject refusal).report)
+
+abbrev pub ShowsRefusal : Option LocatedSurvey → ℕ → ℕ → Report → Report → Type 0
+ShowsRefusal None number status old new = (status ≡ misused) × (new ≡ old)
+ShowsRefusal (Some list) number status old new = ShowsListed (refusal_at list.found number) status old new
+
+-- ---- files by themselves
+
+-- the name of the schema, the header in words, and the keywords with their counts
+abbrev pub TellsFile : WellFormed → Option Content → Option Content → Option Content → Type 0
+TellsFile found schema header keywords = HoldsText schema found.schema.items × HoldsText header (header_text (part_views found.header.items)) × HoldsText keywords (counts_text found.keywords)
+
+-- what a well-formed file says of itself; or nothing, since it isn't well formed or there is no memory
+abbrev pub TellsSyntax : List ℕ → Answer → Option Content → Option Content → Option Content → Type 0
+TellsSyntax file answer schema header keywords =
+    ((found : WellFormed) × IsFoundOf usual file found × TellsFile found schema header keywords × (answer ≡ counted_answer found.instances))
+    ⊎ ((refusal : Refusal) × (refusal.fault ≢ NoMemory → IsIllFormed usual file) × IsOfBytes refusal.fault × (schema ≡ None) × (header ≡ None) × (keywords ≡ None) × (answer ≡ refused_answer file_subject refusal))
+    ⊎ ((schema ≡ None) × (header ≡ None) × (keywords ≡ None) × (answer ≡ no_memory_answer))
+
+-- three texts are held from now on; where one wasn't made, what was held before
+abbrev pub HoldsTold : (Option Content → Option Content → Option Content → Type 0) → Option Content → Option Content → Option Content → Option Content → Option Content → Option Content → Type 0
+HoldsTold AreMade schema_old schema_new header_old header_new keywords_old keywords_new =
+    (schema : Option Content) × (header : Option Content) × (keywords : Option Content) × AreMade schema header keywords
+    × (schema_new ≡ handed_content schema schema_old) × (header_new ≡ handed_content header header_old) × (keywords_new ≡ handed_content keywords keywords_old)
 
 -- ---- texts
 

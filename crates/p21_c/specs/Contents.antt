@@ -8,6 +8,7 @@ use Rattle.p21_c.specs.declared.contents.Taken.TheVariants as taken
 use Rattle.p21_spec_schema.specs.Schema.{Schema}
 use Rattle.p21_stream_output.specs.Output.{Output}
 use Rattle.p21_stream.specs.Held.{SessionHeld}
+use Rattle.p21_stream.specs.declared.listing.LocatedSurvey.{LocatedSurvey}
 
 -- the content of a box, if there is one
 abbrev pub boxed_content : Option (Box Content) → Option Content
@@ -30,6 +31,10 @@ output_in other = None
 abbrev pub text_in : Option Content → Option (Vec ℕ)
 text_in (Some (content.Text text)) = Some text
 text_in other = None
+
+abbrev pub list_in : Option Content → Option LocatedSurvey
+list_in (Some (content.List list)) = Some list
+list_in other = None
 
 -- a session that was held is taken, and what is no session stays
 abbrev pub TakesSession : Option Content → Taken → Type 0

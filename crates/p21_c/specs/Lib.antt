@@ -2,4 +2,5 @@
 pub mod Answers
 pub mod Contents
 pub mod Owned
+pub mod Places
 pub mod Reports

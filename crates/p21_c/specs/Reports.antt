@@ -6,6 +6,10 @@ use Rattle.p21_express_outline.specs.declared.fault.SchemaFault.{SchemaFault}
 use Rattle.p21_express_outline.specs.declared.fault.SchemaFault.TheVariants as schema_faults
 use Rattle.p21_grammar.specs.declared.fault.GrammarFault.{GrammarFault}
 use Rattle.p21_grammar.specs.declared.fault.GrammarFault.TheVariants as form
+use Rattle.p21_stream.specs.declared.listing.Extent.{Extent}
+use Rattle.p21_stream.specs.declared.listing.Extent.TheVariants.{Most, Part, Whole}
+use Rattle.p21_stream.specs.declared.listing.Surveyed.{Surveyed}
+use Rattle.p21_stream.specs.declared.listing.Surveyed.TheVariants as surveyed
 use Rattle.p21_stream_output.specs.Output.{Output, output_text}
 use Rattle.p21_stream_statements.specs.Fault.{fault_number}
 use Rattle.p21_stream_statements.specs.declared.fault.Fault.{Fault}
@@ -105,8 +109,32 @@ no_memory_answer = record { status = failed; report = record { subject = nothing
 abbrev pub accepted_answer : Output → Answer
 accepted_answer output = record { status = done; report = record { subject = nothing; number = 0; absent = 0; place = 0; at = 0; instances = length output.kept; bytes = length (output_text output) } }
 
+abbrev pub counted_answer : ℕ → Answer
+counted_answer instances = record { status = done; report = record { subject = nothing; number = 0; absent = 0; place = 0; at = 0; instances = instances; bytes = 0 } }
+
 abbrev pub refused_answer : ℕ → Refusal → Answer
 refused_answer subject refusal = record { status = status_of refusal.fault; report = record { subject = subject; number = fault_number refusal.fault; absent = absent_of refusal.fault; place = location_of refusal.at; at = location_number_of refusal.at; instances = 0; bytes = 0 } }
 
 abbrev pub schema_refused_answer : SchemaFault → Answer
 schema_refused_answer fault = record { status = schema_status_of fault; report = record { subject = schema_subject; number = schema_fault.fault_number fault; absent = 0; place = 0; at = 0; instances = 0; bytes = 0 } }
+
+-- ---- lists
+
+-- the counts of a file that is accepted
+abbrev pub counts_of : Surveyed → Answer
+counts_of (surveyed.Accepted output) = accepted_answer output
+counts_of (surveyed.Refused refusals) = done_answer
+
+abbrev pub listed_count : Surveyed → ℕ
+listed_count (surveyed.Accepted output) = 0
+listed_count (surveyed.Refused refusals) = length refusals.list.items
+
+-- how much of the file the refusals are about: all of it, as far as to one that ended the reading, or as many as were asked for
+abbrev pub extent_number_of : Extent → ℕ
+extent_number_of Whole = 1
+extent_number_of Part = 2
+extent_number_of Most = 3
+
+abbrev pub extent_of : Surveyed → ℕ
+extent_of (surveyed.Accepted output) = 1
+extent_of (surveyed.Refused refusals) = extent_number_of refusals.extent

@@ -5,9 +5,9 @@ ghost use Rattle.p21_c.specs.Answers.{IsAcceptedText, RefusesText};
 ghost use Rattle.p21_stream.specs.Claim.{Claim};
 
 use p21_express_tables::Schema;
-use p21_stream::{Session, headline};
+use p21_stream::{Indices, Located, Session, headline};
 use p21_stream_output::Accepted;
-use p21_stream_statements::Refusal;
+use p21_stream_statements::Place;
 use p21_values::Limits;
 use std::alloc::Global;
 
@@ -15,21 +15,36 @@ use std::alloc::Global;
 ///
 /// # Errors
 ///
-/// Those of a session.
-pub(crate) fn accept_text(alloc: Global, schema: &Schema, text: &[u8]) -> Result<Accepted, Refusal>
+/// Those of a session, with where they stand.
+pub(crate) fn accept_text(alloc: Global, schema: &Schema, text: &[u8]) -> Result<Accepted, Located>
     ensures ok { IfOk result (λ output. IsAcceptedText schema.now text.now output) }
-    ensures err { IfErr result (λ refusal. RefusesText schema.now text.now refusal) }
+    ensures err { IfErr result (λ located. RefusesText schema.now text.now located.refusal) }
 {
     let limits = Limits::usual();
     headline(schema, limits);
     let mut session = Session::new(alloc, schema, limits);
     match session.feed(text) {
         Ok(()) => {}
-        Err(refusal) => return Err(refusal),
+        Err(refusal) => {
+            return Err(Located {
+                refusal,
+                place: session.place(),
+                attribute: session.attribute(),
+                indices: session.indices(),
+            });
+        }
     }
+    let places = session.places();
     match session.finish() {
         Ok(accepted) => Ok(accepted),
-        Err(refusal) => Err(refusal),
+        Err(refusal) => {
+            Err(Located {
+                refusal,
+                place: Place::of(refusal.fault, places),
+                attribute: None,
+                indices: Indices::none(),
+            })
+        }
     }
 }
 

@@ -1,6 +1,6 @@
 //! What a call answers: a status, and a report.
 ghost use Rattle.std.specs.Prelude.{◌≡◌};
-ghost use Rattle.p21_c.specs.Reports.{absent_form_of, absent_number_of, absent_of, absent_token_of, accepted_answer, done_answer, misused_answer, no_memory_answer, location_of, location_number_of, quiet_answer, refused_answer, schema_refused_answer, schema_status_of, status_of};
+ghost use Rattle.p21_c.specs.Reports.{absent_form_of, absent_number_of, absent_of, absent_token_of, accepted_answer, counted_answer, done_answer, misused_answer, no_memory_answer, location_of, location_number_of, quiet_answer, refused_answer, schema_refused_answer, schema_status_of, status_of};
 
 use p21_express_outline::SchemaFault;
 use p21_grammar::GrammarFault;
@@ -108,6 +108,15 @@ pub fn accepted(file: &Accepted) -> Answer
     let mut answer = quiet(DONE);
     answer.report.instances = file.count();
     answer.report.bytes = file.len();
+    answer
+}
+
+/// A file that is well formed by itself, with so many instances.
+pub fn counted(instances: u64) -> Answer
+    ensures { result ≡ counted_answer instances }
+{
+    let mut answer = quiet(DONE);
+    answer.report.instances = instances;
     answer
 }
 

@@ -4,7 +4,7 @@ ghost use Rattle.p21_c.specs.Contents.{TakesSession, boxed_content};
 ghost use Rattle.p21_c.specs.declared.contents.Content.TheVariants as content;
 
 use p21_express_tables::Schema;
-use p21_stream::SharedSession;
+use p21_stream::{LocatedSurvey, SharedSession};
 use p21_stream_output::Accepted;
 use std::alloc::Global;
 use std::sync::Arc;
@@ -16,6 +16,7 @@ pub enum Content {
     Session(SharedSession),
     Accepted(Accepted),
     Text(Vec<u8>),
+    List(LocatedSurvey),
     Nothing,
 }
 

@@ -36,12 +36,13 @@
 //! the prover's search gave up on the whole of them. In Python each call takes a handle of its own, under a lock for
 //! that moment: any thread may close a schema while another one is in a call with it, and that must do no harm.
 ghost use Rattle.std.specs.Prelude.{◌≡◌, Option, None, Some, MatchOption};
-ghost use Rattle.p21_c.specs.Contents.{output_in, schema_in, text_in};
+ghost use Rattle.p21_c.specs.Contents.{list_in, output_in, schema_in, session_in, text_in};
 ghost use Rattle.p21_c.specs.Owned.{held_code};
 ghost use Rattle.p21_c.specs.declared.contents.Content.{Content};
 
 use crate::contents::Content;
 use p21_express_tables::Schema;
+use p21_stream::{LocatedSurvey, SharedSession};
 use p21_stream_output::Accepted;
 use std::alloc::Global;
 use std::marker::Model;
@@ -85,6 +86,29 @@ impl Lent {
         }
     }
 
+    /// The schema that is held, for as long as it is lent.
+    pub(crate) fn plain_schema(&self) -> Option<&Schema>
+        ensures { MatchOption result (schema_in self.now.value ≡ None) (λ schema. schema_in self.now.value ≡ Some schema.now) }
+    {
+        match self.schema() {
+            Some(shared) => {
+                let schema: &Schema = shared;
+                Some(schema)
+            }
+            None => None,
+        }
+    }
+
+    /// The session that is held.
+    pub(crate) fn session(&self) -> Option<&SharedSession>
+        ensures { MatchOption result (session_in self.now.value ≡ None) (λ session. session_in self.now.value ≡ Some session.now) }
+    {
+        match self.content() {
+            Some(Content::Session(session)) => Some(session),
+            _ => None,
+        }
+    }
+
     /// The accepted file that is held.
     pub(crate) fn accepted(&self) -> Option<&Accepted>
         ensures { MatchOption result (output_in self.now.value ≡ None) (λ accepted. output_in self.now.value ≡ Some accepted.now) }
@@ -101,6 +125,16 @@ impl Lent {
     {
         match self.content() {
             Some(Content::Text(text)) => Some(text),
+            _ => None,
+        }
+    }
+
+    /// The list that is held.
+    pub(crate) fn list(&self) -> Option<&LocatedSurvey>
+        ensures { MatchOption result (list_in self.now.value ≡ None) (λ list. list_in self.now.value ≡ Some list.now) }
+    {
+        match self.content() {
+            Some(Content::List(list)) => Some(list),
             _ => None,
         }
     }

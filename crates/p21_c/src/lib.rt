@@ -1,4 +1,5 @@
-//! The library for C: checks, canonical files and comparisons of files in memory, and sessions that are kept between calls.
+//! The library for C: checks, canonical files and comparisons of files in memory, all refusals of one and what one says of itself
+//! without a schema, and sessions that are kept between calls.
 //! `p21.h` beside the sources declares the calls.
 //!
 //! In `p21_c` the calls of C stand over functions that know no handle; the statuses and reports that both answer are
@@ -17,7 +18,11 @@ mod contents;
 mod files;
 mod handles;
 mod lent;
+mod lists;
+mod names;
+mod places;
 mod schemas;
 mod sessions;
+mod syntax;
 mod texts;
 mod versions;

@@ -9,10 +9,11 @@ use crate::answers::{
 use crate::components::Handle;
 use crate::contents::{Content, Holding, Taken, boxed, put_accepted, put_session, take_session};
 use crate::lent::Lent;
+use crate::places::{Place, Placed, at_byte, nowhere, place_in};
 use crate::texts::{copy_of, file_of};
 use p21_stream::SharedSession;
 use p21_stream_output::Cursor;
-use p21_stream_statements::Refusal;
+use p21_stream_statements::{Place as BytePlace, Refusal};
 use p21_values::{Limits, Name};
 use std::alloc::Global;
 use std::sync::Arc;
@@ -48,9 +49,31 @@ pub extern "C" fn p21_session_feed(
 pub extern "C" fn p21_session_finish(alloc: Global, session: &mut Handle, report: &mut Report) -> u8
     ensures { Finishes (session_in session.old.value) (record { status = result; report = report.new }) session.old.value session.new.value }
 {
-    let (content, answer) = finish(session.take(alloc));
+    let (content, placed) = finish(session.take(alloc));
+    let Placed { answer, place: _ } = placed;
     session.put(alloc, content);
     *report = answer.report;
+    answer.status
+}
+
+/// As `p21_session_finish`, with where a refusal stands.
+#[unsafe(no_mangle)]
+pub extern "C" fn p21_session_finish_located(
+    alloc: Global,
+    session: &mut Handle,
+    report: &mut Report,
+    place: &mut Place,
+) -> u8
+    ensures { Finishes (session_in session.old.value) (record { status = result; report = report.new }) session.old.value session.new.value }
+{
+    let (content, placed) = finish(session.take(alloc));
+    let Placed {
+        answer,
+        place: found,
+    } = placed;
+    session.put(alloc, content);
+    *report = answer.report;
+    *place = found;
     answer.status
 }
 
@@ -144,20 +167,46 @@ fn answer_to_feed(taken: Result<(), Refusal>) -> Answer
 }
 
 /// Ends the session that is held.
-fn finish(held: Holding) -> (Holding, Answer)
-    ensures { Finishes (session_in (boxed_content held)) result.1 (boxed_content held) (boxed_content result.0) }
+fn finish(held: Holding) -> (Holding, Placed)
+    ensures { Finishes (session_in (boxed_content held)) result.1.answer (boxed_content held) (boxed_content result.0) }
 {
-    let (session, place) = match take_session(held) {
-        Taken::Session(session, place) => (session, place),
-        Taken::Other(held) => return (held, misused()),
+    let (session, block) = match take_session(held) {
+        Taken::Session(session, block) => (session, block),
+        Taken::Other(held) => {
+            let placed = Placed {
+                answer: misused(),
+                place: nowhere(),
+            };
+            return (held, placed);
+        }
     };
+    let earlier = place_in(&session);
+    let places = session.places();
     match session.finish() {
         Ok(output) => {
-            let answer = accepted(&output);
-            (put_accepted(place, output), answer)
+            let placed = Placed {
+                answer: accepted(&output),
+                place: nowhere(),
+            };
+            (put_accepted(block, output), placed)
         }
-        Err(refusal) => (None, refused(FILE, refusal)),
+        Err(refusal) => {
+            let end = BytePlace::of(refusal.fault, places);
+            let placed = Placed {
+                answer: refused(FILE, refusal),
+                place: earlier_or(earlier, end),
+            };
+            (None, placed)
+        }
     }
+}
+
+/// Where a piece was refused, or else where the end is.
+fn earlier_or(earlier: Place, end: Option<BytePlace>) -> Place {
+    if earlier.known == 1 {
+        return earlier;
+    }
+    at_byte(end)
 }
 
 /// The statement of an instance of the accepted file that is held.
