@@ -174,14 +174,17 @@ part 'the structs stand as the header has them' says 'all stands where the heade
 
 # The fields of a struct that C and the library share, with their types and in their order: of the header, and of the sources.
 fields_in_c() {
-    sed -n "/^typedef struct $1 {/,/^}/s/^    \(uint[0-9]*_t\|size_t\) \([a-z]*\);.*/\2 \1/p" "$root/include/p21.h"
+    sed -n "/^typedef struct $1 {/,/^}/s/^    \(uint[0-9]*_t\|size_t\) \([a-z]*\(\[[0-9]*\]\)\{0,1\}\);.*/\2 \1/p" "$root/include/p21.h"
 }
 fields_in_source() {
-    sed -n "/^#\[repr(C)\]/,/^}/{/pub struct $2 {/,/^}/{s/^    pub \([a-z]*\): u\([0-9]*\),\$/\1 uint\2_t/p;s/^    pub \([a-z]*\): usize,\$/\1 size_t/p}}" "$root/crates/$1"
+    sed -n "/^#\[repr(C)\]/,/^}/{/pub struct $2 {/,/^}/{s/^    pub \([a-z]*\): u\([0-9]*\),\$/\1 uint\2_t/p;s/^    pub \([a-z]*\): usize,\$/\1 size_t/p;s/^    pub \([a-z]*\): \[u\([0-9]*\); \([0-9]*\)\],\$/\1[\3] uint\2_t/p}}" "$root/crates/$1"
 }
 fields_in_c p21_report > "$here/declared"
 fields_in_source p21_c/src/answers.rt Report > "$here/found"
 part 'the fields of a report' same_lists "$here/declared" "$here/found"
+fields_in_c p21_place > "$here/declared"
+fields_in_source p21_c/src/places.rt Place > "$here/found"
+part 'the fields of a place' same_lists "$here/declared" "$here/found"
 fields_in_c p21_parts > "$here/declared"
 fields_in_source p21_c/src/versions.rt Version > "$here/found"
 part 'the fields of a version' same_lists "$here/declared" "$here/found"

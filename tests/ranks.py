@@ -6,7 +6,8 @@ What is decided is `IsDecided` of specs/Copies.antt there, and the orders are al
 share ranks, where one refers to the other, both are the same copy (`IsAligned`). The tables stand in
 crates/p21_test_numbering/src/tests: in graphs.rt
 of each graph the labels, the uses as user, used and place, and the ranks; in orders.rt of each instance its name, rank, what it says,
-whom it hangs together with and who is loose, and the orders of all.
+whom it hangs together with and who is loose, and the orders of all; in files.rt of each instance its name, section, entity, and the
+names in a list, in a set, and in the lists of a set, and the orders of all.
 
     tests/ranks.py             compares, and says how many rows there are
     tests/ranks.py --random N  prints N further rows of graphs by chance, for the table
@@ -206,6 +207,9 @@ def main() -> int:
     ordered = rows("orders", "ORDERS")
     wrong = [(row, orders(row[0])) for row in ordered if sorted(orders(row[0])) != sorted(map(list, row[1]))]
     right = table("orders", wrong, len(ordered)) and right
+    files = rows("files", "FILES")
+    wrong = [(row, file_orders(row[0])) for row in files if sorted(file_orders(row[0])) != sorted(map(list, row[1]))]
+    right = table("files", wrong, len(files)) and right
     return 0 if right else 1
 
 
