@@ -1,15 +1,18 @@
 -- The uses in a file, instance by instance.
-use Rattle.std.specs.Prelude.{◌≡◌, ◌⊎◌, ℕ, ◌+◌, ◌<◌, ◌≤◌, ◌^◌, List, [], ◌∷◌, ◌++◌, Some, None, Contains}
+use Rattle.std.specs.Prelude.{◌≡◌, ◌⊎◌, ℕ, ◌+◌, ◌<◌, ◌≤◌, ◌^◌, List, [], ◌∷◌, ◌++◌, Some, None, Result, Ok, Err, IfErr, IsErrAnd, Contains}
 use Rattle.std.proofs.Common.{arith, ap, refl, sym, subst, ◌∙◌, inl, inr, append-nil, append_assoc}
 use Rattle.std.proofs.lemmas.List.Elements.{Contains-append_cases, Contains-append_left, Contains-append_right}
 use Rattle.p21_express_graph.specs.Meaning.{place as place_of}
 use Rattle.p21_model.proofs.Meanings.{told}
-use Rattle.p21_model.specs.Kept.{HaveOneLine, IsKeptLine, IsStated}
+use Rattle.p21_model.specs.Kept.{AreStated, HaveOneLine, IsKeptLine, IsStated}
 use Rattle.p21_model.specs.Left.{HandsOutRow, TellsRows}
 use Rattle.p21_model.specs.Rows.{AreRowsOf, Row}
 use Rattle.p21_model.specs.Told.{AreTold}
+use Rattle.p21_model_uses.specs.Tables.{IsOfUses}
 use Rattle.p21_model_uses.specs.UseRows.{UseRow}
-use Rattle.p21_model.specs.Uses.{IsUse, AreUsesIn, place_used, uses_at, uses_by}
+use Rattle.p21_model_uses.specs.declared.fault.UsersFault.{UsersFault}
+use Rattle.p21_model_uses.specs.declared.fault.UsersFault.TheVariants.{NoMemory, TooMany}
+use Rattle.p21_model.specs.Uses.{IsUse, AreUsesIn, IsOfManyUses, place_used, uses_at, uses_by}
 use Rattle.p21_model.specs.declared.attributes.Attribute.{Attribute}
 use Rattle.p21_model.specs.declared.attributes.Attributes.{Attributes}
 use Rattle.p21_model.specs.declared.instance.Instance.{Instance}
@@ -191,3 +194,20 @@ last-uses s kept name rows last h u = (h.sound u, λ is. h.complete u is (below 
     low is =
         let spelled : Each IsSpelled (statement_tokens (instance u.1 is.stated.canonical)) = laid-each_spelled is.line (statement_tokens (instance u.1 is.stated.canonical)) is.stated.laid in
         spelled.0.1.in_range
+
+-- ---- too many uses
+
+-- where the uses that were found are too many, those in the file are
+many-uses : (s : Schema) (kept : List StoredInstance) (rows : List UseRow) (fault : UsersFault) → AreUsesIn s kept rows → IsOfUses rows fault → IsOfManyUses s kept fault
+many-uses s kept rows NoMemory all of = tt
+many-uses s kept rows TooMany all of = record {
+  uses = of.uses;
+  are = λ u. (λ among. (all u).0 ((of.members u).0 among), λ is. (of.members u).1 ((all u).1 is));
+  order = of.order;
+  many = of.many;
+}
+
+pub too-many : {T : Type 0} (s : Schema) (kept : List StoredInstance) (rows : List UseRow) (fault : UsersFault) (result : Result T UsersFault) → IsErrAnd result (λ found. found ≡ fault)
+    → (AreStated s kept → HaveOneLine kept → AreUsesIn s kept rows) → IsOfUses rows fault → IfErr result (λ found. AreStated s kept → HaveOneLine kept → IsOfManyUses s kept found)
+too-many s kept rows fault (Ok users) wrong all of = absurd wrong
+too-many s kept rows fault (Err found) is all of = λ stated once. subst (IsOfManyUses s kept) (sym is) (many-uses s kept rows fault (all stated once) of)

@@ -1,11 +1,13 @@
 -- Which instances refer to which, and at which attributes.
-use Rattle.std.specs.Prelude.{◌≡◌, ◌↔◌, ℕ, List, [], ◌∷◌, Option, None, Some, Contains, map}
+use Rattle.std.specs.Prelude.{◌≡◌, ◌↔◌, ℕ, ◌^◌, ◌≤◌, List, [], ◌∷◌, Option, None, Some, Contains, length, map, ⊤}
 use Rattle.std.specs.List.{flat_map}
 use Rattle.p21_express_graph.specs.Meaning.{place as place_of}
 use Rattle.p21_model.specs.Kept.{IsKeptLine}
 use Rattle.p21_model.specs.Rows.{Row}
 use Rattle.p21_model.specs.Told.{AreTold}
-use Rattle.p21_model_uses.specs.UseRows.{UseRow}
+use Rattle.p21_model_uses.specs.UseRows.{AreInOrder, UseRow}
+use Rattle.p21_model_uses.specs.declared.fault.UsersFault.{UsersFault}
+use Rattle.p21_model_uses.specs.declared.fault.UsersFault.TheVariants.{NoMemory, TooMany}
 use Rattle.p21_model.specs.declared.users.Use.{Use}
 use Rattle.p21_spec_exchange.specs.Parameter.{Param}
 use Rattle.p21_spec_exchange.specs.Record.{Record}
@@ -32,6 +34,18 @@ pub record IsUse (s : Schema) (kept : List StoredInstance) (u : UseRow) : Type 0
 -- each use in the file, and nothing else
 abbrev pub AreUsesIn : Schema → List StoredInstance → List UseRow → Type 0
 AreUsesIn s kept uses = (u : UseRow) → Contains uses u ↔ IsUse s kept u
+
+-- the uses in the file, each once, are at least as many as a number of 32 bits doesn't count
+pub record HasManyUses (s : Schema) (kept : List StoredInstance) : Type 0 where
+  pub uses : List UseRow
+  pub are : AreUsesIn s kept uses
+  pub order : AreInOrder uses
+  pub many : 2 ^ 32 ≤ length uses
+
+-- want of memory owes nothing; where uses are too many, the file has so many
+abbrev pub IsOfManyUses : Schema → List StoredInstance → UsersFault → Type 0
+IsOfManyUses s kept NoMemory = ⊤
+IsOfManyUses s kept TooMany = HasManyUses s kept
 
 -- the uses of the names in a parameter, in its order
 abbrev pub uses_at : ℕ → Row → List UseRow

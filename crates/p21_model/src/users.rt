@@ -4,11 +4,11 @@
 //! used (`p21_model_uses`): no line knows who refers to it. Each stands there once, however often its attribute has the name,
 //! since who asks wants to know which attributes lead to an instance. Nothing in the table changes, so threads read it side by
 //! side. While it is made a reference takes 24 bytes more.
-ghost use Rattle.std.specs.Prelude.{◌≡◌, ◌++◌, List, IfOk, filter, length, nat_eq};
+ghost use Rattle.std.specs.Prelude.{◌≡◌, ◌++◌, List, IfErr, IfOk, filter, length, nat_eq};
 ghost use Rattle.p21_express_graph.specs.Meaning.{place as place_of};
 ghost use Rattle.p21_model.specs.Kept.{AreStated, HaveOneLine};
 ghost use Rattle.p21_model.specs.Rows.{AreRowsOf, Row};
-ghost use Rattle.p21_model.specs.Uses.{AreUsesIn, HandsOutUse, uses_at, uses_by};
+ghost use Rattle.p21_model.specs.Uses.{AreUsesIn, HandsOutUse, IsOfManyUses, uses_at, uses_by};
 ghost use Rattle.p21_model_uses.specs.UseRows.{AreInOrder, UseRow as MeantRow};
 ghost use Rattle.p21_model_values.specs.Written.{IsTextOf};
 ghost use Rattle.p21_spec_exchange.specs.Parameter.{Param};
@@ -55,11 +55,13 @@ impl Users {
     ///
     /// # Errors
     ///
-    /// `NoMemory`; `TooMany`, where there are more than a number of 32 bits counts.
+    /// `NoMemory`; `TooMany`, only where the file has as many different uses as a number of 32 bits doesn't count, or more.
     pub fn new(alloc: Global, model: AcceptedModel<'_>) -> Result<Users, UsersFault>
         ensures uses { IfOk result (λ users. AreStated model.entry.schema.now model.entry.accepted.now.kept →
             HaveOneLine model.entry.accepted.now.kept → AreUsesIn model.entry.schema.now model.entry.accepted.now.kept users) }
         ensures order { IfOk result (λ users. AreInOrder users) }
+        ensures fault { IfErr result (λ fault. AreStated model.entry.schema.now model.entry.accepted.now.kept →
+            HaveOneLine model.entry.accepted.now.kept → IsOfManyUses model.entry.schema.now model.entry.accepted.now.kept fault) }
     {
         let rows = all_uses(alloc, model)?;
         let table = UseTable::new(alloc, rows)?;
