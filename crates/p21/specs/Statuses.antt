@@ -8,7 +8,8 @@ use Rattle.clap.specs.declared.error.kind.ErrorKind.{ErrorKind}
 use Rattle.clap.specs.declared.error.kind.ErrorKind.TheVariants.{DisplayHelp, DisplayVersion}
 use Rattle.p21.specs.declared.commands.Stopped.{Stopped}
 use Rattle.p21.specs.declared.commands.Stopped.TheVariants.{NoCommand, Signed, NoRefusal, Unopened}
-use Rattle.p21_command_line.specs.CommandLine.{program_app}
+use Rattle.clap.specs.declared.builder.value_parser.ValueParser.{ValueParser}
+use Rattle.p21_command_line.specs.CommandLine.{AreForms, program_app}
 use Rattle.p21_commands.specs.Status.{done, refused, usage, failed}
 
 abbrev pub IsStatus : ℕ → Type 0
@@ -26,28 +27,28 @@ IsOfAnswer status = (status ≡ done) ⊎ (status ≡ failed)
 abbrev pub IsOfMistake : ℕ → Type 0
 IsOfMistake status = (status ≡ usage) ⊎ (status ≡ failed)
 
--- ---- the words of a command line
+-- ---- the words of a command line, of which `--format` takes these forms
 
 -- the kinds of what `clap` finds in the words: a mistake, or that they ask for help or for the version; none where it takes
 -- them
-unfoldable pub error_kinds_in : List Text → Kinds
-error_kinds_in words = fault_of program_app words
+unfoldable pub error_kinds_in : ValueParser → List Text → Kinds
+error_kinds_in forms words = fault_of (program_app forms) words
 
-abbrev pub AreTaken : List Text → Type 0
-AreTaken words = error_kinds_in words ≡ []
+abbrev pub AreTaken : ValueParser → List Text → Type 0
+AreTaken forms words = error_kinds_in forms words ≡ []
 
-abbrev pub AskForHelp : List Text → Type 0
-AskForHelp words = IsAmong DisplayHelp (error_kinds_in words) ⊎ IsAmong DisplayVersion (error_kinds_in words)
+abbrev pub AskForHelp : ValueParser → List Text → Type 0
+AskForHelp forms words = IsAmong DisplayHelp (error_kinds_in forms words) ⊎ IsAmong DisplayVersion (error_kinds_in forms words)
 
-pub record AreMistaken (words : List Text) : Type 0 where
+pub record AreMistaken (forms : ValueParser) (words : List Text) : Type 0 where
   pub mistake : ErrorKind
-  pub among : IsAmong mistake (error_kinds_in words)
+  pub among : IsAmong mistake (error_kinds_in forms words)
   pub not_help : mistake ≢ DisplayHelp
   pub not_version : mistake ≢ DisplayVersion
 
 -- the name of the command in words that are taken
-unfoldable pub command_in : List Text → Option Text
-command_in words = option_map (λ p. p.0) (subcommand_of program_app words)
+unfoldable pub command_in : ValueParser → List Text → Option Text
+command_in forms words = option_map (λ p. p.0) (subcommand_of (program_app forms) words)
 
 -- a command whose words but its name are paths
 abbrev pub NamesFiles : Option Text → Type 0
@@ -57,10 +58,12 @@ NamesFiles (Some name) = (name ≡ codes "param") ⊎ (name ≡ codes "schema") 
 -- The status is that of the words. In words that are taken another command may find a mistake, and a failure may come of any
 -- words.
 pub record IsOfWords (words : List Text) (status : ℕ) : Type 0 where
+  pub forms : ValueParser
+  pub are_forms : AreForms forms
   pub known : IsStatus status
-  pub when_done : status ≡ done → AreTaken words ⊎ AskForHelp words
-  pub when_refused : status ≡ refused → AreTaken words
-  pub when_mistaken : status ≡ usage → (AreTaken words × ¬ NamesFiles (command_in words)) ⊎ AreMistaken words
+  pub when_done : status ≡ done → AreTaken forms words ⊎ AskForHelp forms words
+  pub when_refused : status ≡ refused → AreTaken forms words
+  pub when_mistaken : status ≡ usage → (AreTaken forms words × ¬ NamesFiles (command_in forms words)) ⊎ AreMistaken forms words
 
 -- ---- a command
 

@@ -9,14 +9,14 @@ ghost use Rattle.p21.specs.Statuses.{IsOfAnswer, IsOfCommand, IsUnopened, NamesF
 use crate::input::{Inputs, Kept, Source};
 use crate::lines::Lines;
 use crate::notes::{Given, Wanted, note_file, note_files, note_given, note_listing};
-use crate::places::{Asked, ToldOf, asked_places, tell_no_form, tell_places, tell_unloaded};
+use crate::places::{Asked, ToldOf, asked_places, tell_places, tell_unloaded};
 use crate::progress::ProgressReader;
 use crate::refusals::SECTIONS;
 use crate::several::{check_several, syntax_several};
 use clap::ArgMatches;
 use p21_command_line::LIST;
 use p21_commands::{
-    Checks, CommandFault, DONE, Details, FAILED, canon_command, check_all_command, check_command,
+    Checks, CommandFault, DONE, Details, canon_command, check_all_command, check_command,
     param_command, report, same_command, schema_command, show_command, syntax_command,
 };
 use p21_stream_io::Watched;
@@ -162,13 +162,7 @@ fn run_check<'a>(rt: &HostRuntime, found: &ArgMatches<'a>) -> Result<u8, Stopped
     ensures ran { IfOk result IsOfCommand }
     ensures unopened { IfErr result IsUnopened }
 {
-    let asked = match asked_places(found) {
-        Ok(asked) => asked,
-        Err(word) => {
-            tell_no_form(rt, word);
-            return Ok(FAILED);
-        }
-    };
+    let asked = asked_places(found);
     match found.get_strs("FILE") {
         Some([path]) if !path.starts_with('@') => check_named(rt, found, asked, path),
         Some(words) => check_several(rt, found, asked, words),

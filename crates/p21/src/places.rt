@@ -31,27 +31,19 @@ pub enum Asked {
     Each(u64, Form),
 }
 
-/// What is asked for, or a word behind `--format` that names no form.
-pub fn asked_places<'a>(found: &ArgMatches<'a>) -> Result<Asked, &'a str> {
+/// What is asked for.
+pub fn asked_places(found: &ArgMatches<'_>) -> Asked {
     let form = match found.get_str("format") {
         Some("jsonl") => Form::Json,
-        Some("text") => Form::Text,
-        Some(word) => return Err(word),
-        None => Form::Text,
+        _ => Form::Text,
     };
     let is_asked = found.get_flag("where") || form == Form::Json;
-    Ok(match most_given(found) {
+    match most_given(found) {
         Some(most) if is_asked => Asked::Each(most, form),
         None if form == Form::Json => Asked::First(form),
         None if is_asked => Asked::Behind,
         _ => Asked::None,
-    })
-}
-
-/// Says that a word names no form. Where it can't be said, it isn't.
-pub fn tell_no_form(rt: &HostRuntime, word: &str) {
-    let word = Shown(word);
-    let _ = eprintln!(rt; "error: no form '{word}': jsonl and text are known");
+    }
 }
 
 /// Says why there is no schema to check by, and where its text is refused. Answers the status.

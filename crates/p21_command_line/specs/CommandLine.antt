@@ -1,9 +1,10 @@
 -- What the command line may say, in the words of clap.
-use Rattle.std.specs.Prelude.{Some, true, codes}
+use Rattle.std.specs.Prelude.{◌≡◌, [], ◌∷◌, Some, codes, map, true}
 use Rattle.clap.specs.Lexer.{usize_max}
 use Rattle.clap.specs.Words.{App, Rule, Text, new_app, new_rule, with_rule, with_subcommand}
 use Rattle.clap.specs.declared.builder.action.ArgAction.TheVariants.{Append, Set, SetTrue}
-use Rattle.clap.specs.declared.builder.value_parser.ValueParser.TheVariants.{Unsigned}
+use Rattle.clap.specs.declared.builder.value_parser.ValueParser.TheVariants.{Names, Unsigned}
+use Rattle.clap.specs.declared.builder.value_parser.ValueParser.{ValueParser}
 
 -- what has to be given: one word
 abbrev pub given_rule : Text → Rule
@@ -46,9 +47,19 @@ most_rule = record (new_rule (codes "most")) {
 abbrev pub where_rule : Rule
 where_rule = record (new_rule (codes "where")) { action = Some SetTrue; long = Some (codes "where") }
 
--- `--format FORM`, with one word
-abbrev pub format_rule : Rule
-format_rule = record (new_rule (codes "format")) { action = Some Set; long = Some (codes "format"); value_names = 1 }
+-- the words that may stand behind `--format`, wherever these lie
+abbrev pub AreForms : ValueParser → Type 0
+AreForms (Names names) = map (λ name. name.now) names.now ≡ codes "text" ∷ codes "jsonl" ∷ []
+AreForms _ = ⊥
+
+-- `--format FORM`, with one of these words
+abbrev pub format_rule : ValueParser → Rule
+format_rule forms = record (new_rule (codes "format")) {
+  action = Some Set;
+  long = Some (codes "format");
+  value_names = 1;
+  parser = Some forms;
+}
 
 -- `--header`
 abbrev pub header_rule : Rule
@@ -75,10 +86,10 @@ abbrev pub file_app : Text → App
 file_app name = with_rule (with_rule (new_app name) (given_rule (codes "S"))) (given_rule (codes "FILE"))
 
 -- `check S FILE.. [--all] [--most N] [--where] [--format FORM] [--progress]`
-abbrev pub check_app : App
-check_app =
+abbrev pub check_app : ValueParser → App
+check_app forms =
     with_rule (with_rule (with_rule (with_rule (with_rule (with_rule (with_rule (new_app (codes "check"))
-    (given_rule (codes "S"))) files_rule) all_rule) most_rule) where_rule) format_rule) progress_rule
+    (given_rule (codes "S"))) files_rule) all_rule) most_rule) where_rule) (format_rule forms)) progress_rule
 
 -- `canon S FILE [--progress]`
 abbrev pub canon_app : App
@@ -104,8 +115,8 @@ app_without_commands =
     record program { top = record program.top { has_version = true; subcommand_required = true } }
 
 -- the program, with its commands
-abbrev pub program_app : App
-program_app =
+abbrev pub program_app : ValueParser → App
+program_app forms =
     with_subcommand (with_subcommand (with_subcommand (with_subcommand
     (with_subcommand (with_subcommand (with_subcommand (with_subcommand app_without_commands
-    param_app.top) syntax_app.top) schema_app.top) check_app.top) canon_app.top) show_app.top) same_app.top) faults_app.top
+    param_app.top) syntax_app.top) schema_app.top) (check_app forms).top) canon_app.top) show_app.top) same_app.top) faults_app.top

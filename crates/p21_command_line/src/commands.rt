@@ -5,16 +5,20 @@
 ghost use Rattle.std.specs.Prelude.{◌≡◌, IfOk, codes, false};
 ghost use Rattle.clap.specs.Words.{app_of, rule_of};
 ghost use Rattle.clap.specs.declared.builder.command.Command.TheViews.{out-Command as fields_of};
-ghost use Rattle.p21_command_line.specs.CommandLine.{all_rule, app_without_commands, canon_app, check_app, faults_app, files_rule, format_rule, given_rule, most_rule, name_rule, optional_rule, param_app, progress_rule};
+ghost use Rattle.clap.specs.declared.builder.value_parser.ValueParser.{ValueParser};
+ghost use Rattle.p21_command_line.specs.CommandLine.{AreForms, all_rule, app_without_commands, canon_app, check_app, faults_app, files_rule, format_rule, given_rule, most_rule, name_rule, optional_rule, param_app, progress_rule};
 ghost use Rattle.p21_command_line.specs.CommandLine.{count_rule, header_rule, program_app, same_app, schema_app, show_app, syntax_app, where_rule};
 
 use crate::{help, refusals};
 use clap::{Arg, ArgAction, Command, value_parser};
 use std::alloc::{AllocError, Global};
 
+/// The words that may stand behind `--format`.
+const FORMS: &[&str] = &["text", "jsonl"];
+
 /// The program with its commands.
 pub fn command_line<'a>(alloc: Global) -> Result<Command<'a>, AllocError>
-    ensures { IfOk result (λ command. app_of command ≡ program_app) }
+    ensures { IfOk result (λ command. (forms : ValueParser) × AreForms forms × (app_of command ≡ program_app forms)) }
 {
     program(alloc)
         .subcommand(param(alloc)?)?
@@ -82,7 +86,7 @@ fn syntax<'a>(alloc: Global) -> Result<Command<'a>, AllocError>
 
 /// `check S FILE.. [--all] [--most N] [--where] [--format FORM] [--progress]`.
 fn check<'a>(alloc: Global) -> Result<Command<'a>, AllocError>
-    ensures app { IfOk result (λ command. app_of command ≡ check_app) }
+    ensures app { IfOk result (λ command. (forms : ValueParser) × AreForms forms × (app_of command ≡ check_app forms)) }
     ensures local { IfOk result (λ command. (fields_of command).has_globals ≡ false) }
 {
     Command::new(alloc, "check")
@@ -232,13 +236,14 @@ fn place<'a>(alloc: Global) -> Arg<'a>
 
 /// `--format FORM`.
 fn format<'a>(alloc: Global) -> Arg<'a>
-    ensures rule { rule_of result ≡ format_rule }
+    ensures rule { (forms : ValueParser) × AreForms forms × (rule_of result ≡ format_rule forms) }
     ensures local { result.global ≡ false }
 {
     Arg::new(alloc, "format")
         .help("With jsonl gives refusals with their places as JSON, an object a line")
         .long("format")
         .value_name("FORM")
+        .value_parser(FORMS)
         .action(ArgAction::Set)
 }
 

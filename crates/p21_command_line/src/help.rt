@@ -111,17 +111,18 @@ refusal ends the list, as one of bytes or of the header:
     refused 56 Dangling in #9
     refusals 2
 With --where a second line has its place, where it has one: file, line and column, both from
-1 on, the column in bytes; and of a value of a record its attribute, behind the entity that
-declares it. With --all and --most each line has it:
+1 on, the column in bytes; of a value of a record also its attribute, behind the entity that
+declares it, and of a part of one its entity. With --all and --most each line has it:
     part.step:11:31: PERSON.ID
     part.step:11:31: 45 Count in #3: PERSON.ID
-For the places of references FILE is read a second time; from standard input they have none.
+For references and parts FILE is read a second time; from standard input references have no
+place, and parts no entity.
 With --format jsonl each refusal is a JSON object on a line, with its place.
 With several files, or @LIST for the files that a text names, a path a line, each line has
 the name of its file in front. The schema is read once, and a file that is refused or can't
 be read doesn't end the run; the status is the highest.
 Statuses: 0 accepted; 1 refused; 2 a wrong command line; 3 out of memory, cannot open,
-read or write, or an unknown FORM.
+read or write.
 
 Slips:
   - schema refused S2 Syntax: schema and file are exchanged; the schema stands first.

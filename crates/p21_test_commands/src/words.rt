@@ -62,6 +62,18 @@ const COMMANDS: Taken = &[
         "true",
     ),
     (&["p21", "check", "s", "f"], "check", "where", "false"),
+    (
+        &["p21", "check", "s", "--format", "jsonl", "f"],
+        "check",
+        "format",
+        "jsonl",
+    ),
+    (
+        &["p21", "check", "--format=text", "s", "f"],
+        "check",
+        "format",
+        "text",
+    ),
     (&["p21", "syntax", "f"], "syntax", "header", "false"),
     (&["p21", "syntax", "f"], "syntax", "count", "false"),
     (
@@ -229,6 +241,18 @@ const MISTAKES: NotTaken = &[
     ),
     (
         &["p21", "canon", "s", "f", "--all"],
+        ErrorKind::UnknownArgument,
+    ),
+    (
+        &["p21", "check", "s", "f", "--format", "json"],
+        ErrorKind::InvalidValue,
+    ),
+    (
+        &["p21", "check", "s", "f", "--format", "JSONL"],
+        ErrorKind::InvalidValue,
+    ),
+    (
+        &["p21", "syntax", "f", "--format", "jsonl"],
         ErrorKind::UnknownArgument,
     ),
 ];

@@ -1,5 +1,6 @@
 use Rattle.std.proofs.lemmas.Result.{IfOk-weaker}
-use Rattle.p21_command_line.proofs.AddedCommands.{adds}
+use Rattle.p21_command_line.proofs.AddedCommands.{adds, of_forms}
+use Rattle.p21_command_line.specs.CommandLine.{program_app}
 use Rattle.p21_command_line.proofs.commands.command_line.Goals as goal
 
 pub returns : goal.returns
@@ -7,8 +8,9 @@ returns c =
     let param = adds c.program.ensures c.in_ok-param.ensures.app c.in_ok-param.ensures.local c.in_ok-subcommand.ensures in
     let syntax = adds param c.in_ok-syntax.ensures.app c.in_ok-syntax.ensures.local c.in_ok-subcommand-2.ensures in
     let schema = adds syntax c.in_ok-schema.ensures.app c.in_ok-schema.ensures.local c.in_ok-subcommand-3.ensures in
-    let check = adds schema c.in_ok-check.ensures.app c.in_ok-check.ensures.local c.in_ok-subcommand-4.ensures in
+    let check_is = c.in_ok-check.ensures.app in
+    let check = adds schema check_is.2 c.in_ok-check.ensures.local c.in_ok-subcommand-4.ensures in
     let canon = adds check c.in_ok-canon.ensures.app c.in_ok-canon.ensures.local c.in_ok-subcommand-5.ensures in
     let show = adds canon c.in_ok-show.ensures.app c.in_ok-show.ensures.local c.in_ok-subcommand-6.ensures in
     let same = adds show c.in_ok-same.ensures.app c.in_ok-same.ensures.local c.in_ok-subcommand-7.ensures in
-    IfOk-weaker _ _ _ (λ _. adds same c.in_ok-faults.ensures.app c.in_ok-faults.ensures.local) c.subcommand-8.ensures
+    IfOk-weaker _ _ _ (λ new added. of_forms new program_app check_is.0 check_is.1 (adds same c.in_ok-faults.ensures.app c.in_ok-faults.ensures.local added)) c.subcommand-8.ensures
