@@ -14,7 +14,7 @@ import sys
 import tempfile
 
 import texts
-from tooling import ROOT, file_of
+from tooling import ROOT, SCHEMA, file_of
 from tools_where import DEMO, FAULTS, VALUES, unmarked
 
 PROGRAM = os.environ.get("P21", str(ROOT / "p21"))
@@ -46,9 +46,14 @@ INDICES = {
     "equal elements by other spellings": [2],
     "no value in a list": [1, 2],
     "a star in a list": [1, 2],
+    "the second reference": [2],
+    "the third reference": [1],
+    "one reference twice": [2],
+    "a reference behind its name in a string": [1],
 }
 
-# Of an instance of the schema DEMO, the attribute whose value is refused, by the entity that declares it.
+# Of an instance of the schema DEMO, the attribute whose value is refused, by the entity that declares it; or where none is, the
+# entity of the part.
 ATTRIBUTES = [
     ("#1=POINT($,1.,2);", "POINT.Y"),
     ("#1=POINT(5,1.,2.);", "SHAPE.LABEL"),
@@ -57,16 +62,32 @@ ATTRIBUTES = [
     ("#1=(ORIGIN()POINT(0.,2.)SHAPE($));", "POINT.X"),
     ("#1=POINT($,1.);", "POINT.Y"),
     ("#1=(POINT(1.)SHAPE('a'));", "POINT.Y"),
-    ("#1=POINT($,1.,2.,3.);", None),
-    ("#1=SPHERE();", None),
+    ("#1=POINT($,1.,2.,3.);", "POINT"),
+    ("#1=(MARKED(.RED.)POINT(1.,2.,#3)SHAPE($));", "POINT"),
+    ("#1=SPHERE();", "SPHERE"),
+    ("#01/*A(*/=/**/SPHERE /*(*/ ('#1=POINT(');", "SPHERE"),
+    ("#1=(POINT(1.,2.)SPHERE((1.),'(')SHAPE($));", "SPHERE"),
+    ("#1=SHAPE($);", "SHAPE"),
+    ("#1=(MARKED(.RED.)POINT(1.,1.));", "MARKED"),
+    ("#1=(POINT(1.,1.) POINT(1.,1.)SHAPE($));", "POINT"),
+    ("#1=CLOUD((#2),(),(TALLY(1)));", "CLOUD.MEMBERS"),
+    ("#1=CLOUD((),(),(TALLY(1),#1));", "CLOUD.VALUES"),
+    ("#2=CLOUD((),((1.,2.),()),(DISTANCE(2.),#1));\n#1=(MARKED(.RED.)SHAPE($));", "CLOUD.VALUES"),
+    ("#1=POINT('#8',1.,1.);\n#2=CLOUD((#1/*,*/),(),(TALLY(2),/*#8*/#8));", "CLOUD.VALUES"),
+]
+
+# The same of the schema of the examples: attributes that a supertype declares stand in front.
+OF_SUPERTYPES = [
+    ("#1=AXIS2_PLACEMENT_3D('',#2,$,$);", "AXIS2_PLACEMENT_3D.LOCATION"),
+    ("#1=(AXIS2_PLACEMENT_3D(#1,$,$)GEOMETRIC_REPRESENTATION_ITEM()REPRESENTATION_ITEM(''));", "AXIS2_PLACEMENT_3D.LOCATION"),
 ]
 
 
-def told(folder, text, schema=DEMO):
+def told(folder, text, *command):
     """What stands behind the path in the second line of a file that is refused, as place and attribute."""
     path = folder / "placed.step"
-    path.write_bytes(text.encode())
-    words = [PROGRAM, "check", "--where", schema, str(path)]
+    path.write_bytes(text.encode("utf-8", "surrogateescape"))
+    words = [PROGRAM, *(command or ("check", "--where", DEMO)), str(path)]
     ended = subprocess.run(words, capture_output=True, check=False, cwd=ROOT)
     assert ended.returncode == 1, (text, ended)
     lines = ended.stderr.decode().splitlines()
@@ -159,7 +180,7 @@ def of_list(folder):
         place = f"{front.count(10) + 1}:{len(front) - front.rfind(10)}"
         if not row[1] == place == f"{of['line']}:{of['column']}" or int(row[2]) != of["instance"]:
             yield f"{row[0]}, but {of}"
-        if row[3] != (f"{of['entity']}.{of['attribute']}" if "attribute" in of else None):
+        if row[3] != (".".join(filter(None, (of.get("entity"), of.get("attribute")))) or None):
             yield f"{row[0]}, but {of}"
     if len(objects) != len(found) + 1:
         yield f"{len(objects)} objects"
@@ -187,13 +208,31 @@ def of_single_runs(folder):
             yield f"{name}: {first}"
 
 
+def of_standard_input():
+    """What is wrong with the answers about standard input, which comes in pieces, and isn't read a second time."""
+    for instance, second in [
+        ("#1=POINT($,1.,2);", "-:9:15: POINT.Y"),
+        ("#1=SPHERE();", "-:9:4"),
+        ("#1=CLOUD((#2),(),(TALLY(1)));", None),
+    ]:
+        text = file_of(instance, [("PRODUCT_MODEL", "DEMO")]).encode()
+        with subprocess.Popen([PROGRAM, "check", "--where", DEMO, "-"], stdin=subprocess.PIPE, stderr=subprocess.PIPE, cwd=ROOT) as run:
+            for at in range(len(text)):
+                run.stdin.write(text[at : at + 1])
+                run.stdin.flush()
+            run.stdin.close()
+            lines = run.stderr.read().decode().splitlines()
+        if (lines[1:] or [None])[0] != second:
+            yield f"{instance} on standard input: {lines}"
+
+
 def main():
     failed = 0
     with tempfile.TemporaryDirectory() as made:
         folder = pathlib.Path(made)
         count = 0
         for name, text, schema, wanted in rows():
-            place, _ = told(folder, text, schema)
+            place, _ = told(folder, text, "check", "--where", schema)
             count += 1
             if place != wanted:
                 print(f"{name}: {place}, and not {wanted}", file=sys.stderr)
@@ -204,11 +243,18 @@ def main():
             if attribute != wanted:
                 print(f"{instance}: {attribute}, and not {wanted}", file=sys.stderr)
                 failed += 1
-        for wrong in [*of_list(folder), *of_single_runs(folder)]:
+        for instance, wanted in OF_SUPERTYPES:
+            text = file_of(instance, [("PRODUCT_MODEL", "PRODUCT_MODEL")])
+            _, attribute = told(folder, text, "check", "--where", SCHEMA)
+            count += 1
+            if attribute != wanted:
+                print(f"{instance}: {attribute}, and not {wanted}", file=sys.stderr)
+                failed += 1
+        for wrong in [*of_list(folder), *of_single_runs(folder), *of_standard_input()]:
             print(wrong, file=sys.stderr)
             failed += 1
             count += 1
-        count += 2
+        count += 3
     print(f"{count - failed} passed, {failed} failed")
     return 1 if failed else 0
 

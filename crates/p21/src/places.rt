@@ -7,10 +7,11 @@ use crate::lines::Lines;
 use crate::shown::Shown;
 use clap::ArgMatches;
 use p21_commands::{
-    Checks, CommandFault, Form, LineStarts, LocatedSurvey, Place, REFUSED, References, Telling,
-    Told, Unloaded, is_of_reference, report, schema_object,
+    Checks, CommandFault, Form, LineStarts, Located, LocatedSurvey, REFUSED, SecondReading,
+    Telling, Told, Unloaded, is_of_reference, report, schema_object,
 };
 use p21_stream_io::Watched;
+use p21_values::NoMemory;
 use std::alloc::AllocError;
 use std::fs::{self, File};
 use std::io::{Read, Write};
@@ -75,19 +76,26 @@ pub fn tell_unloaded<F: Write>(
     }
 }
 
-/// Says behind the line of a refusal where it stands, if lines are kept. Where it can't be said, it isn't.
-fn tell_place(rt: &HostRuntime, path: &str, told: Told, lines: &LineStarts) {
+/// Says behind the line of a refusal where it stands and of what it is, if lines are kept. Where it can't be said, it isn't.
+fn tell_place(rt: &HostRuntime, checks: &Checks, path: &str, told: &Told, lines: &LineStarts) {
     if told.status != REFUSED {
         return;
     }
-    let Some(place) = told.place else { return };
+    let Some(located) = &told.located else { return };
+    let again = again_of_first(rt, checks, located, path);
+    let met = again.met(0);
+    let place = match (located.place, met) {
+        (Some(place), _) => place,
+        (None, Some(met)) => met.place,
+        (None, None) => return,
+    };
     let Some(position) = lines.position(place.byte) else {
         return;
     };
     let path = Shown(path);
     let (line, column) = (position.line, position.column);
-    let _ = match told.attribute {
-        Some(attribute) => eprintln!(rt; "{path}:{line}:{column}: {attribute}"),
+    let _ = match checks.subject(rt.alloc(), located, met) {
+        Some(subject) => eprintln!(rt; "{path}:{line}:{column}: {subject}"),
         None => eprintln!(rt; "{path}:{line}:{column}"),
     };
 }
@@ -130,14 +138,10 @@ fn tell_line<R: Read, W: Write, F: Write>(
 ) -> (u8, Lines<R>)
     ensures { IsOfCommand result.0 }
 {
-    let mut told = checks.check_located(rt.alloc(), &mut file, output, faults);
-    let status = told.status;
+    let told = checks.check_located(rt.alloc(), &mut file, output, faults);
     let lines = file.into_inner();
-    if told.is_of_reference {
-        told.place = place_of_reference(rt, checks, name.path);
-    }
-    tell_place(rt, name.path, told, lines.starts());
-    (status, lines)
+    tell_place(rt, checks, name.path, &told, lines.starts());
+    (told.status, lines)
 }
 
 /// Reads a file and writes a line for its first refusal, in this form. Answers its status, and the reader.
@@ -153,22 +157,20 @@ fn tell_first<R: Read, W: Write, F: Write>(
     ensures { IsOfCommand result.0 }
 {
     let alloc = rt.alloc();
-    let mut found = checks.find(alloc, &mut file);
+    let found = checks.find(alloc, &mut file);
     let lines = file.into_inner();
-    if let Err(located) = &mut found {
-        if is_of_reference(located.refusal.fault) {
-            located.place = place_of_reference(rt, checks, name.path);
-        }
-    }
+    let again = match &found {
+        Ok(_) => SecondReading::none(alloc),
+        Err(located) => again_of_first(rt, checks, located, name.path),
+    };
     let Ok(shown) = format!(in alloc; "{}", Shown(name.path)) else {
         return (checks.tell_no_memory(faults), lines);
     };
-    let references = References::none(alloc);
     let telling = Telling {
         path: name.path,
         shown: &shown,
         lines: lines.starts(),
-        references: &references,
+        again: &again,
         form,
         is_named: name.is_named,
     };
@@ -198,12 +200,12 @@ fn tell_each<R: Read, W: Write, F: Write>(
     let Ok(shown) = format!(in alloc; "{}", Shown(name.path)) else {
         return (checks.tell_no_memory(faults), lines);
     };
-    let references = references_of(rt, &found, name.path);
+    let again = again_of(rt, &found, name.path);
     let telling = Telling {
         path: name.path,
         shown: &shown,
         lines: lines.starts(),
-        references: &references,
+        again: &again,
         form,
         is_named: name.is_named,
     };
@@ -211,42 +213,63 @@ fn tell_each<R: Read, W: Write, F: Write>(
     (status, lines)
 }
 
-/// Where the first reference of a file stands that is refused. None where the file can't be read once more.
-fn place_of_reference(rt: &HostRuntime, checks: &Checks, path: &str) -> Option<Place> {
-    let mut file = Watched::new(again(rt, path)?);
-    let found = checks.survey(rt.alloc(), &mut file, 1).ok()?;
-    references_of(rt, &found, path).place(0)
-}
-
-/// Where the references of a file stand that are refused, as far as the file can be read once more.
-fn references_of(rt: &HostRuntime, found: &LocatedSurvey, path: &str) -> References {
-    let Ok(mut references) = References::of(rt.alloc(), found) else {
-        return References::none(rt.alloc());
+/// What a second reading of a file meets of its first refusal. Nothing where the file can't be read once more.
+fn again_of_first(
+    rt: &HostRuntime,
+    checks: &Checks,
+    located: &Located,
+    path: &str,
+) -> SecondReading {
+    if !is_of_reference(located.refusal.fault) {
+        return read_again(rt, SecondReading::of_first(rt.alloc(), located), path);
+    }
+    // To which name the reference leads, a survey alone says.
+    let Some(file) = open_again(rt, path) else {
+        return SecondReading::none(rt.alloc());
     };
-    if references.is_empty() {
-        return references;
+    match checks.survey(rt.alloc(), &mut Watched::new(file), 1) {
+        Ok(found) => again_of(rt, &found, path),
+        Err(NoMemory) => SecondReading::none(rt.alloc()),
     }
-    if let Some(file) = again(rt, path) {
-        take_all(file, &mut references);
-    }
-    references
 }
 
-/// Opens a file once more. Standard input can't be, and a file that can't be opened again gives no places.
-fn again(rt: &HostRuntime, path: &str) -> Option<File> {
+/// What a second reading of a file meets of its refusals. Nothing where the file can't be read once more.
+fn again_of(rt: &HostRuntime, found: &LocatedSurvey, path: &str) -> SecondReading {
+    read_again(rt, SecondReading::of(rt.alloc(), found), path)
+}
+
+/// Has a second reading meet what it looks for, as far as the file can be read once more.
+fn read_again(
+    rt: &HostRuntime,
+    wanted: Result<SecondReading, NoMemory>,
+    path: &str,
+) -> SecondReading {
+    let Ok(mut again) = wanted else {
+        return SecondReading::none(rt.alloc());
+    };
+    if !again.is_empty() {
+        if let Some(file) = open_again(rt, path) {
+            take_all(file, &mut again);
+        }
+    }
+    again
+}
+
+/// Opens a file once more. Standard input can't be, and a file that can't be opened again isn't read.
+fn open_again(rt: &HostRuntime, path: &str) -> Option<File> {
     if path == STANDARD {
         return None;
     }
     fs::open(rt, path).ok()
 }
 
-/// Has references looked for in all that a file gives.
-fn take_all(mut file: File, references: &mut References) {
+/// Has a second reading take all that a file gives.
+fn take_all(mut file: File, again: &mut SecondReading) {
     let mut piece = [0; PIECE];
     for _ in 0..u64::MAX {
         match file.read(&mut piece) {
             Ok(0) => return,
-            Ok(count) => references.take(&piece[..count]),
+            Ok(count) => again.take(&piece[..count]),
             Err(_) => return,
         }
     }

@@ -13,9 +13,8 @@ use crate::answer::answer;
 use crate::fault::{CommandFault, report};
 use crate::file_fault::fault_of;
 use crate::load::load_schema;
-use crate::telling::attribute_text;
 use p21_express_tables::Schema;
-use p21_stream::{Fault, Place, Watched, count_located};
+use p21_stream::{Fault, Located, Watched, count_located};
 use p21_values::Limits;
 use std::alloc::{AllocError, Global};
 use std::io::{Read, Write};
@@ -25,12 +24,8 @@ use std::io::{Read, Write};
 pub struct Told {
     /// The exit status.
     pub status: u8,
-    /// Whether the file is refused for a reference, which has its place by a second reading of the file alone.
-    pub is_of_reference: bool,
-    /// Where the file is refused, if that has a place.
-    pub place: Option<Place>,
-    /// The attribute whose value is refused, if it is one, behind the entity that declares it: `ENTITY.ATTRIBUTE`.
-    pub attribute: Option<String>,
+    /// Why and where the file is refused, if it is. A reference has its place by a second reading of the file alone.
+    pub located: Option<Located>,
 }
 
 /// Reads a schema and a file, and writes to `output` how many instances the file has and how many bytes its canonical
@@ -75,9 +70,7 @@ pub fn check_located<S: Read, R: Read, W: Write, F: Write>(
         Ok(schema) => check_file_located(alloc, &schema, file, output, faults),
         Err(fault) => Told {
             status: report(&fault, faults),
-            is_of_reference: false,
-            place: None,
-            attribute: None,
+            located: None,
         },
     }
 }
@@ -114,27 +107,20 @@ pub(crate) fn check_file_located<R: Read, W: Write, F: Write>(
     let counted = match count_located(alloc, schema, Limits::usual(), file) {
         Ok(counted) => counted,
         Err(located) => {
-            let is_of_reference = is_of_reference(located.refusal.fault);
             return Told {
                 status: report(&fault_of(alloc, "", located.refusal), faults),
-                is_of_reference,
-                place: located.place,
-                attribute: attribute_text(alloc, schema, located.attribute),
+                located: Some(located),
             };
         }
     };
     match answer_line_of(alloc, counted.instances, counted.bytes) {
         Ok(line) => Told {
             status: answer(line.as_bytes(), output, faults),
-            is_of_reference: false,
-            place: None,
-            attribute: None,
+            located: None,
         },
         Err(AllocError) => Told {
             status: report(&CommandFault::NoMemory, faults),
-            is_of_reference: false,
-            place: None,
-            attribute: None,
+            located: None,
         },
     }
 }

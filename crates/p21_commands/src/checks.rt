@@ -18,8 +18,9 @@ use crate::check_all::list_refusals;
 use crate::fault::{CommandFault, report};
 use crate::load::{Unloaded, load_located, load_schema};
 use crate::located::{write_found, write_survey};
+use crate::second_reading::Met;
 use crate::status::{DONE, FAILED};
-use crate::telling::Telling;
+use crate::telling::{Telling, subject_text};
 use p21_express_tables::Schema;
 use p21_stream::{Counted, Located, LocatedSurvey, Watched, count_located, survey_located};
 use p21_values::{Limits, NoMemory};
@@ -181,6 +182,17 @@ impl Checks {
         ensures failed { IfOk result (λ located. (file.new.failures ≡ file.old.failures) ⊎ ((file.new.failures ≡ one_call_more file.old.failures) × EndsByRead located.found)) }
     {
         survey_located(alloc, &self.schema, Limits::usual(), most, file)
+    }
+
+    /// Of what a refusal is, by what a second reading met of it: `ENTITY.ATTRIBUTE`, or of no attribute `ENTITY`. None where it is
+    /// of neither, or memory is refused.
+    pub fn subject(
+        &self,
+        alloc: Global,
+        located: &Located,
+        met: Option<Met<'_>>,
+    ) -> Option<String> {
+        subject_text(alloc, &self.schema, located, met)
     }
 
     /// Writes what `check` writes of a file that is accepted, or why and where it is refused. Answers the status of this file.

@@ -70,7 +70,7 @@ fn own_line(
     ensures { ((line : _) × (result ≡ CommandFault.Refused line)) ⊎ (result ≡ CommandFault.NoMemory) }
 {
     let mut line = String::new(alloc);
-    match push_line(alloc, schema, located, located.place, telling, &mut line) {
+    match push_line(alloc, schema, located, 0, telling, &mut line) {
         Ok(()) => CommandFault::Refused(line),
         Err(AllocError) => CommandFault::NoMemory,
     }

@@ -4,12 +4,12 @@
 //! its attribute is a name of the schema.
 
 use crate::lines::{LineStarts, Position};
-use crate::references::References;
+use crate::second_reading::{Met, SecondReading};
 use p21_express::SchemaFault;
-use p21_express_graph::Place as AttributePlace;
+use p21_express_graph::{EntityId, Place as AttributePlace};
 use p21_express_places::SchemaPlace;
 use p21_express_tables::Schema;
-use p21_stream::{At, Extent, Fault, Indices, Located, LocatedSurvey, Place};
+use p21_stream::{At, Extent, Fault, Located, LocatedSurvey, Place};
 use p21_values::Name;
 use std::alloc::{AllocError, Global};
 
@@ -30,18 +30,20 @@ pub struct Telling<'a> {
     pub shown: &'a str,
     /// Where the lines of the file begin.
     pub lines: &'a LineStarts,
-    /// Where its references stand that aren't served.
-    pub references: &'a References,
+    /// What a second reading of it met of its refusals.
+    pub again: &'a SecondReading,
     pub form: Form,
     /// Whether it is one of several files, of which each line has the path in front.
     pub is_named: bool,
 }
 
-/// The name of an attribute, and of the entity that declares it.
+/// Of what a refusal is: an attribute by the entity that declares it, or an entity alone; and which element of the attribute's
+/// value, where it is one.
 #[derive(Clone, Copy)]
-struct AttributeName<'s> {
+struct Subject<'s> {
     entity: &'s str,
-    attribute: &'s str,
+    attribute: Option<&'s str>,
+    indices: &'s [u32],
 }
 
 /// A line for each refusal of a survey, and for a read that failed.
@@ -56,26 +58,17 @@ pub(crate) fn survey_lines(
         let Some(located) = found.located(number) else {
             return Ok(lines);
         };
-        let place = place_of(located.place, telling.references, number);
-        push_line(alloc, schema, &located, place, telling, &mut lines)?;
+        push_line(alloc, schema, &located, number, telling, &mut lines)?;
     }
     Ok(lines)
 }
 
-/// The place of the refusal of this number: its own one, or that of its reference.
-fn place_of(own: Option<Place>, references: &References, number: usize) -> Option<Place> {
-    match own {
-        Some(place) => Some(place),
-        None => references.place(number),
-    }
-}
-
-/// Appends the line of a refusal at a place, or of a read that failed.
+/// Appends the line of the refusal of this number, or of a read that failed.
 pub(crate) fn push_line(
     alloc: Global,
     schema: &Schema,
     located: &Located,
-    place: Option<Place>,
+    number: usize,
     telling: &Telling<'_>,
     lines: &mut String,
 ) -> Result<(), AllocError> {
@@ -84,9 +77,10 @@ pub(crate) fn push_line(
         lines.push_str("read fault\n")?;
         return Ok(());
     }
+    let met = telling.again.met(number);
     match telling.form {
-        Form::Text => push_text(alloc, schema, located, place, telling, lines),
-        Form::Json => push_object(alloc, schema, located, place, telling, lines),
+        Form::Text => push_text(alloc, schema, located, met, telling, lines),
+        Form::Json => push_object(alloc, schema, located, met, telling, lines),
     }
 }
 
@@ -104,12 +98,12 @@ fn push_text(
     alloc: Global,
     schema: &Schema,
     located: &Located,
-    place: Option<Place>,
+    met: Option<Met<'_>>,
     telling: &Telling<'_>,
     lines: &mut String,
 ) -> Result<(), AllocError> {
     let refusal = &located.refusal;
-    match position_of(telling.lines, place) {
+    match position_of(telling.lines, place_of(located, met)) {
         Some(Position { line, column }) => {
             lines.push_str(telling.shown)?;
             lines.push_str(&format!(in alloc; ":{line}:{column}: ")?)?;
@@ -121,8 +115,9 @@ fn push_text(
     }
     let (number, name) = (refusal.number(), refusal.name());
     lines.push_str(&format!(in alloc; "{number} {name} {}", refusal.at)?)?;
-    if let Some(name) = name_of(schema, located.attribute) {
-        lines.push_str(&format!(in alloc; ": {}.{}", name.entity, name.attribute)?)?;
+    if let Some(subject) = subject_of(schema, located, met) {
+        lines.push_str(": ")?;
+        push_subject(subject, lines)?;
     }
     lines.push_str("\n")
 }
@@ -132,7 +127,7 @@ fn push_object(
     alloc: Global,
     schema: &Schema,
     located: &Located,
-    place: Option<Place>,
+    met: Option<Met<'_>>,
     telling: &Telling<'_>,
     lines: &mut String,
 ) -> Result<(), AllocError> {
@@ -149,13 +144,9 @@ fn push_object(
             lines.push_str(&format!(in alloc; ",\"instance\":{instance}")?)?;
         }
     }
-    push_place(alloc, telling.lines, place, lines)?;
-    if let Some(name) = name_of(schema, located.attribute) {
-        let AttributeName { entity, attribute } = name;
-        lines.push_str(&format!(in alloc;
-            ",\"entity\":\"{entity}\",\"attribute\":\"{attribute}\""
-        )?)?;
-        push_indices(alloc, located.indices, lines)?;
+    push_place(alloc, telling.lines, place_of(located, met), lines)?;
+    if let Some(subject) = subject_of(schema, located, met) {
+        push_members(alloc, subject, lines)?;
     }
     lines.push_str("}\n")
 }
@@ -204,10 +195,20 @@ fn push_place(
     Ok(())
 }
 
+/// Appends the members that say of what a refusal is.
+fn push_members(alloc: Global, subject: Subject<'_>, lines: &mut String) -> Result<(), AllocError> {
+    lines.push_str(",\"entity\":")?;
+    push_json(alloc, subject.entity, lines)?;
+    if let Some(attribute) = subject.attribute {
+        lines.push_str(&format!(in alloc; ",\"attribute\":\"{attribute}\"")?)?;
+    }
+    push_indices(alloc, subject.indices, lines)
+}
+
 /// Appends the member of the indices of an element, if there are some.
-fn push_indices(alloc: Global, indices: Indices, lines: &mut String) -> Result<(), AllocError> {
+fn push_indices(alloc: Global, indices: &[u32], lines: &mut String) -> Result<(), AllocError> {
     let mut sign = ",\"indices\":[";
-    for number in indices.numbers() {
+    for number in indices {
         lines.push_str(&format!(in alloc; "{sign}{number}")?)?;
         sign = ",";
     }
@@ -261,28 +262,117 @@ fn position_of(starts: &LineStarts, place: Option<Place>) -> Option<Position> {
     starts.position(place?.byte)
 }
 
-/// The name of an attribute, if it is one of the schema.
-fn name_of<'s>(schema: &'s Schema, of: Option<AttributePlace>) -> Option<AttributeName<'s>> {
-    let place = of?;
+/// The place of a refusal: its own one, or the one that was met.
+fn place_of(located: &Located, met: Option<Met<'_>>) -> Option<Place> {
+    match located.place {
+        Some(place) => Some(place),
+        None => Some(met?.place),
+    }
+}
+
+/// Of what a refusal is, by its own attribute, or by what was met of it.
+fn subject_of<'s>(
+    schema: &'s Schema,
+    located: &'s Located,
+    met: Option<Met<'s>>,
+) -> Option<Subject<'s>> {
+    match located.attribute {
+        Some(place) => subject_at(schema, place, located.indices.numbers()),
+        None => subject_met(schema, met?),
+    }
+}
+
+/// Of what a refusal is, by what was met of it: the attribute of a reference, or else the entity of the part.
+fn subject_met<'s>(schema: &'s Schema, met: Met<'s>) -> Option<Subject<'s>> {
+    if let Some((parameter, indices)) = met.steps.split_first() {
+        let place = attribute_at(schema, &met, (*parameter).checked_sub(1)?)?;
+        return subject_at(schema, place, indices);
+    }
+    Some(Subject {
+        entity: str::from_utf8(met.keyword).ok()?,
+        attribute: None,
+        indices: &[],
+    })
+}
+
+/// The attribute of the parameter of a part in front of which so many stand.
+fn attribute_at(schema: &Schema, met: &Met<'_>, parameter: u32) -> Option<AttributePlace> {
+    let entity = schema.entity(met.keyword)?;
+    if met.is_alone {
+        return place_in_order(schema, entity, parameter);
+    }
+    Some(AttributePlace {
+        entity,
+        index: parameter,
+    })
+}
+
+/// The attribute in front of which so many stand in the order of an entity.
+fn place_in_order(schema: &Schema, entity: EntityId, before: u32) -> Option<AttributePlace> {
+    if entity.0 as usize >= schema.entities() {
+        return None;
+    }
+    let mut left = before;
+    for owner in schema.order_of(entity) {
+        let count = own_attributes(schema, *owner);
+        if left < count {
+            return Some(AttributePlace {
+                entity: *owner,
+                index: left,
+            });
+        }
+        left = left.saturating_sub(count);
+    }
+    None
+}
+
+/// How many attributes an entity declares, if it is one of the schema.
+fn own_attributes(schema: &Schema, entity: EntityId) -> u32 {
+    if entity.0 as usize >= schema.entities() {
+        return 0;
+    }
+    schema.attribute_count(entity)
+}
+
+/// An attribute and an element of its value, if it is one of the schema.
+fn subject_at<'s>(
+    schema: &'s Schema,
+    place: AttributePlace,
+    indices: &'s [u32],
+) -> Option<Subject<'s>> {
     if place.entity.0 as usize >= schema.entities() {
         return None;
     }
     if place.index >= schema.attribute_count(place.entity) {
         return None;
     }
-    Some(AttributeName {
+    Some(Subject {
         entity: str::from_utf8(schema.entity_name(place.entity)).ok()?,
-        attribute: str::from_utf8(schema.place_name(place)).ok()?,
+        attribute: Some(str::from_utf8(schema.place_name(place)).ok()?),
+        indices,
     })
 }
 
-/// An attribute of the schema behind the entity that declares it: `ENTITY.ATTRIBUTE`. None where it is none of the schema, or memory is
-/// refused.
-pub(crate) fn attribute_text(
+/// Appends what a refusal is of: `ENTITY.ATTRIBUTE`, or `ENTITY` alone.
+fn push_subject(subject: Subject<'_>, lines: &mut String) -> Result<(), AllocError> {
+    lines.push_str(subject.entity)?;
+    if let Some(attribute) = subject.attribute {
+        lines.push_str(".")?;
+        lines.push_str(attribute)?;
+    }
+    Ok(())
+}
+
+/// Of what a refusal is, as it is told to people: `ENTITY.ATTRIBUTE`, or `ENTITY` alone. None where it is of
+/// neither, or memory is refused.
+pub(crate) fn subject_text(
     alloc: Global,
     schema: &Schema,
-    of: Option<AttributePlace>,
+    located: &Located,
+    met: Option<Met<'_>>,
 ) -> Option<String> {
-    let AttributeName { entity, attribute } = name_of(schema, of)?;
-    format!(in alloc; "{entity}.{attribute}").ok()
+    let subject = subject_of(schema, located, met)?;
+    let mut text = String::new(alloc);
+    push_subject(subject, &mut text).ok()?;
+    Some(text)
 }

@@ -1,0 +1,392 @@
+//! What a second reading of a file finds of its refusals: where references stand that no instance serves, and in which part
+//! of an instance a refusal stands that is of no attribute.
+//!
+//! That no instance serves a reference is known at the end of the file alone, and no place is kept of each reference till
+//! then; and of a refusal its place is kept, and not the keyword in front of it. So the file is read a second time. It is
+//! known by then to be an exchange structure as far as its refusals stand: strings, remarks, names and keywords are told
+//! apart by their signs (ISO 10303-21, 6 and 7). Where an instance refers to a target more than once, its refusals stand at
+//! the first of these references, one at each.
+
+use crate::way::Way;
+use p21_stream::{At, Fault, Located, LocatedSurvey, Place};
+use p21_values::{Name, NoMemory};
+use std::alloc::Global;
+
+/// What is looked for.
+#[derive(Clone, Copy)]
+enum Sought {
+    /// A reference in the instance of this name.
+    Reference { holder: u64, target: u64 },
+    /// The part at this byte.
+    Part { byte: u64 },
+}
+
+/// A refusal of which something is looked for.
+#[derive(Clone, Copy)]
+struct Wanted {
+    // Its number in the list of refusals.
+    number: usize,
+    sought: Sought,
+    found: Option<Found>,
+}
+
+/// Where a refusal was met. What is kept of its keyword and its steps lies between two numbers each.
+#[derive(Clone, Copy)]
+struct Found {
+    byte: u64,
+    is_alone: bool,
+    keyword: (usize, usize),
+    steps: (usize, usize),
+}
+
+/// What was met of a refusal.
+#[derive(Clone, Copy)]
+pub struct Met<'r> {
+    /// The place of the refusal, or of its reference.
+    pub place: Place,
+    /// The keyword of the part of the instance in which it stands.
+    pub keyword: &'r [u8],
+    /// Whether this is all of the instance, as in the internal mapping.
+    pub is_alone: bool,
+    /// Of a reference the number of its value in the part, then the way in this value through lists and typed parameters, each
+    /// from 1 on.
+    pub steps: &'r [u32],
+}
+
+/// What stands in front of the next byte.
+#[derive(Clone, Copy, PartialEq, Eq)]
+enum Inside {
+    Statement,
+    /// A name, of which this is read, and which began with this byte.
+    Name { number: u64, start: u64 },
+    String,
+    /// A slash, with which a remark may begin.
+    Slash,
+    Remark,
+    /// A star in a remark, with which its end may begin.
+    Star,
+}
+
+/// The refusals of a list of which something is looked for, and what was met of them in the bytes that were taken.
+#[derive(Drop)]
+pub struct SecondReading {
+    // In the order of the list: parts, then references.
+    wanted: Vec<Wanted>,
+    // The first of the parts that wasn't passed, and where it stands; and the first of the references.
+    next_part: usize,
+    part_byte: u64,
+    next: usize,
+    // The part whose keyword is behind the bytes that were taken.
+    pending: Option<usize>,
+    taken: u64,
+    inside: Inside,
+    // The instance whose statement is open, behind its name.
+    holder: Option<u64>,
+    way: Way,
+    // What is kept of all that was met.
+    keywords: Vec<u8>,
+    steps: Vec<u32>,
+    // Where memory was refused, nothing more is met.
+    is_over: bool,
+}
+
+impl SecondReading {
+    /// Nothing is looked for. It takes no memory.
+    pub fn none(alloc: Global) -> SecondReading {
+        SecondReading {
+            wanted: Vec::new(alloc),
+            next_part: 0,
+            part_byte: u64::MAX,
+            next: 0,
+            pending: None,
+            taken: 0,
+            inside: Inside::Statement,
+            holder: None,
+            way: Way::new(alloc),
+            keywords: Vec::new(alloc),
+            steps: Vec::new(alloc),
+            is_over: false,
+        }
+    }
+
+    /// What is looked for of the refusals of a survey, whose bytes are to be taken once more.
+    ///
+    /// # Errors
+    ///
+    /// `NoMemory`.
+    pub fn of(alloc: Global, found: &LocatedSurvey) -> Result<SecondReading, NoMemory> {
+        let mut reading = SecondReading::none(alloc);
+        for number in 0..usize::MAX {
+            let Some(located) = found.located(number) else {
+                break;
+            };
+            reading.want(number, &located, found.target(number))?;
+        }
+        reading.begin();
+        Ok(reading)
+    }
+
+    /// What is looked for of the first refusal of a file, unless it is one of a reference.
+    ///
+    /// # Errors
+    ///
+    /// `NoMemory`.
+    pub fn of_first(alloc: Global, located: &Located) -> Result<SecondReading, NoMemory> {
+        let mut reading = SecondReading::none(alloc);
+        reading.want(0, located, None)?;
+        reading.begin();
+        Ok(reading)
+    }
+
+    /// Has a refusal looked for that is the next one of its list: by its reference, if that leads to this target, or by its part.
+    fn want(
+        &mut self,
+        number: usize,
+        located: &Located,
+        target: Option<Name>,
+    ) -> Result<(), NoMemory> {
+        let Some(sought) = sought_of(located, target) else {
+            return Ok(());
+        };
+        self.wanted.push(Wanted {
+            number,
+            sought,
+            found: None,
+        })?;
+        Ok(())
+    }
+
+    /// Looks for the first part and the first reference.
+    fn begin(&mut self) {
+        self.part_byte = self.byte_of_part(0);
+        self.next = self.wanted.len();
+        for index in 0..self.wanted.len() {
+            if self.byte_of_part(index) == u64::MAX {
+                self.next = index;
+                return;
+            }
+        }
+    }
+
+    /// Where the part of this number stands; behind all bytes where there is none.
+    fn byte_of_part(&self, index: usize) -> u64 {
+        match self.wanted.get(index) {
+            Some(wanted) => match wanted.sought {
+                Sought::Part { byte } => byte,
+                Sought::Reference { .. } => u64::MAX,
+            },
+            None => u64::MAX,
+        }
+    }
+
+    /// Whether nothing is looked for.
+    pub fn is_empty(&self) -> bool {
+        self.wanted.is_empty()
+    }
+
+    /// What was met of the refusal of this number.
+    pub fn met(&self, number: usize) -> Option<Met<'_>> {
+        let found = self.found(number)?;
+        Some(Met {
+            place: Place { byte: found.byte },
+            keyword: self.keywords.get(found.keyword.0..found.keyword.1)?,
+            is_alone: found.is_alone,
+            steps: self.steps.get(found.steps.0..found.steps.1)?,
+        })
+    }
+
+    /// Where the refusal of this number was met.
+    fn found(&self, number: usize) -> Option<Found> {
+        let mut front: usize = 0;
+        let mut left = self.wanted.len();
+        // Each round halves what is left.
+        for _ in 0..64 {
+            let half = left / 2;
+            let middle = front.saturating_add(half);
+            let wanted = self.wanted.get(middle)?;
+            if wanted.number == number {
+                return wanted.found;
+            }
+            if left == 0 {
+                return None;
+            }
+            if wanted.number < number {
+                front = middle.saturating_add(1);
+                left = left.saturating_sub(half).saturating_sub(1);
+            } else {
+                left = half;
+            }
+        }
+        None
+    }
+
+    /// Takes bytes of the file.
+    pub fn take(&mut self, bytes: &[u8]) {
+        for byte in bytes {
+            if self.is_over {
+                return;
+            }
+            if self.taken == self.part_byte {
+                self.reach(*byte);
+            }
+            self.inside = self.behind(*byte);
+            self.taken = self.taken.saturating_add(1);
+        }
+    }
+
+    /// Stands in front of a part that is looked for, and of this byte.
+    fn reach(&mut self, byte: u8) {
+        let index = self.next_part;
+        self.next_part = index.saturating_add(1);
+        self.part_byte = self.byte_of_part(self.next_part);
+        if self.way.is_in_part() {
+            self.keep(index, self.taken, false);
+        } else if byte != b'#' {
+            self.pending = Some(index);
+        }
+    }
+
+    /// Where the next byte stands behind this one.
+    fn behind(&mut self, byte: u8) -> Inside {
+        match self.inside {
+            Inside::Statement => self.in_statement(byte),
+            Inside::Name { number, start } => {
+                if byte.is_ascii_digit() {
+                    let digit = byte.saturating_sub(b'0') as u64;
+                    let number = number.saturating_mul(10).saturating_add(digit);
+                    return Inside::Name { number, start };
+                }
+                self.meet(number, start);
+                self.in_statement(byte)
+            }
+            Inside::String if byte == b'\'' => Inside::Statement,
+            Inside::String => Inside::String,
+            Inside::Slash if byte == b'*' => Inside::Remark,
+            Inside::Slash => self.in_statement(byte),
+            Inside::Remark | Inside::Star if byte == b'*' => Inside::Star,
+            Inside::Star if byte == b'/' => Inside::Statement,
+            Inside::Remark | Inside::Star => Inside::Remark,
+        }
+    }
+
+    /// The same of a byte between tokens, or of a token that is no text and no name.
+    fn in_statement(&mut self, byte: u8) -> Inside {
+        match byte {
+            b'#' => Inside::Name {
+                number: 0,
+                start: self.taken,
+            },
+            b'\'' => Inside::String,
+            b'/' => Inside::Slash,
+            b';' => {
+                self.leave();
+                Inside::Statement
+            }
+            _ => {
+                self.go_on(byte);
+                Inside::Statement
+            }
+        }
+    }
+
+    /// Takes a byte of a keyword or a sign of the statement of an instance. Behind the keyword of a part that is looked for, it is met.
+    fn go_on(&mut self, byte: u8) {
+        if self.holder.is_none() {
+            return;
+        }
+        if self.way.take(byte).is_err() {
+            self.is_over = true;
+            return;
+        }
+        if let Some(index) = self.pending {
+            if self.way.is_in_part() {
+                self.pending = None;
+                self.keep(index, self.byte_of_part(index), false);
+            }
+        }
+    }
+
+    /// Takes a name: that of an instance, or a reference in it.
+    fn meet(&mut self, name: u64, start: u64) {
+        let Some(holder) = self.holder else {
+            self.holder = Some(name);
+            self.way.begin();
+            return;
+        };
+        if self.is_sought(self.next, holder, Some(name)) {
+            self.keep(self.next, start, true);
+            self.next = self.next.saturating_add(1);
+        }
+    }
+
+    /// Whether the reference of this number is one in an instance, and to this target if one is given.
+    fn is_sought(&self, index: usize, in_holder: u64, to: Option<u64>) -> bool {
+        match self.wanted.get(index) {
+            Some(wanted) => match wanted.sought {
+                Sought::Reference { holder, target } => {
+                    holder == in_holder && to.unwrap_or(target) == target
+                }
+                Sought::Part { .. } => false,
+            },
+            None => false,
+        }
+    }
+
+    /// Keeps that a refusal was met at a byte, with the keyword of the part, and of a reference the way in it. Where memory is refused
+    /// nothing more is met.
+    fn keep(&mut self, index: usize, byte: u64, is_reference: bool) {
+        let (from, first) = (self.keywords.len(), self.steps.len());
+        let kept: &[u32] = if is_reference { self.way.steps() } else { &[] };
+        if self.keywords.extend_from_slice(self.way.keyword()).is_err()
+            || self.steps.extend_from_slice(kept).is_err()
+        {
+            self.is_over = true;
+            return;
+        }
+        let found = Found {
+            byte,
+            is_alone: self.way.is_alone(),
+            keyword: (from, self.keywords.len()),
+            steps: (first, self.steps.len()),
+        };
+        if let Some(wanted) = self.wanted.get_mut(index) {
+            wanted.found = Some(found);
+        }
+    }
+
+    /// Leaves a statement, and what wasn't met in it.
+    fn leave(&mut self) {
+        self.pending = None;
+        let Some(holder) = self.holder else {
+            return;
+        };
+        self.holder = None;
+        self.way.begin();
+        for _ in 0..self.wanted.len() {
+            if !self.is_sought(self.next, holder, None) {
+                return;
+            }
+            self.next = self.next.saturating_add(1);
+        }
+    }
+}
+
+/// What is looked for of a refusal: its reference to this target, or the part in which a record is refused and no attribute of it.
+fn sought_of(located: &Located, target: Option<Name>) -> Option<Sought> {
+    let At::Instance(Name(holder)) = located.refusal.at else {
+        return None;
+    };
+    if let Some(Name(target)) = target {
+        return Some(Sought::Reference { holder, target });
+    }
+    if located.attribute.is_some() {
+        return None;
+    }
+    match located.refusal.fault {
+        Fault::Check(_) => {
+            let Place { byte } = located.place?;
+            Some(Sought::Part { byte })
+        }
+        _ => None,
+    }
+}
