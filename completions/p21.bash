@@ -10,7 +10,7 @@ _p21() {
     fi
     case ${COMP_WORDS[1]} in
         param) words='--help' ;;
-        syntax) words='--header --count --progress --help' ;;
+        syntax) words='--header --count --where --progress --help' ;;
         schema) words='--help' ;;
         check) words='--all --most --where --format --progress --help' ;;
         canon) words='--progress --help' ;;

@@ -265,7 +265,7 @@ $here/nothing:1:1"
 file '#3=CLOUD((#9),(),(TALLY(1)));' > "$here/placed"
 run check --where "$demo" "$here/placed"
 expect 'the place of a reference' 1 '' "refused 56 Dangling in #3
-$here/placed:8:11"
+$here/placed:8:11: CLOUD.MEMBERS"
 
 run check --where "$demo" "$here"
 expect 'no place of a read' 3 '' "read fault
@@ -318,7 +318,7 @@ run check --format jsonl "$demo" "$here/point"
 expect 'no JSON of a file that is accepted' 0 'accepted, instances 1, canonical bytes 171' ''
 
 run check --format json "$demo" "$here/point"
-expect 'no such form' 3 '' "error: no form 'json': jsonl and text are known"
+expect 'no such form' 2 '' "error: invalid value 'json' for '--format <FORM>'*"
 
 run check --all --format jsonl "$demo" "$here"
 expect 'JSON of a read that failed' 3 '' 'read fault
@@ -334,7 +334,7 @@ run check --all --where "$demo" "$here/twice" "$here/empty" "$here/placed"
 expect 'places in lists of several files' 1 "$here/empty: accepted, instances 0, canonical bytes 152" \
     "$here/twice:9:1: 40 DuplicateName in #1
 $here/twice: refusals 1
-$here/placed:8:11: 56 Dangling in #3
+$here/placed:8:11: 56 Dangling in #3: CLOUD.MEMBERS
 $here/placed: refusals 1"
 
 run check --most 0 "$demo" "$here/several"

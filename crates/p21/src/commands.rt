@@ -9,7 +9,7 @@ ghost use Rattle.p21.specs.Statuses.{IsOfAnswer, IsOfCommand, IsUnopened, NamesF
 use crate::input::{Inputs, Kept, Source};
 use crate::lines::Lines;
 use crate::notes::{Given, Wanted, note_file, note_files, note_given, note_listing};
-use crate::places::{Asked, ToldOf, asked_places, tell_places, tell_unloaded};
+use crate::places::{Asked, ToldOf, asked_places, tell_place_alone, tell_places, tell_unloaded};
 use crate::progress::ProgressReader;
 use crate::refusals::SECTIONS;
 use crate::several::{check_several, syntax_several};
@@ -17,7 +17,7 @@ use clap::ArgMatches;
 use p21_command_line::LIST;
 use p21_commands::{
     Checks, CommandFault, DONE, Details, canon_command, check_all_command, check_command,
-    param_command, report, same_command, schema_command, show_command, syntax_command,
+    param_command, report, same_command, schema_command, show_command, syntax_located_command,
 };
 use p21_stream_io::Watched;
 use p21_values::Name;
@@ -116,7 +116,7 @@ fn run_schema<'a>(rt: &HostRuntime, found: &ArgMatches<'a>) -> Result<u8, Stoppe
     Ok(status)
 }
 
-/// `syntax FILE.. [--header] [--count] [--progress]`.
+/// `syntax FILE.. [--header] [--count] [--where] [--progress]`.
 fn run_syntax<'a>(rt: &HostRuntime, found: &ArgMatches<'a>) -> Result<u8, Stopped<'a>>
     ensures ran { IfOk result IsOfCommand }
     ensures unopened { IfErr result IsUnopened }
@@ -138,15 +138,21 @@ fn syntax_one<'a>(
     ensures unopened { IfErr result IsUnopened }
 {
     let mut inputs = Inputs::new();
-    let mut file = Watched::new(with_progress(rt, found, path, inputs.open(rt, path)?));
+    let source = with_progress(rt, found, path, inputs.open(rt, path)?);
+    let is_asked = found.get_flag("where");
+    let mut file = Watched::new(Lines::new(rt.alloc(), source, is_asked));
     let mut output = Watched::new(rt.stdout());
     let mut faults = Watched::new(rt.stderr());
     let details = details_given(found);
-    let status = syntax_command(rt.alloc(), &mut file, details, &mut output, &mut faults);
-    let read = file.into_inner().into_inner();
+    let told = syntax_located_command(rt.alloc(), &mut file, details, &mut output, &mut faults);
+    let lines = file.into_inner();
+    if is_asked {
+        tell_place_alone(rt, path, &told, lines.starts());
+    }
+    let read = lines.into_inner().into_inner();
     let file = Given::new(path, Wanted::Exchange, &read);
-    note_given(rt, status, "syntax", &[file], "");
-    Ok(status)
+    note_given(rt, told.status, "syntax", &[file], "");
+    Ok(told.status)
 }
 
 /// What `syntax` is asked to tell of a file behind its line.

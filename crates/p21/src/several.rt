@@ -9,7 +9,7 @@ use crate::named::Named;
 use crate::notes::{
     Given, Wanted, note_given, note_listing, note_one_alone, note_one_of_several, note_unopened,
 };
-use crate::places::{Asked, ToldOf, tell_places, tell_unloaded};
+use crate::places::{Asked, ToldOf, tell_place_alone, tell_places, tell_unloaded};
 use crate::shown::Shown;
 use clap::ArgMatches;
 use p21_commands::{Checks, CommandFault, SyntaxChecks, report};
@@ -108,10 +108,15 @@ fn begin<S: Read, F: Write>(
 pub fn syntax_several(rt: &HostRuntime, found: &ArgMatches<'_>, words: &[&str]) -> u8
     ensures { IsOfCommand result }
 {
+    let asked = if found.get_flag("where") {
+        Asked::Behind
+    } else {
+        Asked::None
+    };
     let mut run = Run {
         rt,
         found,
-        asked: Asked::None,
+        asked,
         inputs: Inputs::new(),
         task: Task::Syntax(SyntaxChecks::new()),
     };
@@ -171,7 +176,13 @@ impl Task<'_> {
                 }
             },
             Task::Syntax(checks) => {
-                checks.check(rt.alloc(), &mut file, details_given(found), output, faults)
+                let details = details_given(found);
+                let told = checks.check(rt.alloc(), &mut file, details, output, faults);
+                let lines = file.into_inner();
+                if asked != Asked::None {
+                    tell_place_alone(rt, path, &told, lines.starts());
+                }
+                return (told.status, lines);
             }
         };
         (status, file.into_inner())

@@ -77,9 +77,9 @@ param_app = with_rule (new_app (codes "param")) (given_rule (codes "FILE"))
 abbrev pub schema_app : App
 schema_app = with_rule (new_app (codes "schema")) (given_rule (codes "S"))
 
--- `syntax FILE.. [--header] [--count] [--progress]`
+-- `syntax FILE.. [--header] [--count] [--where] [--progress]`
 abbrev pub syntax_app : App
-syntax_app = with_rule (with_rule (with_rule (with_rule (new_app (codes "syntax")) files_rule) header_rule) count_rule) progress_rule
+syntax_app = with_rule (with_rule (with_rule (with_rule (with_rule (new_app (codes "syntax")) files_rule) header_rule) count_rule) where_rule) progress_rule
 
 -- a command on a schema and a file
 abbrev pub file_app : Text → App

@@ -70,7 +70,7 @@ fn schema<'a>(alloc: Global) -> Result<Command<'a>, AllocError>
         .arg(schema_path(alloc))
 }
 
-/// `syntax FILE.. [--header] [--count] [--progress]`.
+/// `syntax FILE.. [--header] [--count] [--where] [--progress]`.
 fn syntax<'a>(alloc: Global) -> Result<Command<'a>, AllocError>
     ensures app { IfOk result (λ command. app_of command ≡ syntax_app) }
     ensures local { IfOk result (λ command. (fields_of command).has_globals ≡ false) }
@@ -81,6 +81,7 @@ fn syntax<'a>(alloc: Global) -> Result<Command<'a>, AllocError>
         .arg(file_paths(alloc))?
         .arg(header(alloc))?
         .arg(count(alloc))?
+        .arg(place(alloc))?
         .arg(progress(alloc))
 }
 

@@ -69,6 +69,8 @@ implementation level, file name, time stamp, author, organization, preprocessor 
 (the program that wrote the file), originating system, authorization, schema. With --count
 a line follows for each keyword, with how many records have it, in the order of bytes; of an
 instance with several parts each part is counted.
+With --where a second line has the place of the refusal, where it has one: file, line and
+column, both from 1 on, the column in bytes. That of a reference has none.
 With several files, or @LIST for the files that a text names, a path a line, each line has
 the name of its file in front. A file that is refused or can't be read doesn't end the
 run; the status is the highest.

@@ -336,10 +336,8 @@ impl SecondReading {
     /// nothing more is met.
     fn keep(&mut self, index: usize, byte: u64, is_reference: bool) {
         let (from, first) = (self.keywords.len(), self.steps.len());
-        let kept: &[u32] = if is_reference { self.way.steps() } else { &[] };
-        if self.keywords.extend_from_slice(self.way.keyword()).is_err()
-            || self.steps.extend_from_slice(kept).is_err()
-        {
+        let has_steps = !is_reference || self.keep_steps();
+        if !has_steps || self.keywords.extend_from_slice(self.way.keyword()).is_err() {
             self.is_over = true;
             return;
         }
@@ -352,6 +350,11 @@ impl SecondReading {
         if let Some(wanted) = self.wanted.get_mut(index) {
             wanted.found = Some(found);
         }
+    }
+
+    /// Keeps the way in a reference, and says whether memory was there for it.
+    fn keep_steps(&mut self) -> bool {
+        self.steps.extend_from_slice(self.way.steps()).is_ok()
     }
 
     /// Leaves a statement, and what wasn't met in it.

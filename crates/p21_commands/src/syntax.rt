@@ -17,7 +17,7 @@ use crate::fault::{CommandFault, report};
 use crate::file_fault::fault_of;
 use p21_grammar_tree::Part;
 use p21_stream::Watched;
-use p21_stream_syntax::{KeywordCounts, WellFormed, syntax};
+use p21_stream_syntax::{IllFormed, KeywordCounts, WellFormed, syntax_located};
 use p21_syntax_words::header_words;
 use p21_values::{Limits, NoMemory};
 use std::alloc::Global;
@@ -49,17 +49,52 @@ pub fn syntax_command<R: Read, W: Write, F: Write>(
       faults = stream_of F.contents faults.old faults.new;
     }) result }
 {
-    match read_alone(alloc, file, details) {
-        Ok(text) => answer(&text, output, faults),
-        Err(fault) => report(&fault, faults),
+    syntax_located_command(alloc, file, details, output, faults).status
+}
+
+/// How the reading of a file by itself ends.
+#[derive(Debug, Drop)]
+pub struct ToldAlone {
+    /// The exit status.
+    pub status: u8,
+    /// Why and where the file isn't well formed. A reference has its place by a second reading of the file alone.
+    pub ill_formed: Option<IllFormed>,
+}
+
+/// As `syntax_command`, with where the file is refused.
+pub fn syntax_located_command<R: Read, W: Write, F: Write>(
+    alloc: Global,
+    file: &mut Watched<R>,
+    details: Details,
+    output: &mut Watched<W>,
+    faults: &mut Watched<F>,
+) -> ToldAlone
+    ensures consumed { TakesAtMost (usual.file_source + 1) (R.remaining file.old.inner) (R.remaining file.new.inner) }
+    ensures ends { EndsReading (IsTold details) IsIllFormedLine (record {
+      input = stream_of R.remaining file.old file.new;
+      output = stream_of W.contents output.old output.new;
+      faults = stream_of F.contents faults.old faults.new;
+    }) result.status }
+{
+    let mut ill_formed = None;
+    match read_alone(alloc, file, details, &mut ill_formed) {
+        Ok(text) => ToldAlone {
+            status: answer(&text, output, faults),
+            ill_formed,
+        },
+        Err(fault) => ToldAlone {
+            status: report(&fault, faults),
+            ill_formed,
+        },
     }
 }
 
-/// What is told of a file that is well formed.
+/// What is told of a file that is well formed. Of another one it notes why and where it isn't.
 fn read_alone<R: Read>(
     alloc: Global,
     file: &mut Watched<R>,
     details: Details,
+    noted: &mut Option<IllFormed>,
 ) -> Result<Vec<u8>, CommandFault>
     ensures ok { IfOk result (λ text. IsTold details (R.remaining file.old.inner) (R.remaining file.new.inner) text.items) }
     ensures err { IfErr result (RefusesWith (IsIllFormedLine (R.remaining file.old.inner) (R.remaining file.new.inner))) }
@@ -68,9 +103,13 @@ fn read_alone<R: Read>(
     ensures read { OnOk result (file.new.failures ≡ file.old.failures) }
     ensures failed { IfErr result (FailedBy (failures_of file.old file.new ∷ []) []) }
 {
-    let found = match syntax(alloc, Limits::usual(), file) {
+    let found = match syntax_located(alloc, Limits::usual(), file) {
         Ok(found) => found,
-        Err(refusal) => return Err(fault_of(alloc, "", refusal)),
+        Err(ill_formed) => {
+            let refusal = ill_formed.refusal;
+            *noted = Some(ill_formed);
+            return Err(fault_of(alloc, "", refusal));
+        }
     };
     match told_text(alloc, &found, details) {
         Ok(text) => Ok(text),

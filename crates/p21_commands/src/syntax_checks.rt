@@ -8,7 +8,7 @@ ghost use Rattle.p21_commands.specs.Syntax.{EndsReading, IsIllFormedLine, IsTold
 ghost use Rattle.p21_stream_syntax.specs.Reading.{TakesAtMost};
 
 use crate::status::{DONE, FAILED};
-use crate::syntax::{Details, syntax_command};
+use crate::syntax::{Details, ToldAlone, syntax_located_command};
 use p21_stream::Watched;
 use std::alloc::Global;
 use std::io::{Read, Write};
@@ -39,7 +39,7 @@ impl SyntaxChecks {
         SyntaxChecks { highest: DONE }
     }
 
-    /// Reads a file, and writes what `syntax_command` writes of it. Answers the status of this file.
+    /// Reads a file, and writes what `syntax_command` writes of it. Answers the status of this file, and where it is refused.
     pub fn check<R: Read, W: Write, F: Write>(
         &mut self,
         alloc: Global,
@@ -47,18 +47,18 @@ impl SyntaxChecks {
         details: Details,
         output: &mut Watched<W>,
         faults: &mut Watched<F>,
-    ) -> u8
+    ) -> ToldAlone
         ensures consumed { TakesAtMost (usual.file_source + 1) (R.remaining file.old.inner) (R.remaining file.new.inner) }
         ensures ends { EndsReading (IsTold details) IsIllFormedLine (record {
           input = stream_of R.remaining file.old file.new;
           output = stream_of W.contents output.old output.new;
           faults = stream_of F.contents faults.old faults.new;
-        }) result }
-        ensures highest { self.new ≡ max self.old result }
+        }) result.status }
+        ensures highest { self.new ≡ max self.old result.status }
     {
-        let status = syntax_command(alloc, file, details, output, faults);
-        self.highest = self.highest.max(status);
-        status
+        let told = syntax_located_command(alloc, file, details, output, faults);
+        self.highest = self.highest.max(told.status);
+        told
     }
 
     /// A file can't be opened.

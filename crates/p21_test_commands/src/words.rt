@@ -74,6 +74,12 @@ const COMMANDS: Taken = &[
         "format",
         "text",
     ),
+    (
+        &["p21", "syntax", "--where", "f"],
+        "syntax",
+        "where",
+        "true",
+    ),
     (&["p21", "syntax", "f"], "syntax", "header", "false"),
     (&["p21", "syntax", "f"], "syntax", "count", "false"),
     (

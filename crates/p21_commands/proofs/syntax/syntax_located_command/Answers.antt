@@ -2,7 +2,7 @@ use Rattle.std.proofs.Common.{[], ◌∷◌, subst, sym}
 use Rattle.p21_commands.specs.Failures.{failures_of}
 use Rattle.p21_commands.specs.Syntax.{IsTold}
 use Rattle.p21_commands.proofs.Reporting.{ends-unanswered, ends-with}
-use Rattle.p21_commands.proofs.syntax.syntax_command.Goals as goal
+use Rattle.p21_commands.proofs.syntax.syntax_located_command.Goals as goal
 
 pub returns-in-Ok-clause-ends : goal.returns-in-Ok-clause-ends
 returns-in-Ok-clause-ends g c =
