@@ -4,8 +4,8 @@ mod reopened;
 mod spelled;
 
 use p21_grammar::{
-    Absent, Canonical, Event, GrammarFault, Key, Lexer, Limits, Line, NoMemory, Param, Params,
-    Parser, Part, Record, Token, Word,
+    Absent, Canonical, Event, GrammarFault, KINDS, Key, Lexer, Limits, Line, NoMemory, Param,
+    Params, Parser, Part, Record, Token, Word,
 };
 use spelled::{put, spell_event};
 use std::alloc::Global;
@@ -18,7 +18,11 @@ const HEAD: &str =
 /// What a header stands in.
 const HEADER: &str = "ISO-10303-21;HEADER;";
 
-/// Texts, with the statements of each and then the refusal, `end` and the refusal of the end, or nothing.
+/// A sign for each kind of token, in their order: of `ISO-10303-21`, HEADER, DATA, ENDSEC and `END-ISO-10303-21`, of other keywords, user
+/// keywords, names, integers, reals, texts, items and binaries, and the signs as they are.
+const SIGNS: &[u8; 20] = b"BHDEFkunwrtib$*(),=;";
+
+/// Texts, with the statements of each and then the refusal, in front of which the signs of the tokens stand that were expected, `end` and the refusal of the end, or nothing.
 type Rows = &'static [(&'static str, &'static str)];
 
 /// A lexer and a parser, and the statements that were given.
@@ -101,6 +105,25 @@ impl Reader {
         }
     }
 
+    /// Appends the signs of the kinds of token that could stand in place of one that was unexpected.
+    fn put_expected(&mut self) {
+        if self.refused != Some(GrammarFault::Unexpected) {
+            return;
+        }
+        for at in 0..KINDS.len() {
+            if self.parser.could_take(KINDS[at]) {
+                self.put_sign(SIGNS[at]);
+            }
+        }
+        self.put_sign(b' ');
+    }
+
+    fn put_sign(&mut self, sign: u8) {
+        if self.given.push(sign).is_err() {
+            self.is_lost = true;
+        }
+    }
+
     /// Whether nothing was lost, and a refusal is answered again.
     fn is_steady(&mut self) -> bool {
         match self.refused {
@@ -158,6 +181,7 @@ fn comes_to(reader: Reader, text: &str, expected: &str) -> bool {
     let mut reader = reader;
     reader.given.clear();
     reader.feed(text);
+    reader.put_expected();
     if !reader.is_steady() {
         return false;
     }

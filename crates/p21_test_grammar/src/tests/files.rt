@@ -42,8 +42,8 @@ const SECTIONS: Rows = &[
     ("REFERENCE;", "LeftOut(Reference)"),
     ("SIGNATURE;", "LeftOut(Signature)"),
     ("DATA;ENDSEC;SIGNATURE;", "data end LeftOut(Signature)"),
-    ("DATA;ANCHOR;", "data Unexpected"),
-    ("DATA;DATA;", "data Unexpected"),
+    ("DATA;ANCHOR;", "data En Unexpected"),
+    ("DATA;DATA;", "data En Unexpected"),
     (
         "DATA;ENDSEC;END-ISO-10303-21;X ",
         "data end finish AfterEnd",
@@ -58,12 +58,24 @@ const SECTIONS: Rows = &[
     ),
     ("DATA;#1=!A", "data end EndsEarly"),
     ("DATA;#1=!A(", "data LeftOut(UserKeyword)"),
-    ("DATA;#1=POINT(;", "data Unexpected"),
-    ("DATA;#1=POINT(1,);", "data Unexpected"),
-    ("DATA;#1=();", "data Unexpected"),
-    ("DATA;#1=A(B(1,2));", "data Unexpected"),
-    ("DATA;#1=A(B());", "data Unexpected"),
-    ("DATA;X=", "data Unexpected"),
+    ("DATA;#1=POINT(;", "data HDEknwrtib$*() Unexpected"),
+    ("DATA;#1=POINT(1,);", "data HDEknwrtib$*( Unexpected"),
+    ("DATA;#1=();", "data HDEk Unexpected"),
+    ("DATA;#1=A(B(1,2));", "data ) Unexpected"),
+    ("DATA;#1=A(B());", "data HDEknwrtib$*( Unexpected"),
+    ("DATA;X=", "data En Unexpected"),
+    ("DATA,", "(; Unexpected"),
+    ("DATA('a',('D')),", "; Unexpected"),
+    ("'DATA' ", "D Unexpected"),
+    ("DATA;#1,", "data = Unexpected"),
+    ("DATA;#1=1 ", "data HDEk( Unexpected"),
+    ("DATA;#1=A;", "data ( Unexpected"),
+    ("DATA;#1=(A()1 ", "data HDEk) Unexpected"),
+    ("DATA;#1=(A())=", "data ; Unexpected"),
+    ("DATA;#1=A(B,", "data ( Unexpected"),
+    ("DATA;#1=A((1)1 ", "data ), Unexpected"),
+    ("DATA;ENDSEC=", "data ; Unexpected"),
+    ("DATA;ENDSEC;(", "data end F Unexpected"),
 ];
 
 /// The first text that gives other statements behind `head`, or another refusal.
@@ -81,9 +93,12 @@ const LEFT_OUT: &[(&str, &str, &str)] = &[
     ("ISO-10303-21;", "ANCHOR ", "LeftOut(Anchor)"),
     ("ISO-10303-21;", "REFERENCE ", "LeftOut(Reference)"),
     ("ISO-10303-21;", "SIGNATURE ", "LeftOut(Signature)"),
-    ("ISO-10303-21;", "DATA ", "Unexpected"),
-    ("ISO-10303-21;", "!ANCHOR ", "Unexpected"),
-    ("ISO-10303-21;HEADER;", "ANCHOR;", "Unexpected"),
+    ("ISO-10303-21;", "DATA ", "H Unexpected"),
+    ("ISO-10303-21;", "!ANCHOR ", "H Unexpected"),
+    ("ISO-10303-21;HEADER;", "ANCHOR;", "( Unexpected"),
+    ("ISO-10303-21;HEADER;", "(", "HDEku Unexpected"),
+    ("ISO-10303-21;HEADER;", "ENDSEC,", "(; Unexpected"),
+    ("", "DATA ", "B Unexpected"),
     ("ISO-10303-21;HEADER;", "ANCHOR(1);", "HeaderShape"),
     (
         HEAD,
@@ -98,7 +113,7 @@ const LEFT_OUT: &[(&str, &str, &str)] = &[
     (
         HEAD,
         "DATA('a',('D'));ENDSEC;HEADER ",
-        "named DATA('a' ('D' ) ) end Unexpected",
+        "named DATA('a' ('D' ) ) end DF Unexpected",
     ),
 ];
 
@@ -151,8 +166,8 @@ const HEADERS: Rows = &[
         "HeaderShape",
     ),
     ("FILE_DESCRIPTION((''),#1", "end EndsEarly"),
-    ("FILE_DESCRIPTION((''),#1 ,", "Unexpected"),
-    ("DATA;", "Unexpected"),
+    ("FILE_DESCRIPTION((''),#1 ,", "HDEkuwrtib$*( Unexpected"),
+    ("DATA;", "( Unexpected"),
 ];
 
 fn first_wrong_header(rt: &HostRuntime) -> &'static str {

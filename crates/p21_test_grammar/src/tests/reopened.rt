@@ -8,7 +8,7 @@ const REOPENED: &[(&str, &str, &str)] = &[
     ("#1=K(", "#2=K();", "#2=K() end EndsEarly"),
     ("#1=K((1,A((", "#2=K();", "#2=K() end EndsEarly"),
     ("#1=(K(1)", "#2=K();", "#2=K() end EndsEarly"),
-    ("#1=K(1)", ";", "Unexpected"),
+    ("#1=K(1)", ";", "En Unexpected"),
     ("#1=K();#3=K(1)", "#2=K();", "#2=K() end EndsEarly"),
     ("#1=K(1,)", "#2=K();", "#2=K() end EndsEarly"),
     (
