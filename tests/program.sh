@@ -307,7 +307,7 @@ expect 'no places in a list of a file that is accepted' 0 'accepted, instances 1
 run check --all --format jsonl "$demo" "$here/broken"
 expect 'a list as JSON' 1 '' \
     "{\"file\":\"$here/broken\",\"number\":45,\"name\":\"Count\",\"instance\":1,\"byte\":139,\"line\":8,\"column\":14,\"entity\":\"POINT\",\"attribute\":\"Y\"}
-{\"file\":\"$here/broken\",\"number\":20,\"name\":\"Unexpected\",\"statement\":10,\"byte\":160,\"line\":9,\"column\":19}
+{\"file\":\"$here/broken\",\"number\":20,\"name\":\"Unexpected\",\"statement\":10,\"byte\":160,\"line\":9,\"column\":19,\"expected\":\[\"ENDSEC\",\"instance name\"\]}
 {\"refusals\":2,\"extent\":\"part\"}"
 
 run check --format jsonl "$demo" "$here/broken"

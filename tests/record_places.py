@@ -1,6 +1,7 @@
 #!/usr/bin/env python3
 """Where `p21 check --where` says that a record is refused: the rows of tests/tools_where.py that are of records, and which attribute.
 
+What could stand at the place of a token with which no statement goes on, by the standard's grammar, and in place of a header record.
 With --all the same of files with many faults, where each place is that of a run over the file with this one fault; and
 what `--format jsonl` says of them. P21 names another program than ./p21.
 """
@@ -80,6 +81,75 @@ ATTRIBUTES = [
 OF_SUPERTYPES = [
     ("#1=AXIS2_PLACEMENT_3D('',#2,$,$);", "AXIS2_PLACEMENT_3D.LOCATION"),
     ("#1=(AXIS2_PLACEMENT_3D(#1,$,$)GEOMETRIC_REPRESENTATION_ITEM()REPRESENTATION_ITEM(''));", "AXIS2_PLACEMENT_3D.LOCATION"),
+]
+
+# The words for what may stand as a parameter of a record in the data section, and in the header.
+IN_DATA = ["keyword", "instance name", "integer", "real", "string", "enumeration", "binary", "$", "*", "("]
+IN_HEADER = ["keyword", "user-defined keyword", "integer", "real", "string", "enumeration", "binary", "$", "*", "("]
+OF_NAME = "FILE_NAME(string, string, strings, strings, string, string, string)"
+# What stands in place of one text of a file, and what could stand in place of the token that is refused there, by the grammar of
+# ISO 10303-21 (formal definition of the exchange structure), and of a record of the header the record (header section entities).
+EXPECTED = [
+    ("MARK", "#1=POINT($,1.,1.)", [";"]),
+    ("MARK", "#1=POINT($,1. 2.);", [")", ","]),
+    ("MARK", "#1=POINT($,,2.);", IN_DATA),
+    ("MARK", "#1=POINT($,);", IN_DATA),
+    ("MARK", "#1=POINT(;", [*IN_DATA, ")"]),
+    ("MARK", "#1=POINT(=", [*IN_DATA, ")"]),
+    ("MARK", "#1 POINT", ["="]),
+    ("MARK", "#1;", ["="]),
+    ("MARK", "#1=;", ["keyword", "("]),
+    ("MARK", "#1=#2;", ["keyword", "("]),
+    ("MARK", "#1=POINT;", ["("]),
+    ("MARK", "#1=(;", ["keyword"]),
+    ("MARK", "#1=();", ["keyword"]),
+    ("MARK", "#1=(POINT;", ["("]),
+    ("MARK", "#1=(POINT(1.,1.),", ["keyword", ")"]),
+    ("MARK", "#1=(POINT(1.)SHAPE($))=", [";"]),
+    ("MARK", "#1=POINT(DATA,", ["("]),
+    ("MARK", "#1=POINT(A();", IN_DATA),
+    ("MARK", "#1=POINT(A(1,", [")"]),
+    ("MARK", "#1=POINT(A((1;", [")", ","]),
+    ("MARK", "#1=POINT(A((1);", [")"]),
+    ("MARK", "#1=POINT(A(1);", [")", ","]),
+    ("MARK", "#1=POINT(();", [")", ","]),
+    ("MARK", "#1=POINT(('a',;", IN_DATA),
+    ("MARK", "POINT($,1.,2.);", ["ENDSEC", "instance name"]),
+    ("MARK", "HEADER;", ["ENDSEC", "instance name"]),
+    ("MARK", "; ", ["ENDSEC", "instance name"]),
+    ("MARK", "ENDSEC(", [";"]),
+    ("MARK", "ENDSEC;#1", ["END-ISO-10303-21"]),
+    ("MARK", "ENDSEC;END-ISO-10303-21 X", [";"]),
+    ("DATA;", "DATA,", ["(", ";"]),
+    ("DATA;", "DATA('a'", [")", ","]),
+    ("DATA;", "DATA(1,;", ["keyword", *IN_DATA[1:]]),
+    ("DATA;", "DATA('a',('DEMO'))=", [";"]),
+    ("DATA;", "DATA('a',('DEMO'));ENDSEC;#1", ["DATA", "END-ISO-10303-21"]),
+    ("DATA;", "DATA('a',('DEMO'));ENDSEC;DATA,", ["("]),
+    ("DATA;", "'DATA'", ["DATA"]),
+    ("DATA;", "HEADER;", ["DATA"]),
+    ("ENDSEC;\nDATA", "ENDSEC DATA", ["(", ";"]),
+    ("(('DEMO'));", "(('DEMO'));#1", ["ENDSEC", "keyword", "user-defined keyword"]),
+    ("(('DEMO'));", "(('DEMO'));(", ["ENDSEC", "keyword", "user-defined keyword"]),
+    ("(('DEMO'));", "(('DEMO'))(", [";"]),
+    ("(('DEMO'));", "(('DEMO'));A;", ["("]),
+    ("(('DEMO'));", "(('DEMO'));!A=", ["("]),
+    ("(('DEMO'));", "(('DEMO'));A(#1", [*IN_HEADER, ")"]),
+    ("(('DEMO'));", "(('DEMO'));A(1,#1", IN_HEADER),
+    ("(('DEMO'));", "(('DEMO'));A(!B()", IN_HEADER),
+    ("HEADER;", "HEADER(", [";"]),
+    ("HEADER;", "FILE_DESCRIPTION", ["HEADER"]),
+    ("HEADER;", ";", ["HEADER"]),
+    ("ISO-10303-21;\nHEADER", "ISO-10303-21 HEADER", [";"]),
+    ("ISO-10303-21;\nHEADER", "HEADER", ["ISO-10303-21"]),
+    ("ISO-10303-21;\nHEADER", "SCHEMA demo", ["ISO-10303-21"]),
+    ("FILE_DESCRIPTION((''),'2;1')", "FILE_DESCRIPTION('','2;1')", ["FILE_DESCRIPTION(strings, string)"]),
+    ("FILE_DESCRIPTION((''),'2;1')", "FILE_NAME()", ["FILE_DESCRIPTION(strings, string)"]),
+    ("FILE_NAME('',''", "FILE_NAME(''", [OF_NAME]),
+    ("FILE_NAME('','',(''),(''),'','','');\n", "", [OF_NAME]),
+    ("(('DEMO'))", "('DEMO')", ["FILE_SCHEMA((string))"]),
+    ("(('DEMO'));", "(('DEMO'));FILE_NAME();", None),
+    ("MARK", "#1=POINT($,1.,1.)#p", None),
 ]
 
 # Texts of docs/FAULTS.md that are refused alike without a schema; the last one has no place then.
@@ -243,6 +313,17 @@ def of_standard_input():
             yield f"{instance} on standard input: {lines}"
 
 
+def of_tokens(folder):
+    """What is wrong with what could stand at a place, of one refusal and of the last one of a list."""
+    for front, behind, wanted in EXPECTED:
+        text = file_of("MARK", [("PRODUCT_MODEL", "DEMO")])
+        assert text.count(front) == 1, front
+        for words in (), ("--all",):
+            [first, *_] = listed(folder, text.replace(front, behind), *words, "--format", "jsonl")
+            if json.loads(first).get("expected") != wanted:
+                yield f"{behind} in place of {front}: {first}, and not {wanted}"
+
+
 def main():
     failed = 0
     with tempfile.TemporaryDirectory() as made:
@@ -267,11 +348,11 @@ def main():
             if attribute != wanted:
                 print(f"{instance}: {attribute}, and not {wanted}", file=sys.stderr)
                 failed += 1
-        for wrong in [*of_list(folder), *of_single_runs(folder), *of_files_alone(folder), *of_standard_input()]:
+        for wrong in [*of_list(folder), *of_single_runs(folder), *of_files_alone(folder), *of_standard_input(), *of_tokens(folder)]:
             print(wrong, file=sys.stderr)
             failed += 1
             count += 1
-        count += 4
+        count += 5
     print(f"{count - failed} passed, {failed} failed")
     return 1 if failed else 0
 

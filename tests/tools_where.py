@@ -458,11 +458,10 @@ def expected(tests):
 
 # What is said of the texts of docs/FAULTS.md stands there in the section of the refusal, and so do these words.
 IN_SECTIONS = {
-    20: [*files.VALUES_OF_HEADER, files.VALUE, files.NAME_OF_INSTANCE]
-    + [files.OPENING, files.CLOSING, files.COMMA, files.EQUALS, files.END],
+    20: [*files.VALUES.values(), files.VALUE, *files.SIGNS.values()],
     25: [files.WANTED[25]],
-    30: [files.TEXT, files.TEXTS, files.ONE_TEXT, "parameter 3 of FILE_NAME, author"]
-    + [name for name, parameters in files.HEADER for name in (name, *(parameter for parameter, _ in parameters))],
+    30: [*files.SHAPES.values(), "parameter 3 of FILE_NAME, author"]
+    + [name for record, parameters in files.PARAMETERS.items() for name in (record, *parameters)],
     31: [FAULTS["31 SchemaName"][2]],
     32: files.WANTED[32].split(" or "),
     45: [FAULTS["45 Count"][2]],

@@ -58,33 +58,28 @@ WANTED = {
     25: "nothing but blanks and remarks behind END-ISO-10303-21;",
     32: "DATA; or DATA('name',('SCHEMA'));",
 }
-# The records that a header begins with: of each parameter its name and its shape.
-TEXT, TEXTS, ONE_TEXT = "a text or $", "a list of texts, or $", "a list of one text"
-HEADER = [
-    ("FILE_DESCRIPTION", [("description", TEXTS), ("implementation_level", TEXT)]),
-    (
-        "FILE_NAME",
-        [
-            ("name", TEXT),
-            ("time_stamp", TEXT),
-            ("author", TEXTS),
-            ("organization", TEXTS),
-            ("preprocessor_version", TEXT),
-            ("originating_system", TEXT),
-            ("authorization", TEXT),
-        ],
-    ),
-    ("FILE_SCHEMA", [("schema_identifiers", ONE_TEXT)]),
-]
-# The words for what may stand in a statement. In the header no value is the name of an instance.
-VALUE, KEYWORD, NAME_OF_INSTANCE = "a value", "a keyword", "the name of an instance"
-VALUES_OF_HEADER = ["a number", "a text", "an item", "a binary", '"$"', '"*"', KEYWORD]
-OPENING, CLOSING, COMMA, EQUALS, END = '"("', '")"', '","', '"="', '";"'
-FIRST_WORDS = ["ISO-10303-21", "HEADER"]
-# The words that begin a statement and no record.
-OF_SECTIONS = (b"ISO-10303-21", b"HEADER", b"ENDSEC", b"DATA", b"END-ISO-10303-21")
-# What a parenthesis holds: the parts of an instance, the one value of a typed parameter, or values.
-PARTS, TYPED, LIST = range(3)
+# The records that a header begins with, with the names of their parameters, and the words for their shapes.
+PARAMETERS = {
+    "FILE_DESCRIPTION": ["description", "implementation_level"],
+    "FILE_NAME": ["name", "time_stamp", "author", "organization", "preprocessor_version", "originating_system", "authorization"],
+    "FILE_SCHEMA": ["schema_identifiers"],
+}
+SHAPES = {"string": "a text or $", "strings": "a list of texts, or $", "(string)": "a list of one text"}
+# The words for what the program says that could stand in a statement. For a user-defined keyword none is said beside a keyword.
+VALUES = {
+    "instance name": "the name of an instance",
+    "integer": "a number",
+    "real": "a number",
+    "string": "a text",
+    "enumeration": "an item",
+    "binary": "a binary",
+    "$": '"$"',
+    "*": '"*"',
+    "keyword": "a keyword",
+}
+VALUE = "a value"
+WORDS = ("ISO-10303-21", "HEADER", "DATA", "ENDSEC", "END-ISO-10303-21")
+SIGNS = {sign: f'"{sign}"' for sign in "(),=;"}
 # Of a text of a file so many characters are said of a place, and so many names are listed.
 LONGEST, MOST = 60, 8
 # So many ways in which values may stand for attributes are tried.
@@ -106,6 +101,8 @@ class Refusal(NamedTuple):
     column: Optional[int]
     entity: Optional[str]
     attribute: Optional[str]
+    # What the program says that could stand there.
+    expected: Sequence[str] = ()
 
     @property
     def answer(self) -> str:
@@ -140,9 +137,8 @@ def refusal_of(line: str, front: int = 0) -> Refusal:
     told: Dict[str, Any] = json.loads(line)
     get = told.get
     column = get("column_in_characters") or get("column")
-    return Refusal(
-        told["number"], told["name"], get("statement"), get("instance"), get("byte"), get("line"), column, get("entity"), get("attribute")
-    )
+    where = (get("statement"), get("instance"), get("byte"), get("line"), column, get("entity"), get("attribute"))
+    return Refusal(told["number"], told["name"], *where, told.get("expected", ()))
 
 
 def end_of_name(line: str) -> int:
@@ -457,7 +453,7 @@ class Refused:
         if self.number in OF_WHOLE:
             wanted = WANTED.get(self.told.number) if isinstance(self.told.number, int) else None
             return Place(at, reading.matched(FIRST_WORD, self.data, at).end(), [f"wanted here: {wanted}"] if wanted else [], wanted)
-        wanted = self.wanted(at) if self.number == 20 else None
+        wanted = could_stand(self.told.expected)
         return Place(at, end_of_word(self.data, at), [f"wanted here: {wanted}"] if wanted else [], wanted)
 
     def place_of_end(self, at: int) -> Place:
@@ -475,38 +471,14 @@ class Refused:
             end += 1
         return Place(at, end, [about_byte(byte, self.number == 6), *what_helps(byte, self.number)])
 
-    def wanted(self, at: int) -> Optional[str]:
-        """What could stand at a place of a statement in place of what does, or None where it is very long."""
-        start = self.statement.start
-        if at - start >= reading.PIECE:
-            return None
-        words = [self.data[slice(*found)] for found in reading.lexemes(self.data, start, at)]
-        found = could_follow(words) if words else self.could_begin(start)
-        return " or ".join(filter(None, [", ".join(found[:-1]), *found[-1:]])) or None
-
-    def could_begin(self, start: int) -> List[str]:
-        """With which words the statement at a place could begin, by those before it."""
-        if self.told.statement in (1, 2):
-            return [FIRST_WORDS[self.told.statement - 1]]
-        words = ((first_word(self.data, found), found) for found in statements(self.data))
-        if next(found for word, found in words if word == b"ENDSEC" or found.end >= start).end >= start:
-            return ["ENDSEC", KEYWORD]
-        first_section = next(words)[1]
-        if first_section.start >= start:
-            return ["DATA"]
-        if first_word(self.data, self.checked.statement_at(self.checked.ends.before(start) - 1)) != b"ENDSEC":
-            return ["ENDSEC", NAME_OF_INSTANCE]
-        has_name = b"(" in self.checked.text(first_section)
-        return [*(["DATA"] if has_name else []), "END-ISO-10303-21"]
-
     def place_in_header(self, at: int) -> Place:
         """The record of the header, or the parameter in it, that has another form than it must have."""
-        assert self.told.statement is not None
-        start, number = self.statement.start, self.told.statement - 3
+        start = self.statement.start
         key = first_word(self.data, self.statement).decode("latin-1")
-        if number >= len(HEADER):
+        if not self.told.expected:
             return Place(start, start + len(key), [f"{brief(key)} stands a second time"], "a record of another keyword")
-        name, parameters = HEADER[number]
+        name, _, shapes = self.told.expected[0][:-1].partition("(")
+        parameters = [*zip(PARAMETERS[name], (SHAPES[shape] for shape in shapes.split(", ")))]
         shape = f"{name}({', '.join(shape for _, shape in parameters)})"
         if key != name:
             return Place(start, start + max(len(key), 1), [f"wanted here: {shape}"], shape)
@@ -732,35 +704,12 @@ def end_of_word(data: Text, at: int) -> int:
     return next(reading.lexemes(data, at, len(data)), (at, at))[1]
 
 
-def could_follow(words: Sequence[bytes]) -> List[str]:
-    """What could stand behind the words that a statement begins with."""
-    first, last = words[0], words[-1]
-    values = [VALUE] if first[:1] == b"#" or first == b"DATA" else VALUES_OF_HEADER
-    within: List[int] = []
-    for before, word in zip([b"", *words], words):
-        if word == b"(":
-            within.append(PARTS if before == b"=" else TYPED if is_keyword(before) and LIST in within else LIST)
-        elif word == b")":
-            within.pop()
-    if last == b"(":
-        return {PARTS: [KEYWORD], TYPED: [*values, OPENING], LIST: [*values, OPENING, CLOSING]}[within[-1]]
-    if last == b"," or last == b"=":
-        return [*values, OPENING] if last == b"," else [KEYWORD, OPENING]
-    if len(words) == 1 and not is_record(first):
-        return [EQUALS] if first[:1] == b"#" else [*([OPENING] if first == b"DATA" else []), END]
-    if is_keyword(last):
-        return [OPENING]
-    return {PARTS: [KEYWORD, CLOSING], TYPED: [CLOSING], LIST: [CLOSING, COMMA]}[within[-1]] if within else [END]
-
-
-def is_keyword(word: bytes) -> bool:
-    """Is a word the keyword of a record or a type?"""
-    return word[:1].isalpha() or word[:1] == b"!"
-
-
-def is_record(word: bytes) -> bool:
-    """Is the first word of a statement the keyword of a record of the header?"""
-    return is_keyword(word) and word not in OF_SECTIONS
+def could_stand(expected: Sequence[str]) -> Optional[str]:
+    """The words for what the program says that could stand at a place, or None where it says nothing."""
+    values = dict.fromkeys(said for word, said in VALUES.items() if word in expected)
+    are_all = len(values) == len(set(VALUES.values()))
+    found = [*(word for word in WORDS if word in expected), *([VALUE] if are_all else values), *(SIGNS[sign] for sign in SIGNS if sign in expected)]
+    return " or ".join(filter(None, [", ".join(found[:-1]), *found[-1:]])) or None
 
 
 # What a value of each kind begins with.

@@ -23,7 +23,7 @@ SIGN = re.compile(
     rb"|\\X2\\((?:[0-9A-F]{4})+)\\X0\\|\\X4\\((?:[0-9A-F]{8})+)\\X0\\|[\0-\x1f\x7f]"
 )
 # The parameters of FILE_NAME, of which some name programs.
-OF_FILE_NAME = [name for name, _ in dict(p21_files.HEADER)["FILE_NAME"]]
+OF_FILE_NAME = p21_files.PARAMETERS["FILE_NAME"]
 
 
 class Header(NamedTuple):

@@ -27,33 +27,28 @@ const WANTED = {
   25: "nothing but blanks and remarks behind END-ISO-10303-21;",
   32: "DATA; or DATA('name',('SCHEMA'));",
 };
-// The records that a header begins with: of each parameter its name and its shape.
-const [TEXT, TEXTS, ONE_TEXT] = ["a text or $", "a list of texts, or $", "a list of one text"];
-const HEADER = [
-  ["FILE_DESCRIPTION", [["description", TEXTS], ["implementation_level", TEXT]]],
-  [
-    "FILE_NAME",
-    [
-      ["name", TEXT],
-      ["time_stamp", TEXT],
-      ["author", TEXTS],
-      ["organization", TEXTS],
-      ["preprocessor_version", TEXT],
-      ["originating_system", TEXT],
-      ["authorization", TEXT],
-    ],
-  ],
-  ["FILE_SCHEMA", [["schema_identifiers", ONE_TEXT]]],
-];
-// The words for what may stand in a statement. In the header no value is the name of an instance.
-const [VALUE, KEYWORD, NAME_OF_INSTANCE] = ["a value", "a keyword", "the name of an instance"];
-const VALUES_OF_HEADER = ["a number", "a text", "an item", "a binary", '"$"', '"*"', KEYWORD];
-const [OPENING, CLOSING, COMMA, EQUALS_TOKEN, SEMICOLON_TOKEN] = ['"("', '")"', '","', '"="', '";"'];
-const FIRST_WORDS = ["ISO-10303-21", "HEADER"];
-// The words that begin a statement and no record.
-const OF_SECTIONS = ["ISO-10303-21", "HEADER", "ENDSEC", "DATA", "END-ISO-10303-21"];
-// What a parenthesis holds: the parts of an instance, the one value of a typed parameter, or values.
-const [IN_PARTS, IN_TYPED, IN_LIST] = ["parts", "typed", "list"];
+// The records that a header begins with, with the names of their parameters, and the words for their shapes.
+const PARAMETERS = {
+  FILE_DESCRIPTION: ["description", "implementation_level"],
+  FILE_NAME: ["name", "time_stamp", "author", "organization", "preprocessor_version", "originating_system", "authorization"],
+  FILE_SCHEMA: ["schema_identifiers"],
+};
+const SHAPES = { string: "a text or $", strings: "a list of texts, or $", "(string)": "a list of one text" };
+// The words for what the program says that could stand in a statement. For a user-defined keyword none is said beside a keyword.
+const VALUES = {
+  "instance name": "the name of an instance",
+  integer: "a number",
+  real: "a number",
+  string: "a text",
+  enumeration: "an item",
+  binary: "a binary",
+  $: '"$"',
+  "*": '"*"',
+  keyword: "a keyword",
+};
+const VALUE = "a value";
+const WORDS = ["ISO-10303-21", "HEADER", "DATA", "ENDSEC", "END-ISO-10303-21"];
+const SIGNS = ["(", ")", ",", "=", ";"];
 const FIRST_WORD = /^[!#]?[\w-]*/;
 const LINE_ENDS = /\r\n|\n|\r/g;
 // So many ways in which values may stand for attributes are tried, and texts of so many bytes.
@@ -239,16 +234,6 @@ export class GivenFile {
     return this.parted;
   }
 
-  /** The statement in front of the one that begins at a place. */
-  statementBefore(start) {
-    let before = null;
-    for (const statement of statements(this.bytes)) {
-      if (statement.start >= start) break;
-      before = statement;
-    }
-    return before;
-  }
-
   /** Looks where the first instances of these names stand. The file is passed over once for all of them. */
   lookFor(names) {
     const wanted = new Set([...names].filter((name) => !this.known.has(name)));
@@ -356,7 +341,7 @@ export class RefusedFile {
       const wanted = WANTED[this.number];
       return placeOf(at, at + firstWord(this.bytes, at).length, wanted ? [`wanted here: ${wanted}`] : []);
     }
-    const wanted = this.number === 20 ? this.wanted(at) : null;
+    const wanted = couldStand(this.told.expected ?? []);
     return placeOf(at, this.endOfWord(at), wanted ? [`wanted here: ${wanted}`] : []);
   }
 
@@ -382,36 +367,13 @@ export class RefusedFile {
     return placeOf(at, end, [aboutByte(byte, this.number), ...whatHelps(byte, this.number)]);
   }
 
-  /** What could stand at a place of a statement in place of what does, or null where it is very long. */
-  wanted(at) {
-    const { start } = this.statement;
-    if (at - start >= LONGEST) return null;
-    const words = lexemes(textOf(this.bytes.subarray(start, at))).map(({ text }) => text);
-    const found = words.length > 0 ? couldFollow(words) : this.couldBegin(start);
-    return [found.slice(0, -1).join(", "), found.at(-1)].filter(Boolean).join(" or ");
-  }
-
-  /** With which words the statement at a place could begin, by those before it. */
-  couldBegin(start) {
-    const { bytes } = this;
-    if (this.told.statement <= 2) return [FIRST_WORDS[this.told.statement - 1]];
-    const left = statements(bytes);
-    let found = left.next().value;
-    while (found.end < start && firstWord(bytes, found.start) !== "ENDSEC") found = left.next().value;
-    if (found.end >= start) return ["ENDSEC", KEYWORD];
-    const section = left.next().value;
-    if (section.start >= start) return ["DATA"];
-    if (firstWord(bytes, this.given.statementBefore(start).start) !== "ENDSEC") return ["ENDSEC", NAME_OF_INSTANCE];
-    return [...(this.given.text(section).includes("(") ? ["DATA"] : []), "END-ISO-10303-21"];
-  }
-
   /** The record of the header, or the parameter in it, that has another form than it must have. */
   placeInHeader(at) {
     const { start } = this.statement;
     const key = firstWord(this.bytes, start);
-    const number = this.told.statement - 3;
-    if (number >= HEADER.length) return placeOf(start, start + key.length, [`${brief(key)} stands a second time`]);
-    const [name, parameters] = HEADER[number];
+    if (!this.told.expected) return placeOf(start, start + key.length, [`${brief(key)} stands a second time`]);
+    const [, name, shapes] = /^(\w+)\((.*)\)$/.exec(this.told.expected[0]);
+    const parameters = shapes.split(", ").map((form, at) => [PARAMETERS[name][at], SHAPES[form]]);
     const shape = `wanted here: ${name}(${parameters.map(([, form]) => form).join(", ")})`;
     if (key !== name) return placeOf(start, start + Math.max(key.length, 1), [shape]);
     const [{ values }] = readParts(this.given.text(this.statement));
@@ -618,37 +580,13 @@ function kindOfValue(text, value) {
   return KINDS_BY_FIRST[first] ?? "typed";
 }
 
-/** What could stand behind the words that a statement begins with. */
-function couldFollow(words) {
-  const [first] = words;
-  const last = words.at(-1);
-  const values = first.startsWith("#") || first === "DATA" ? [VALUE] : VALUES_OF_HEADER;
-  const within = [];
-  words.forEach((word, at) => {
-    const before = words[at - 1] ?? "";
-    if (word === "(") within.push(before === "=" ? IN_PARTS : isKeyword(before) && within.includes(IN_LIST) ? IN_TYPED : IN_LIST);
-    else if (word === ")") within.pop();
-  });
-  if (last === "(") {
-    return { [IN_PARTS]: [KEYWORD], [IN_TYPED]: [...values, OPENING], [IN_LIST]: [...values, OPENING, CLOSING] }[within.at(-1)];
-  }
-  if (last === "," || last === "=") return last === "," ? [...values, OPENING] : [KEYWORD, OPENING];
-  if (words.length === 1 && !isRecord(first)) {
-    return first.startsWith("#") ? [EQUALS_TOKEN] : [...(first === "DATA" ? [OPENING] : []), SEMICOLON_TOKEN];
-  }
-  if (isKeyword(last)) return [OPENING];
-  if (within.length === 0) return [SEMICOLON_TOKEN];
-  return { [IN_PARTS]: [KEYWORD, CLOSING], [IN_TYPED]: [CLOSING], [IN_LIST]: [CLOSING, COMMA] }[within.at(-1)];
-}
-
-/** Is a word the keyword of a record or a type? */
-function isKeyword(word) {
-  return /^[A-Za-z!]/.test(word);
-}
-
-/** Is the first word of a statement the keyword of a record of the header? */
-function isRecord(word) {
-  return isKeyword(word) && !OF_SECTIONS.includes(word);
+/** The words for what the program says that could stand at a place, or an empty text where it says nothing. */
+function couldStand(expected) {
+  const values = new Set(Object.keys(VALUES).filter((word) => expected.includes(word)).map((word) => VALUES[word]));
+  const areAll = values.size === new Set(Object.values(VALUES)).size;
+  const signs = SIGNS.filter((sign) => expected.includes(sign)).map((sign) => `"${sign}"`);
+  const found = [...WORDS.filter((word) => expected.includes(word)), ...(areAll ? [VALUE] : values), ...signs];
+  return [found.slice(0, -1).join(", "), found.at(-1)].filter(Boolean).join(" or ");
 }
 
 /** The word that begins at a place. */

@@ -139,10 +139,14 @@ string, which ends it; a keyword as a value that should be an item, `T` for `.T.
 name of an instance in the header; sections in another order. At statement 1 the schema
 was given as the file, or the file is a zip archive, or UTF-16 without a mark.
 
-Wanted here: `";"`. `p21-where` tries each token, and says which ones could stand there:
-"a value", or of the values "a number", "a text", "an item", "a binary", "the name of an
-instance", `"$"`, `"*"` and "a keyword" those that could; of the signs `"("`, `")"`,
-`","`, `"="` and `";"`; or the word that begins a statement, as ENDSEC.
+Wanted here: `";"`. With `--format jsonl` the program says which tokens could stand
+there, as its parser would take them (`expected`): signs and the words of sections as
+they are spelled, and else by the words of the standard, `keyword`, `user-defined
+keyword`, `instance name`, `integer`, `real`, `string`, `enumeration` and `binary`.
+`p21-where` says it in words: "a value", or of the values "a number", "a text", "an
+item", "a binary", "the name of an instance", `"$"`, `"*"` and "a keyword" those that
+could; of the signs `"("`, `")"`, `","`, `"="` and `";"`; or the word that begins a
+statement, as ENDSEC.
 
 Look at the named statement up to its end, and at the one before it.
 ### 21 TooDeep

@@ -5,7 +5,7 @@ ghost use Rattle.p21_c.specs.Answers.{IsAcceptedText, RefusesText};
 ghost use Rattle.p21_stream.specs.Claim.{Claim};
 
 use p21_express_tables::Schema;
-use p21_stream::{Indices, Located, Session, headline};
+use p21_stream::{Expected, Indices, Located, Session, headline};
 use p21_stream_output::Accepted;
 use p21_stream_statements::Place;
 use p21_values::Limits;
@@ -31,6 +31,7 @@ pub(crate) fn accept_text(alloc: Global, schema: &Schema, text: &[u8]) -> Result
                 place: session.place(),
                 attribute: session.attribute(),
                 indices: session.indices(),
+                expected: session.expected(),
             });
         }
     }
@@ -43,6 +44,7 @@ pub(crate) fn accept_text(alloc: Global, schema: &Schema, text: &[u8]) -> Result
                 place: Place::of(refusal.fault, places),
                 attribute: None,
                 indices: Indices::none(),
+                expected: Expected::none(),
             })
         }
     }

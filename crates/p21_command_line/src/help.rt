@@ -119,7 +119,8 @@ declares it, and of a part of one its entity. With --all and --most each line ha
     part.step:11:31: 45 Count in #3: PERSON.ID
 For references and parts FILE is read a second time; from standard input references have no
 place, and parts no entity.
-With --format jsonl each refusal is a JSON object on a line, with its place.
+With --format jsonl each refusal is a JSON object on a line, with its place, and of 20 and 30
+with what could stand there.
 With several files, or @LIST for the files that a text names, a path a line, each line has
 the name of its file in front. The schema is read once, and a file that is refused or can't
 be read doesn't end the run; the status is the highest.

@@ -23,6 +23,7 @@ mod syntax;
 mod syntax_checks;
 mod telling;
 mod transfer;
+mod wanted;
 mod way;
 
 pub use canon::canon_command;

@@ -5,6 +5,7 @@
 
 use crate::lines::{LineStarts, Position};
 use crate::second_reading::{Met, SecondReading};
+use crate::wanted::push_expected;
 use p21_express::SchemaFault;
 use p21_express_graph::{EntityId, Place as AttributePlace};
 use p21_express_places::SchemaPlace;
@@ -148,6 +149,7 @@ fn push_object(
     if let Some(subject) = subject_of(schema, located, met) {
         push_members(alloc, subject, lines)?;
     }
+    push_expected(located, lines)?;
     lines.push_str("}\n")
 }
 

@@ -16,7 +16,7 @@ use crate::read::feed_all;
 use p21_express_tables::Schema;
 use p21_stream_io::Watched;
 use p21_stream_kept::Kept;
-use p21_stream_statements::{Fault, Place, Refusal};
+use p21_stream_statements::{Expected, Fault, Place, Refusal};
 use p21_values::Limits;
 use std::alloc::Global;
 use std::io::Read;
@@ -105,6 +105,7 @@ pub fn same_meaning_located<R: Read, S: Read>(
                     place: None,
                     attribute: None,
                     indices: Indices::none(),
+                    expected: Expected::none(),
                 };
                 Err((Which::Second, located))
             }
@@ -144,6 +145,7 @@ fn read_whole<R: Read>(
                 place: session.place(),
                 attribute: session.attribute(),
                 indices: session.indices(),
+                expected: session.expected(),
             });
         }
     }
@@ -157,6 +159,7 @@ fn read_whole<R: Read>(
                 place: Place::of(refusal.fault, places),
                 attribute: None,
                 indices: Indices::none(),
+                expected: Expected::none(),
             })
         }
     }

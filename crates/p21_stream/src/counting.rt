@@ -8,7 +8,7 @@ use crate::located::Located;
 use crate::read::feed_all;
 use p21_express_tables::Schema;
 use p21_stream_io::Watched;
-use p21_stream_statements::{Place, Refusal};
+use p21_stream_statements::{Expected, Place, Refusal};
 use p21_values::Limits;
 use std::alloc::Global;
 use std::io::Read;
@@ -77,6 +77,7 @@ pub fn count_located<R: Read>(
                 place: session.place(),
                 attribute: session.attribute(),
                 indices: session.indices(),
+                expected: session.expected(),
             });
         }
     }
@@ -89,6 +90,7 @@ pub fn count_located<R: Read>(
                 place: Place::of(refusal.fault, places),
                 attribute: None,
                 indices: Indices::none(),
+                expected: Expected::none(),
             })
         }
     }

@@ -57,7 +57,9 @@ pub use p21_grammar::GrammarFault;
 pub use p21_grammar_tree::CheckFault;
 pub use p21_stream_io::{ReadFault, Watched, WriteFault};
 pub use p21_stream_output::{Accepted, Cursor};
-pub use p21_stream_statements::{At, Fault, Place, Places, Refusal, StatementReader};
+pub use p21_stream_statements::{
+    At, Expected, Fault, KINDS, Kind, Place, Places, Refusal, StatementReader,
+};
 pub use p21_tokens::{Absent, TokenFault};
 pub use p21_values::{Limits, Name, NoMemory};
 pub use read::{accept, accept_located};

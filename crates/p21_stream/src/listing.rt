@@ -75,6 +75,7 @@ impl LocatedSurvey {
             place: self.spots.place(number),
             attribute: self.spots.attribute(number),
             indices: self.spots.indices(number),
+            expected: self.spots.expected(number),
         })
     }
 
@@ -194,7 +195,7 @@ fn refusals_of(walk: Walk<Surveying<'_>>, stop: &Stop, spots: &mut Spots) -> Vec
     } = walk;
     *spots = noted;
     if let Stop::Refused(refusal) = stop {
-        spots.note(*refusal, statements.places(), &source, &workspace.trail);
+        spots.note(*refusal, &statements, &source, &workspace.trail);
     }
     let Surveying { sieve, .. } = kept;
     sieve.into_refusals()

@@ -1,6 +1,6 @@
 use crate::indices::Indices;
 use p21_express_graph::Place as AttributePlace;
-use p21_stream_statements::{Place, Refusal};
+use p21_stream_statements::{Expected, Place, Refusal};
 
 /// Why a file is refused, and where in it this stands.
 #[derive(Clone, Copy, Debug, PartialEq, Eq)]
@@ -12,4 +12,6 @@ pub struct Located {
     pub attribute: Option<AttributePlace>,
     /// Which element of this value is refused, where one is.
     pub indices: Indices,
+    /// What could stand in place of the token that is refused, where it is one with which no statement goes on.
+    pub expected: Expected,
 }

@@ -24,7 +24,7 @@ use p21_express_graph::Place as AttributePlace;
 use p21_express_tables::Schema;
 use p21_stream_kept::Kept;
 use p21_stream_output::Accepted;
-use p21_stream_statements::{Fault, Place, Places, Refusal, StatementReader};
+use p21_stream_statements::{Expected, Fault, Place, Places, Refusal, StatementReader};
 use p21_values::{Limits, Name};
 use std::alloc::Global;
 
@@ -130,6 +130,15 @@ impl Progress {
         match self.refused {
             Some(refusal) => Indices::of(elements_of(refusal.fault, &self.walk.workspace.trail)),
             None => Indices::none(),
+        }
+    }
+
+    /// What could stand in place of the token that was refused, if a call was refused for one with which no statement goes on. It
+    /// takes no memory.
+    pub(crate) fn expected(&self) -> Expected {
+        match self.refused {
+            Some(refusal) => Expected::of(refusal.fault, &self.walk.statements),
+            None => Expected::none(),
         }
     }
 

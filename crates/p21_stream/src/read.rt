@@ -16,7 +16,7 @@ use crate::located::Located;
 use p21_express_tables::Schema;
 use p21_stream_io::{Watched, read_piece};
 use p21_stream_output::Accepted;
-use p21_stream_statements::{Fault, Place, Refusal};
+use p21_stream_statements::{Expected, Fault, Place, Refusal};
 use p21_values::Limits;
 use std::alloc::Global;
 use std::io::Read;
@@ -81,6 +81,7 @@ pub fn accept_located<R: Read>(
                 place: session.place(),
                 attribute: session.attribute(),
                 indices: session.indices(),
+                expected: session.expected(),
             });
         }
     }
@@ -93,6 +94,7 @@ pub fn accept_located<R: Read>(
                 place: Place::of(refusal.fault, places),
                 attribute: None,
                 indices: Indices::none(),
+                expected: Expected::none(),
             })
         }
     }

@@ -13,7 +13,7 @@ use p21_express_graph::Place as AttributePlace;
 use p21_express_tables::Schema;
 use p21_stream_kept::Kept;
 use p21_stream_output::Accepted;
-use p21_stream_statements::{Fault, Place, Places, Refusal};
+use p21_stream_statements::{Expected, Fault, Place, Places, Refusal};
 use p21_values::Limits;
 use std::alloc::Global;
 use std::fmt;
@@ -115,6 +115,12 @@ impl SharedSession {
     /// Which element of this value is refused, if one is. It takes no memory.
     pub fn indices(&self) -> Indices {
         self.progress.indices()
+    }
+
+    /// What could stand in place of the token that was refused, if a call was refused for one with which no statement goes on. It
+    /// takes no memory.
+    pub fn expected(&self) -> Expected {
+        self.progress.expected()
     }
 
     /// Where the session stands in the file: by `Place::of` it says where a refusal of `finish` stands. It takes no memory.

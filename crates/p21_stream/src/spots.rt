@@ -9,7 +9,7 @@ use crate::keeper::Keeper;
 use crate::placing::{attribute_of, elements_of, inside, place_of};
 use p21_express_graph::Place as AttributePlace;
 use p21_mapping::Trail;
-use p21_stream_statements::{Place, Places, Refusal, Source, StatementReader};
+use p21_stream_statements::{Expected, Place, Refusal, Source, StatementReader};
 use p21_transcribe::behind_separators;
 use p21_values::{Name, NoMemory};
 use std::alloc::Global;
@@ -19,6 +19,7 @@ use std::alloc::Global;
 struct Spot {
     place: Option<Place>,
     attribute: Option<AttributePlace>,
+    expected: Expected,
     // So many indices are kept up to the last one of this refusal.
     indices: usize,
 }
@@ -82,6 +83,14 @@ impl Spots {
         self.all.get(number)?.attribute
     }
 
+    /// What could stand in place of the token that is refused by the refusal of this number.
+    pub(crate) fn expected(&self, number: usize) -> Expected {
+        match self.all.get(number) {
+            Some(spot) => spot.expected,
+            None => Expected::none(),
+        }
+    }
+
     /// The indices of the refusal of this number.
     pub(crate) fn indices(&self, number: usize) -> Indices {
         Indices::of_numbers(self.numbers(number).unwrap_or(&[]))
@@ -106,7 +115,7 @@ impl Spots {
     pub(crate) fn note(
         &mut self,
         refusal: Refusal,
-        places: Places,
+        statements: &StatementReader,
         statement: &Source,
         trail: &Trail,
     ) {
@@ -120,10 +129,11 @@ impl Spots {
             refusal.at,
             trail.steps(),
         );
-        let place = place_of(refusal.fault, places, noted);
+        let place = place_of(refusal.fault, statements.places(), noted);
         let attribute = attribute_of(refusal.fault, trail);
         let elements = Indices::of(elements_of(refusal.fault, trail));
-        if let Err(NoMemory) = self.add(place, attribute, elements.numbers()) {
+        let expected = Expected::of(refusal.fault, statements);
+        if let Err(NoMemory) = self.add(place, attribute, expected, elements.numbers()) {
             self.is_asked = false;
         }
     }
@@ -133,7 +143,7 @@ impl Spots {
         if !self.is_asked {
             return;
         }
-        if let Err(NoMemory) = self.add(place, None, &[]) {
+        if let Err(NoMemory) = self.add(place, None, Expected::none(), &[]) {
             self.is_asked = false;
         }
     }
@@ -152,12 +162,14 @@ impl Spots {
         &mut self,
         place: Option<Place>,
         attribute: Option<AttributePlace>,
+        expected: Expected,
         numbers: &[u32],
     ) -> Result<(), NoMemory> {
         self.indices.extend_from_slice(numbers)?;
         self.all.push(Spot {
             place,
             attribute,
+            expected,
             indices: self.indices.len(),
         })?;
         Ok(())
@@ -179,7 +191,7 @@ pub(crate) fn note_listed<'p, K: Keeper>(
     match kept.listed(spots.next()) {
         Some(refusal) => {
             source.take(piece, statements.places());
-            spots.note(refusal, statements.places(), source, trail);
+            spots.note(refusal, statements, source, trail);
             rest
         }
         None => piece,

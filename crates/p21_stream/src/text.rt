@@ -15,7 +15,7 @@ use crate::session::Session;
 use p21_express_tables::Schema;
 use p21_stream_io::Watched;
 use p21_stream_output::Accepted;
-use p21_stream_statements::{Fault, Place, Refusal};
+use p21_stream_statements::{Expected, Fault, Place, Refusal};
 use p21_values::Limits;
 use std::alloc::Global;
 
@@ -85,6 +85,7 @@ fn canonical_of(
                 place: session.place(),
                 attribute: session.attribute(),
                 indices: session.indices(),
+                expected: session.expected(),
             });
         }
     }
@@ -97,6 +98,7 @@ fn canonical_of(
                 place: Place::of(refusal.fault, places),
                 attribute: None,
                 indices: Indices::none(),
+                expected: Expected::none(),
             });
         }
     };
@@ -107,6 +109,7 @@ fn canonical_of(
             place: None,
             attribute: None,
             indices: Indices::none(),
+            expected: Expected::none(),
         }),
     }
 }

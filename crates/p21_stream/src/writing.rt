@@ -10,7 +10,7 @@ use crate::located::Located;
 use crate::read::accept_located;
 use p21_express_tables::Schema;
 use p21_stream_io::Watched;
-use p21_stream_statements::Refusal;
+use p21_stream_statements::{Expected, Refusal};
 use p21_values::Limits;
 use std::alloc::Global;
 use std::io::{Read, Write};
@@ -85,6 +85,7 @@ pub fn rewrite_located<R: Read, W: Write>(
             place: None,
             attribute: None,
             indices: Indices::none(),
+            expected: Expected::none(),
         }),
     }
 }

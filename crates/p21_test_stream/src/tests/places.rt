@@ -3,7 +3,8 @@ use super::devices::Slow;
 use super::files::{DEMO, ENDED, Frame, HEADER, OPEN, SECTIONS, SHAPES, framed};
 use super::{Rows, Wrong, check};
 use p21_stream::{
-    Limits, LocatedSurvey, Place, Refusal, Schema, Session, Surveyed, Watched, survey_located,
+    Expected, KINDS, Limits, LocatedSurvey, Place, Refusal, Schema, Session, Surveyed, Watched,
+    survey_located,
 };
 use std::alloc::{AllocError, Global};
 
@@ -34,7 +35,18 @@ fn refusal_of_pieces(session: &mut Session<'_>, file: &[u8], size: usize) -> Opt
     None
 }
 
-/// The number of the refusal of a file in pieces of so many bytes, and its place.
+/// Whether a token of some kind could stand there.
+fn has_some(expected: Expected) -> bool {
+    for kind in &KINDS {
+        if expected.has(*kind) {
+            return true;
+        }
+    }
+    false
+}
+
+/// The number of the refusal of a file in pieces of so many bytes, and its place: none where it is one of an unexpected token and nothing
+/// was expected, or the other way round.
 fn refused_at(
     alloc: Global,
     schema: &Schema,
@@ -43,7 +55,9 @@ fn refused_at(
 ) -> Option<(u8, Option<Place>)> {
     let mut session = Session::new(alloc, schema, Limits::usual());
     if let Some(refusal) = refusal_of_pieces(&mut session, file, size) {
-        return Some((refusal.number(), session.place()));
+        let number = refusal.number();
+        let is_told = has_some(session.expected()) == (number == 20);
+        return is_told.then_some((number, session.place()));
     }
     let places = session.places();
     let refusal = session.finish().err()?;
