@@ -28,6 +28,8 @@ MORE = [
     ("a name of a refused record", "#1=POINT($,1.,1);\n«#1»=POINT($,1.,1.);"),
     ("one reference twice", "#1=CLOUD((#2,«#8»,#7),(),(#8));\n#2=POINT($,1.,1.);\n#7=POINT($,2.,1.);"),
     ("a reference behind its name in a string", "#1=(MARKED(.RED.)POINT(1.,1.)SHAPE('#8'));\n#2=CLOUD((),(),(/*#8*/«#8»));"),
+    ("a reference behind the sign of a page", "#1=POINT('\\S\\'',1.,1.);\n#2=CLOUD((),(),(TALLY(1),«#8»));"),
+    ("a reference behind signs of pages", "#1=POINT('\\PA\\\\S\\'''#8',1.,1.);\n#2=CLOUD((),(),(TALLY(1),«#8»));"),
 ]
 
 # Rows of these of which a second refusal stands elsewhere.
@@ -75,6 +77,7 @@ ATTRIBUTES = [
     ("#1=CLOUD((),(),(TALLY(1),#1));", "CLOUD.VALUES"),
     ("#2=CLOUD((),((1.,2.),()),(DISTANCE(2.),#1));\n#1=(MARKED(.RED.)SHAPE($));", "CLOUD.VALUES"),
     ("#1=POINT('#8',1.,1.);\n#2=CLOUD((#1/*,*/),(),(TALLY(2),/*#8*/#8));", "CLOUD.VALUES"),
+    ("#1=POINT('\\S\\'',1.,1.);\n#2=CLOUD((#8),(),(TALLY(2)));", "CLOUD.MEMBERS"),
 ]
 
 # The same of the schema of the examples: attributes that a supertype declares stand in front.

@@ -9,6 +9,7 @@
 
 use crate::way::Way;
 use p21_stream::{At, Fault, Located, LocatedSurvey, Place};
+use p21_tokens_automaton::{Action, Mode, TextMode, advance};
 use p21_values::{Name, NoMemory};
 use std::alloc::Global;
 
@@ -59,7 +60,8 @@ enum Inside {
     Statement,
     /// A name, of which this is read, and which began with this byte.
     Name { number: u64, start: u64 },
-    String,
+    /// A string, by the rules of the reader of tokens: an apostrophe behind `\S\` doesn't end it.
+    String(TextMode),
     /// A slash, with which a remark may begin.
     Slash,
     Remark,
@@ -259,8 +261,7 @@ impl SecondReading {
                 self.meet(number, start);
                 self.in_statement(byte)
             }
-            Inside::String if byte == b'\'' => Inside::Statement,
-            Inside::String => Inside::String,
+            Inside::String(mode) => self.in_string(mode, byte),
             Inside::Slash if byte == b'*' => Inside::Remark,
             Inside::Slash => self.in_statement(byte),
             Inside::Remark | Inside::Star if byte == b'*' => Inside::Star,
@@ -276,7 +277,7 @@ impl SecondReading {
                 number: 0,
                 start: self.taken,
             },
-            b'\'' => Inside::String,
+            b'\'' => Inside::String(TextMode::Inside),
             b'/' => Inside::Slash,
             b';' => {
                 self.leave();
@@ -284,6 +285,19 @@ impl SecondReading {
             }
             _ => {
                 self.go_on(byte);
+                Inside::Statement
+            }
+        }
+    }
+
+    /// The same of a byte behind those of a string. Where the string is refused, nothing more is met.
+    fn in_string(&mut self, mode: TextMode, byte: u8) -> Inside {
+        match advance(Mode::Text(mode), byte) {
+            Action::Skip(Mode::Text(behind)) => Inside::String(behind),
+            Action::Put(Mode::Text(behind), _) => Inside::String(behind),
+            Action::End => self.in_statement(byte),
+            _ => {
+                self.is_over = true;
                 Inside::Statement
             }
         }
