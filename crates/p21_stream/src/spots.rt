@@ -1,5 +1,6 @@
-//! Where the refusals stand that a survey lists, one behind the other: 40 bytes for each, and 4 for each index. Where a reference
-//! stands isn't kept while the file is read, but which name it has: 8 bytes for each that is refused.
+//! Where the refusals stand that a survey lists, one behind the other: 24 bytes for each, and 4 for each index. Where a reference
+//! stands isn't kept while the file is read, but which name it has: 8 bytes for each that is refused. What could stand in place of a
+//! token is kept of those refusals alone that are of one.
 //!
 //! A refusal is listed when its statement ends, and then its place is found: the bytes of the statement are read once
 //! more. A session, and a survey that isn't asked for places, keep none and look for none.
@@ -11,25 +12,35 @@ use p21_express_graph::Place as AttributePlace;
 use p21_mapping::Trail;
 use p21_stream_statements::{Expected, Place, Refusal, Source, StatementReader};
 use p21_transcribe::behind_separators;
-use p21_values::{Name, NoMemory};
+use p21_values::Name;
 use std::alloc::Global;
 
 /// Where a refusal stands.
 #[derive(Clone, Copy)]
 struct Spot {
-    place: Option<Place>,
+    place: Place,
     attribute: Option<AttributePlace>,
-    expected: Expected,
     // So many indices are kept up to the last one of this refusal.
-    indices: usize,
+    indices: u32,
+}
+
+/// What could stand in place of the token that a refusal is of.
+#[derive(Clone, Copy)]
+struct Awaited {
+    // The number of the refusal.
+    number: usize,
+    expected: Expected,
 }
 
 /// Where the refusals of a list stand, as far as that is known.
 pub struct Spots {
     alloc: Global,
     is_asked: bool,
+    // Of the refusals of a list, those that have a place come first.
     all: Vec<Spot>,
     indices: Vec<u32>,
+    // By rising numbers.
+    awaited: Vec<Awaited>,
     // The targets of the references whose refusals stand behind these.
     targets: Vec<Name>,
 }
@@ -42,6 +53,7 @@ impl Drop for Spots {
             is_asked: _,
             all: _,
             indices: _,
+            awaited: _,
             targets: _,
         } = self;
     }
@@ -55,6 +67,7 @@ impl Spots {
             is_asked,
             all: Vec::new(alloc),
             indices: Vec::new(alloc),
+            awaited: Vec::new(alloc),
             targets: Vec::new(alloc),
         }
     }
@@ -75,7 +88,7 @@ impl Spots {
 
     /// The place of the refusal of this number.
     pub(crate) fn place(&self, number: usize) -> Option<Place> {
-        self.all.get(number)?.place
+        Some(self.all.get(number)?.place)
     }
 
     /// The attribute whose value is refused by the refusal of this number.
@@ -85,9 +98,12 @@ impl Spots {
 
     /// What could stand in place of the token that is refused by the refusal of this number.
     pub(crate) fn expected(&self, number: usize) -> Expected {
-        match self.all.get(number) {
-            Some(spot) => spot.expected,
-            None => Expected::none(),
+        let first = self
+            .awaited
+            .partition_point(|awaited| awaited.number < number);
+        match self.awaited.get(first) {
+            Some(awaited) if awaited.number == number => awaited.expected,
+            _ => Expected::none(),
         }
     }
 
@@ -107,7 +123,8 @@ impl Spots {
             Some(before) => self.all.get(before)?.indices,
             None => 0,
         };
-        self.indices.get(start..self.all.get(number)?.indices)
+        let end = self.all.get(number)?.indices;
+        self.indices.get(start as usize..end as usize)
     }
 
     /// Notes where a refusal stands that is the next of the list. Where memory is refused no further places are noted.
@@ -133,18 +150,14 @@ impl Spots {
         let attribute = attribute_of(refusal.fault, trail);
         let elements = Indices::of(elements_of(refusal.fault, trail));
         let expected = Expected::of(refusal.fault, statements);
-        if let Err(NoMemory) = self.add(place, attribute, expected, elements.numbers()) {
-            self.is_asked = false;
-        }
+        self.is_asked = self.await_tokens(expected).is_some()
+            && self.add(place, attribute, elements.numbers()).is_some();
     }
 
     /// Notes a refusal with its place alone.
     pub(crate) fn note_place(&mut self, place: Option<Place>) {
-        if !self.is_asked {
-            return;
-        }
-        if let Err(NoMemory) = self.add(place, None, Expected::none(), &[]) {
-            self.is_asked = false;
+        if self.is_asked {
+            self.is_asked = self.add(place, None, &[]).is_some();
         }
     }
 
@@ -158,21 +171,35 @@ impl Spots {
         }
     }
 
+    /// Notes what could stand in place of the token that the next refusal is of. None where there is no room for it.
+    fn await_tokens(&mut self, expected: Expected) -> Option<()> {
+        if expected == Expected::none() {
+            return Some(());
+        }
+        let number = self.all.len();
+        self.awaited.push(Awaited { number, expected }).ok()
+    }
+
+    /// Notes a refusal. One that has no place, as it is not of the file's bytes, ends the list or stands behind all that have one. None
+    /// where there is no room for it.
     fn add(
         &mut self,
         place: Option<Place>,
         attribute: Option<AttributePlace>,
-        expected: Expected,
         numbers: &[u32],
-    ) -> Result<(), NoMemory> {
-        self.indices.extend_from_slice(numbers)?;
-        self.all.push(Spot {
-            place,
-            attribute,
-            expected,
-            indices: self.indices.len(),
-        })?;
-        Ok(())
+    ) -> Option<()> {
+        let Some(place) = place else {
+            return Some(());
+        };
+        self.indices.extend_from_slice(numbers).ok()?;
+        let indices = u32::try_from(self.indices.len()).ok()?;
+        self.all
+            .push(Spot {
+                place,
+                attribute,
+                indices,
+            })
+            .ok()
     }
 }
 
