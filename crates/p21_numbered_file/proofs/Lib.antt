@@ -1,0 +1,9 @@
+pub mod Lengths
+pub mod Standing
+pub mod SecondReading
+pub mod FileSizes
+pub mod PutTogether
+pub mod NumberedTexts
+pub mod Alike
+pub mod Telling
+pub mod Sections
