@@ -83,6 +83,11 @@ ATTRIBUTES = [
 # The same of the schema of the examples: attributes that a supertype declares stand in front.
 OF_SUPERTYPES = [
     ("#1=AXIS2_PLACEMENT_3D('',#2,$,$);", "AXIS2_PLACEMENT_3D.LOCATION"),
+    ("#1=AXIS2_PLACEMENT_3D('',#2,#2,$);\n#2=CARTESIAN_POINT('',(0.,0.,0.));", "AXIS2_PLACEMENT_3D.AXIS"),
+    (
+        "#1=(AXIS2_PLACEMENT_3D(#2,$,#2)GEOMETRIC_REPRESENTATION_ITEM()REPRESENTATION_ITEM(''));\n#2=CARTESIAN_POINT('',(0.,0.,0.));",
+        "AXIS2_PLACEMENT_3D.REF_DIRECTION",
+    ),
     ("#1=(AXIS2_PLACEMENT_3D(#1,$,$)GEOMETRIC_REPRESENTATION_ITEM()REPRESENTATION_ITEM(''));", "AXIS2_PLACEMENT_3D.LOCATION"),
 ]
 

@@ -218,7 +218,7 @@ fn tell_each<R: Read, W: Write, F: Write>(
     let Ok(shown) = format!(in alloc; "{}", Shown(name.path)) else {
         return (checks.tell_no_memory(faults), lines);
     };
-    let again = again_of(rt, &found, name.path);
+    let again = again_of(rt, checks, &found, name.path);
     let telling = Telling {
         path: name.path,
         shown: &shown,
@@ -239,26 +239,32 @@ fn again_of_first(
     path: &str,
 ) -> SecondReading {
     if !is_of_reference(located.refusal.fault) {
-        return read_again(rt, SecondReading::of_first(rt.alloc(), located), path);
+        return read_again(
+            rt,
+            checks,
+            SecondReading::of_first(rt.alloc(), located),
+            path,
+        );
     }
     // To which name the reference leads, a survey alone says.
     let Some(file) = open_again(rt, path) else {
         return SecondReading::none(rt.alloc());
     };
     match checks.survey(rt.alloc(), &mut Watched::new(file), 1) {
-        Ok(found) => again_of(rt, &found, path),
+        Ok(found) => again_of(rt, checks, &found, path),
         Err(NoMemory) => SecondReading::none(rt.alloc()),
     }
 }
 
 /// What a second reading of a file meets of its refusals. Nothing where the file can't be read once more.
-fn again_of(rt: &HostRuntime, found: &LocatedSurvey, path: &str) -> SecondReading {
-    read_again(rt, SecondReading::of(rt.alloc(), found), path)
+fn again_of(rt: &HostRuntime, checks: &Checks, found: &LocatedSurvey, path: &str) -> SecondReading {
+    read_again(rt, checks, SecondReading::of(rt.alloc(), found), path)
 }
 
 /// Has a second reading meet what it looks for, as far as the file can be read once more.
 fn read_again(
     rt: &HostRuntime,
+    checks: &Checks,
     wanted: Result<SecondReading, NoMemory>,
     path: &str,
 ) -> SecondReading {
@@ -267,7 +273,7 @@ fn read_again(
     };
     if !again.is_empty() {
         if let Some(file) = open_again(rt, path) {
-            take_all(file, &mut again);
+            take_all(checks, file, &mut again);
         }
     }
     again
@@ -282,12 +288,12 @@ fn open_again(rt: &HostRuntime, path: &str) -> Option<File> {
 }
 
 /// Has a second reading take all that a file gives.
-fn take_all(mut file: File, again: &mut SecondReading) {
+fn take_all(checks: &Checks, mut file: File, again: &mut SecondReading) {
     let mut piece = [0; PIECE];
     for _ in 0..u64::MAX {
         match file.read(&mut piece) {
             Ok(0) => return,
-            Ok(count) => again.take(&piece[..count]),
+            Ok(count) => checks.take_again(again, &piece[..count]),
             Err(_) => return,
         }
     }

@@ -18,7 +18,7 @@ use crate::check_all::list_refusals;
 use crate::fault::{CommandFault, report};
 use crate::load::{Unloaded, load_located, load_schema};
 use crate::located::{write_found, write_survey};
-use crate::second_reading::Met;
+use crate::second_reading::{Met, SecondReading};
 use crate::status::{DONE, FAILED};
 use crate::telling::{Telling, subject_text};
 use p21_express_tables::Schema;
@@ -182,6 +182,11 @@ impl Checks {
         ensures failed { IfOk result (λ located. (file.new.failures ≡ file.old.failures) ⊎ ((file.new.failures ≡ one_call_more file.old.failures) × EndsByRead located.found)) }
     {
         survey_located(alloc, &self.schema, Limits::usual(), most, file)
+    }
+
+    /// Has a second reading take bytes of a file of this schema.
+    pub fn take_again(&self, again: &mut SecondReading, bytes: &[u8]) {
+        again.take(&self.schema, bytes);
     }
 
     /// Of what a refusal is, by what a second reading met of it: `ENTITY.ATTRIBUTE`, or of no attribute `ENTITY`. None where it is

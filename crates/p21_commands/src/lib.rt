@@ -24,6 +24,7 @@ mod syntax_checks;
 mod telling;
 mod transfer;
 mod wanted;
+mod wants;
 mod way;
 
 pub use canon::canon_command;

@@ -5,10 +5,12 @@
 //! then; and of a refusal its place is kept, and not the keyword in front of it. So the file is read a second time. It is
 //! known by then to be an exchange structure as far as its refusals stand: strings, remarks, names and keywords are told
 //! apart by their signs (ISO 10303-21, 6 and 7). Where an instance refers to a target more than once, its refusals stand at
-//! the first of these references, one at each.
+//! the first of these references at whose attributes the instance is wanted that isn't served, one at each.
 
+use crate::wants::could_want;
 use crate::way::Way;
-use p21_stream::{At, Fault, Located, LocatedSurvey, Place};
+use p21_express_tables::Schema;
+use p21_stream::{At, Fault, Located, LocatedSurvey, Need, Place};
 use p21_tokens_automaton::{Action, Mode, TextMode, advance};
 use p21_values::{Name, NoMemory};
 use std::alloc::Global;
@@ -17,7 +19,7 @@ use std::alloc::Global;
 #[derive(Clone, Copy)]
 enum Sought {
     /// A reference in the instance of this name.
-    Reference { holder: u64, target: u64 },
+    Reference { holder: u64, need: Need },
     /// The part at this byte.
     Part { byte: u64 },
 }
@@ -122,7 +124,7 @@ impl SecondReading {
             let Some(located) = found.located(number) else {
                 break;
             };
-            reading.want(number, &located, found.target(number))?;
+            reading.want(number, &located, found.need(number))?;
         }
         reading.begin();
         Ok(reading)
@@ -140,14 +142,14 @@ impl SecondReading {
         Ok(reading)
     }
 
-    /// Has a refusal looked for that is the next one of its list: by its reference, if that leads to this target, or by its part.
+    /// Has a refusal looked for that is the next one of its list: by its reference, if this is wanted there, or by its part.
     fn want(
         &mut self,
         number: usize,
         located: &Located,
-        target: Option<Name>,
+        need: Option<Need>,
     ) -> Result<(), NoMemory> {
-        let Some(sought) = sought_of(located, target) else {
+        let Some(sought) = sought_of(located, need) else {
             return Ok(());
         };
         self.wanted.push(Wanted {
@@ -222,8 +224,8 @@ impl SecondReading {
         None
     }
 
-    /// Takes bytes of the file.
-    pub fn take(&mut self, bytes: &[u8]) {
+    /// Takes bytes of the file, whose schema this is.
+    pub(crate) fn take(&mut self, schema: &Schema, bytes: &[u8]) {
         for byte in bytes {
             if self.is_over {
                 return;
@@ -231,7 +233,7 @@ impl SecondReading {
             if self.taken == self.part_byte {
                 self.reach(*byte);
             }
-            self.inside = self.behind(*byte);
+            self.inside = self.behind(schema, *byte);
             self.taken = self.taken.saturating_add(1);
         }
     }
@@ -249,7 +251,7 @@ impl SecondReading {
     }
 
     /// Where the next byte stands behind this one.
-    fn behind(&mut self, byte: u8) -> Inside {
+    fn behind(&mut self, schema: &Schema, byte: u8) -> Inside {
         match self.inside {
             Inside::Statement => self.in_statement(byte),
             Inside::Name { number, start } => {
@@ -258,7 +260,7 @@ impl SecondReading {
                     let number = number.saturating_mul(10).saturating_add(digit);
                     return Inside::Name { number, start };
                 }
-                self.meet(number, start);
+                self.meet(schema, number, start);
                 self.in_statement(byte)
             }
             Inside::String(mode) => self.in_string(mode, byte),
@@ -321,27 +323,30 @@ impl SecondReading {
     }
 
     /// Takes a name: that of an instance, or a reference in it.
-    fn meet(&mut self, name: u64, start: u64) {
+    fn meet(&mut self, schema: &Schema, name: u64, start: u64) {
         let Some(holder) = self.holder else {
             self.holder = Some(name);
             self.way.begin();
             return;
         };
-        if self.is_sought(self.next, holder, Some(name)) {
+        if self.is_next(schema, holder, name) {
             self.keep(self.next, start, true);
             self.next = self.next.saturating_add(1);
         }
     }
 
-    /// Whether the reference of this number is one in an instance, and to this target if one is given.
-    fn is_sought(&self, index: usize, in_holder: u64, to: Option<u64>) -> bool {
-        match self.wanted.get(index) {
-            Some(wanted) => match wanted.sought {
-                Sought::Reference { holder, target } => {
-                    holder == in_holder && to.unwrap_or(target) == target
-                }
-                Sought::Part { .. } => false,
-            },
+    /// What is wanted at the next reference that is looked for, if it is one in this instance.
+    fn next_need(&self, in_holder: u64) -> Option<Need> {
+        match self.wanted.get(self.next)?.sought {
+            Sought::Reference { holder, need } if holder == in_holder => Some(need),
+            _ => None,
+        }
+    }
+
+    /// Whether a reference of an instance to this name is the next one that is looked for.
+    fn is_next(&self, schema: &Schema, holder: u64, name: u64) -> bool {
+        match self.next_need(holder) {
+            Some(need) => need.target.0 == name && could_want(schema, &self.way, need.wanted),
             None => false,
         }
     }
@@ -380,7 +385,7 @@ impl SecondReading {
         self.holder = None;
         self.way.begin();
         for _ in 0..self.wanted.len() {
-            if !self.is_sought(self.next, holder, None) {
+            if self.next_need(holder).is_none() {
                 return;
             }
             self.next = self.next.saturating_add(1);
@@ -388,13 +393,13 @@ impl SecondReading {
     }
 }
 
-/// What is looked for of a refusal: its reference to this target, or the part in which a record is refused and no attribute of it.
-fn sought_of(located: &Located, target: Option<Name>) -> Option<Sought> {
+/// What is looked for of a refusal: its reference, at which this is wanted, or the part in which a record is refused and no attribute of it.
+fn sought_of(located: &Located, need: Option<Need>) -> Option<Sought> {
     let At::Instance(Name(holder)) = located.refusal.at else {
         return None;
     };
-    if let Some(Name(target)) = target {
-        return Some(Sought::Reference { holder, target });
+    if let Some(need) = need {
+        return Some(Sought::Reference { holder, need });
     }
     if located.attribute.is_some() {
         return None;

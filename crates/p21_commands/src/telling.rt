@@ -6,8 +6,9 @@
 use crate::lines::{LineStarts, Position};
 use crate::second_reading::{Met, SecondReading};
 use crate::wanted::push_expected;
+use crate::wants::attribute_at;
 use p21_express::SchemaFault;
-use p21_express_graph::{EntityId, Place as AttributePlace};
+use p21_express_graph::Place as AttributePlace;
 use p21_express_places::SchemaPlace;
 use p21_express_tables::Schema;
 use p21_stream::{At, Extent, Fault, Located, LocatedSurvey, Place};
@@ -287,7 +288,7 @@ fn subject_of<'s>(
 /// Of what a refusal is, by what was met of it: the attribute of a reference, or else the entity of the part.
 fn subject_met<'s>(schema: &'s Schema, met: Met<'s>) -> Option<Subject<'s>> {
     if let Some((parameter, indices)) = met.steps.split_first() {
-        let place = attribute_at(schema, &met, (*parameter).checked_sub(1)?)?;
+        let place = attribute_at(schema, met.keyword, met.is_alone, *parameter)?;
         return subject_at(schema, place, indices);
     }
     Some(Subject {
@@ -295,45 +296,6 @@ fn subject_met<'s>(schema: &'s Schema, met: Met<'s>) -> Option<Subject<'s>> {
         attribute: None,
         indices: &[],
     })
-}
-
-/// The attribute of the parameter of a part in front of which so many stand.
-fn attribute_at(schema: &Schema, met: &Met<'_>, parameter: u32) -> Option<AttributePlace> {
-    let entity = schema.entity(met.keyword)?;
-    if met.is_alone {
-        return place_in_order(schema, entity, parameter);
-    }
-    Some(AttributePlace {
-        entity,
-        index: parameter,
-    })
-}
-
-/// The attribute in front of which so many stand in the order of an entity.
-fn place_in_order(schema: &Schema, entity: EntityId, before: u32) -> Option<AttributePlace> {
-    if entity.0 as usize >= schema.entities() {
-        return None;
-    }
-    let mut left = before;
-    for owner in schema.order_of(entity) {
-        let count = own_attributes(schema, *owner);
-        if left < count {
-            return Some(AttributePlace {
-                entity: *owner,
-                index: left,
-            });
-        }
-        left = left.saturating_sub(count);
-    }
-    None
-}
-
-/// How many attributes an entity declares, if it is one of the schema.
-fn own_attributes(schema: &Schema, entity: EntityId) -> u32 {
-    if entity.0 as usize >= schema.entities() {
-        return 0;
-    }
-    schema.attribute_count(entity)
 }
 
 /// An attribute and an element of its value, if it is one of the schema.

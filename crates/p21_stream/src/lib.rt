@@ -55,6 +55,7 @@ pub use located::Located;
 pub use p21_express::{Schema, SchemaFault, read_schema};
 pub use p21_grammar::GrammarFault;
 pub use p21_grammar_tree::CheckFault;
+pub use p21_mapping_values::Need;
 pub use p21_stream_io::{ReadFault, Watched, WriteFault};
 pub use p21_stream_output::{Accepted, Cursor};
 pub use p21_stream_statements::{

@@ -24,10 +24,11 @@ use crate::spots::Spots;
 use crate::surveying::Surveying;
 use crate::walk::{Walk, refused};
 use p21_express_tables::Schema;
+use p21_mapping_values::Need;
 use p21_stream_io::{Watched, read_piece};
 use p21_stream_output::Accepted;
 use p21_stream_statements::{Fault, Place, Refusal};
-use p21_values::{Limits, Name, NoMemory};
+use p21_values::{Limits, NoMemory};
 use std::alloc::Global;
 use std::io::Read;
 
@@ -79,10 +80,9 @@ impl LocatedSurvey {
         })
     }
 
-    /// The name to which the reference leads that the refusal of this number is of. None where it is no reference. It takes no
-    /// memory.
-    pub fn target(&self, number: usize) -> Option<Name> {
-        self.spots.target(number)
+    /// What is wanted at the reference that the refusal of this number is of. None where it is of no reference. It takes no memory.
+    pub fn need(&self, number: usize) -> Option<Need> {
+        self.spots.need(number)
     }
 }
 

@@ -1,5 +1,5 @@
 //! Where the refusals stand that a survey lists, one behind the other: 24 bytes for each, and 4 for each index. Where a reference
-//! stands isn't kept while the file is read, but which name it has: 8 bytes for each that is refused. What could stand in place of a
+//! stands isn't kept while the file is read, but which instance is wanted there: 16 bytes for each that is refused. What could stand in place of a
 //! token is kept of those refusals alone that are of one.
 //!
 //! A refusal is listed when its statement ends, and then its place is found: the bytes of the statement are read once
@@ -10,9 +10,9 @@ use crate::keeper::Keeper;
 use crate::placing::{attribute_of, elements_of, inside, place_of};
 use p21_express_graph::Place as AttributePlace;
 use p21_mapping::Trail;
+use p21_mapping_values::Need;
 use p21_stream_statements::{Expected, Place, Refusal, Source, StatementReader};
 use p21_transcribe::behind_separators;
-use p21_values::Name;
 use std::alloc::Global;
 
 /// Where a refusal stands.
@@ -41,8 +41,8 @@ pub struct Spots {
     indices: Vec<u32>,
     // By rising numbers.
     awaited: Vec<Awaited>,
-    // The targets of the references whose refusals stand behind these.
-    targets: Vec<Name>,
+    // What is wanted at the references whose refusals stand behind these.
+    needs: Vec<Need>,
 }
 
 // Written out: crates above call it, where they would prove a derived one field by field.
@@ -54,7 +54,7 @@ impl Drop for Spots {
             all: _,
             indices: _,
             awaited: _,
-            targets: _,
+            needs: _,
         } = self;
     }
 }
@@ -68,7 +68,7 @@ impl Spots {
             all: Vec::new(alloc),
             indices: Vec::new(alloc),
             awaited: Vec::new(alloc),
-            targets: Vec::new(alloc),
+            needs: Vec::new(alloc),
         }
     }
 
@@ -112,10 +112,10 @@ impl Spots {
         Indices::of_numbers(self.numbers(number).unwrap_or(&[]))
     }
 
-    /// The target of the reference that the refusal of this number is of.
-    pub(crate) fn target(&self, number: usize) -> Option<Name> {
+    /// What is wanted at the reference that the refusal of this number is of.
+    pub(crate) fn need(&self, number: usize) -> Option<Need> {
         let behind = number.checked_sub(self.all.len())?;
-        self.targets.get(behind).copied()
+        self.needs.get(behind).copied()
     }
 
     fn numbers(&self, number: usize) -> Option<&[u32]> {
@@ -161,12 +161,12 @@ impl Spots {
         }
     }
 
-    /// Notes the target of a reference, whose refusal is the next of the list.
-    pub(crate) fn note_target(&mut self, target: Name) {
+    /// Notes what is wanted at a reference, whose refusal is the next of the list.
+    pub(crate) fn note_need(&mut self, need: Need) {
         if !self.is_asked {
             return;
         }
-        if self.targets.push(target).is_err() {
+        if self.needs.push(need).is_err() {
             self.is_asked = false;
         }
     }

@@ -18,7 +18,7 @@ use p21_values::NoMemory;
 use std::collections::BTreeSet;
 
 /// Lists the references that no instance serves, apart from those to these names, up to so many refusals in all,
-/// and notes which targets they have.
+/// and notes what is wanted at them.
 pub(crate) fn list_unserved(
     kept: &Kept,
     names: &BTreeSet<u64>,
@@ -78,6 +78,6 @@ fn list_one(
         at: At::Instance(reference.holder),
     };
     refusals.push(refusal)?;
-    spots.note_target(reference.need.target);
+    spots.note_need(reference.need);
     Ok(())
 }
