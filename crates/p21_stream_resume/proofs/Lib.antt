@@ -7,3 +7,5 @@ pub mod Finding
 pub mod Along
 pub mod LastBytes
 pub mod Digits
+pub mod Lexed
+pub mod Standing

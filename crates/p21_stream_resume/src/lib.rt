@@ -8,6 +8,10 @@
 //! and refuses as it would have, and goes on behind it with the piece. A reader that ran along from each `#` would do the same work at
 //! every `#` of the bytes that are passed over, and would have to be set anew there.
 //!
+//! Of a refused statement the bytes are kept, and `signpost_in_string` looks through them once for the first signpost in a string: where a
+//! lexer stands says whether a string is open (`in-string`, `string-in` in `proofs/Lexed`), and a signpost at the front of bytes is read by
+//! the same steps (`proofs/Standing`).
+//!
 //! `specs/Reading` says what a whole byte list is read as, by `step` alone; `proofs/Finding` joins that to the definitions: behind bytes
 //! in which no signpost is whole the state says whether one may begin (`Runs`), there each one is read to its end (`signpost-run`), and
 //! what is read to its end is one (`Shapes`).
@@ -15,11 +19,14 @@
 
 mod behind;
 mod class;
+mod front;
 mod mode;
 mod seeker;
 mod signpost;
 mod step;
+mod strings;
 
 pub use behind::is_opened_behind;
 pub use seeker::Seeker;
 pub use signpost::{Numeral, Signpost};
+pub use strings::signpost_in_string;

@@ -1,7 +1,7 @@
 //! The first signpost in bytes, however they are cut into pieces.
 ghost use Rattle.std.specs.Prelude.{◌<◌};
 
-use p21_stream_resume::{Numeral, Seeker, Signpost, is_opened_behind};
+use p21_stream_resume::{Numeral, Seeker, Signpost, is_opened_behind, signpost_in_string};
 
 /// The first signpost in bytes that come in pieces of this size, and how many stand in front of its last byte.
 fn first_signpost(opened: bool, bytes: &[u8], size: usize) -> Option<(usize, Signpost)>
@@ -374,6 +374,40 @@ fn tells_digits(rt: HostRuntime) {
     for (place, digit) in b"0018446744073709551615".iter().enumerate() {
         if name.digit(place as u64) != *digit {
             wrong = Some(place);
+        }
+    }
+    assert_eq!(rt; wrong, None);
+}
+
+/// Statements, and how many bytes of each stand in front of the first signpost in a string of it.
+const IN_STRINGS: &[(&str, Option<usize>)] = &[
+    ("#1=A('x);\n#2=B('y');", Some(10)),
+    ("#1=A('x');\n", None),
+    ("#1=A('a',/*;#2=B*/'b;#3=C", Some(21)),
+    ("#1=A('\\S\\'x;\n#79=NO();',nan", Some(13)),
+    ("#1=A('\\S\\'',/*\n#79=NO()*/nan", None),
+    ("#1=A('it''s;#4=x'", Some(12)),
+    ("#1=A('ENDSEC;')", None),
+    ("#1=A('\nENDSEC ;", Some(7)),
+    ("#1=A(')ISO-10303-21", Some(7)),
+    ("#1=A('x;\n#2", None),
+    ("ISO-10303-21;'x;#2=", Some(16)),
+    ("END-ISO-10303-21 '\n#7  =", Some(19)),
+    ("#1=A(\"0FF\",.T.,-1.5E+3,#2,!B('\n #3=", Some(32)),
+    ("#1=A(');# 1=', ';#1 \n=", Some(17)),
+    ("#1=A(';#1\n#2=)')", Some(10)),
+];
+
+#[test]
+fn finds_signposts_in_strings(rt: HostRuntime) {
+    let mut wrong = None;
+    for (row, (statement, place)) in IN_STRINGS.iter().enumerate() {
+        let found = match signpost_in_string(statement.as_bytes()) {
+            Some((found, _)) => Some(found),
+            None => None,
+        };
+        if found != *place {
+            wrong = Some(row);
         }
     }
     assert_eq!(rt; wrong, None);

@@ -1,0 +1,34 @@
+-- Signposts that stand at the front of bytes, and in a string of a statement (this project's own, on the tokens of ISO 10303-21).
+use Rattle.std.specs.Prelude.{◌≡◌, ◌≤◌, ℕ, List, ◌++◌, length, take, drop, Option, Some, None}
+use Rattle.p21_spec_survey.specs.Landmark.{IsSignpost, Signpost, StandsAt, signpost_bytes}
+use Rattle.p21_spec_survey.specs.Resuming.{EndsInString}
+use Rattle.p21_stream_resume.specs.Shape.{Describes}
+use Rattle.p21_stream_resume.specs.declared.signpost.Signpost as code
+
+-- the bytes begin with those of this signpost
+pub record BeginsWithSignpost (bytes : List ℕ) (signpost : Signpost) : Type 0 where
+  pub is_signpost : IsSignpost signpost
+  pub rest : List ℕ
+  pub bytes_are : bytes ≡ signpost_bytes signpost ++ rest
+
+-- this one is found at the front, or none is there
+abbrev pub FindsAtFront : List ℕ → Option code.Signpost → Type 0
+FindsAtFront bytes None = (signpost : Signpost) → BeginsWithSignpost bytes signpost → ⊥
+FindsAtFront bytes (Some own) = (signpost : Signpost) × BeginsWithSignpost bytes signpost × Describes own signpost
+
+-- the same where others stand in front of the bytes
+abbrev pub FindsThere : List ℕ → List ℕ → Option code.Signpost → Type 0
+FindsThere before bytes None = (signpost : Signpost) → StandsAt before bytes signpost → ⊥
+FindsThere before bytes (Some own) = (signpost : Signpost) × StandsAt before bytes signpost × Describes own signpost
+
+-- behind so many bytes of a statement, in a string of it, a signpost stands
+pub record StandsInString (statement : List ℕ) (place : ℕ) (signpost : Signpost) : Type 0 where
+  pub within : place ≤ length statement
+  pub in_string : EndsInString (take place statement)
+  pub stands : StandsAt (take place statement) (drop place statement) signpost
+
+-- the first one that stands so is found, with how many bytes stand in front of it; or none stands so
+abbrev pub FindsInString : List ℕ → Option (ℕ × code.Signpost) → Type 0
+FindsInString statement None = (place : ℕ) (signpost : Signpost) → StandsInString statement place signpost → ⊥
+FindsInString statement (Some (place, own)) = ((signpost : Signpost) × StandsInString statement place signpost × Describes own signpost)
+    × ((earlier : ℕ) (signpost : Signpost) → StandsInString statement earlier signpost → place ≤ earlier)
