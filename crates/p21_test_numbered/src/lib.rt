@@ -1,0 +1,6 @@
+//! Files under the numbers of their models, and files compared but for the names of their instances, by the calls of
+//! p21_stream_numbered. It has tests alone.
+#![tactic(auto)]
+
+#[cfg(test)]
+mod tests;
