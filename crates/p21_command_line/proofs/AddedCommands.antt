@@ -5,7 +5,7 @@ use Rattle.clap.specs.declared.builder.arg.Arg.{Arg}
 use Rattle.clap.specs.declared.builder.command.Command.{Command}
 use Rattle.clap.specs.declared.builder.command.Command.TheViews.{out-Command as fields_of}
 use Rattle.clap.specs.declared.builder.value_parser.ValueParser.{ValueParser}
-use Rattle.p21_command_line.specs.CommandLine.{AreForms}
+use Rattle.p21_command_line.specs.CommandLine.{AreForms, Forms, HaveForms}
 
 pub adds : {old command new : Command} {before added : App} → app_of old ≡ before → app_of command ≡ added → (fields_of command).has_globals ≡ false → AddsSubcommand old command new → app_of new ≡ with_subcommand before added.top
 adds {command = command} {before = before} old_is command_is local step =
@@ -20,3 +20,7 @@ stays_local old new a old_is local step = step.globals ∙ ap₂ (λ x y. x || y
 -- what is made of some forms, by these
 pub of_forms : (new : Command) (app : ValueParser → App) (forms : ValueParser) → AreForms forms → app_of new ≡ app forms → (f : ValueParser) × AreForms f × (app_of new ≡ app f)
 of_forms new app forms are is = (forms, are, is)
+
+-- and by those of the program
+pub of_all_forms : (new : Command) (app : Forms → App) (forms : Forms) → HaveForms forms → app_of new ≡ app forms → (f : Forms) × HaveForms f × (app_of new ≡ app f)
+of_all_forms new app forms have is = (forms, have, is)

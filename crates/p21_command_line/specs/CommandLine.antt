@@ -104,6 +104,11 @@ abbrev pub same_app : App
 same_app = with_rule (with_rule (with_rule (with_rule (new_app (codes "same"))
     (given_rule (codes "S"))) (given_rule (codes "A"))) (given_rule (codes "B"))) progress_rule
 
+-- `diff S A B [--format FORM] [--progress]`
+abbrev pub diff_app : ValueParser → App
+diff_app forms = with_rule (with_rule (with_rule (with_rule (with_rule (new_app (codes "diff"))
+    (given_rule (codes "S"))) (given_rule (codes "A"))) (given_rule (codes "B"))) (format_rule forms)) progress_rule
+
 -- `faults [N]`
 abbrev pub faults_app : App
 faults_app = with_rule (new_app (codes "faults")) (optional_rule (codes "N"))
@@ -114,9 +119,18 @@ app_without_commands =
     let program = new_app (codes "p21") in
     record program { top = record program.top { has_version = true; subcommand_required = true } }
 
+-- what stands behind `--format` of the commands that take it
+pub record Forms : Type 0 where
+  pub of_check : ValueParser
+  pub of_diff : ValueParser
+
+abbrev pub HaveForms : Forms → Type 0
+HaveForms forms = AreForms forms.of_check × AreForms forms.of_diff
+
 -- the program, with its commands
-abbrev pub program_app : ValueParser → App
+abbrev pub program_app : Forms → App
 program_app forms =
-    with_subcommand (with_subcommand (with_subcommand (with_subcommand
+    with_subcommand (with_subcommand (with_subcommand (with_subcommand (with_subcommand
     (with_subcommand (with_subcommand (with_subcommand (with_subcommand app_without_commands
-    param_app.top) syntax_app.top) schema_app.top) (check_app forms).top) canon_app.top) show_app.top) same_app.top) faults_app.top
+    param_app.top) syntax_app.top) schema_app.top) (check_app forms.of_check).top) canon_app.top) show_app.top) same_app.top)
+    (diff_app forms.of_diff).top) faults_app.top

@@ -6,7 +6,7 @@ ghost use Rattle.std.specs.Prelude.{◌≡◌, IfOk, codes, false};
 ghost use Rattle.clap.specs.Words.{app_of, rule_of};
 ghost use Rattle.clap.specs.declared.builder.command.Command.TheViews.{out-Command as fields_of};
 ghost use Rattle.clap.specs.declared.builder.value_parser.ValueParser.{ValueParser};
-ghost use Rattle.p21_command_line.specs.CommandLine.{AreForms, all_rule, app_without_commands, canon_app, check_app, faults_app, files_rule, format_rule, given_rule, most_rule, name_rule, optional_rule, param_app, progress_rule};
+ghost use Rattle.p21_command_line.specs.CommandLine.{AreForms, Forms, HaveForms, all_rule, app_without_commands, canon_app, check_app, diff_app, faults_app, files_rule, format_rule, given_rule, most_rule, name_rule, optional_rule, param_app, progress_rule};
 ghost use Rattle.p21_command_line.specs.CommandLine.{count_rule, header_rule, program_app, same_app, schema_app, show_app, syntax_app, where_rule};
 
 use crate::{help, refusals};
@@ -18,7 +18,7 @@ const FORMS: &[&str] = &["text", "jsonl"];
 
 /// The program with its commands.
 pub fn command_line<'a>(alloc: Global) -> Result<Command<'a>, AllocError>
-    ensures { IfOk result (λ command. (forms : ValueParser) × AreForms forms × (app_of command ≡ program_app forms)) }
+    ensures { IfOk result (λ command. (forms : Forms) × HaveForms forms × (app_of command ≡ program_app forms)) }
 {
     program(alloc)
         .subcommand(param(alloc)?)?
@@ -28,6 +28,7 @@ pub fn command_line<'a>(alloc: Global) -> Result<Command<'a>, AllocError>
         .subcommand(canon(alloc)?)?
         .subcommand(show(alloc)?)?
         .subcommand(same(alloc)?)?
+        .subcommand(diff(alloc)?)?
         .subcommand(faults(alloc)?)
 }
 
@@ -98,7 +99,10 @@ fn check<'a>(alloc: Global) -> Result<Command<'a>, AllocError>
         .arg(all(alloc))?
         .arg(most(alloc))?
         .arg(place(alloc))?
-        .arg(format(alloc))?
+        .arg(format(
+            alloc,
+            "With jsonl gives refusals with their places as JSON, an object a line",
+        ))?
         .arg(progress(alloc))
 }
 
@@ -139,6 +143,24 @@ fn same<'a>(alloc: Global) -> Result<Command<'a>, AllocError>
         .arg(schema_path(alloc))?
         .arg(given(alloc, "A", "The first file"))?
         .arg(given(alloc, "B", "The second file"))?
+        .arg(progress(alloc))
+}
+
+/// `diff S A B [--format FORM] [--progress]`.
+fn diff<'a>(alloc: Global) -> Result<Command<'a>, AllocError>
+    ensures app { IfOk result (λ command. (forms : ValueParser) × AreForms forms × (app_of command ≡ diff_app forms)) }
+    ensures local { IfOk result (λ command. (fields_of command).has_globals ≡ false) }
+{
+    Command::new(alloc, "diff")
+        .about("Lists what differs in the meaning of two files")
+        .after_help(help::DIFF)
+        .arg(schema_path(alloc))?
+        .arg(given(alloc, "A", "The earlier file"))?
+        .arg(given(alloc, "B", "The later file"))?
+        .arg(format(
+            alloc,
+            "With jsonl gives differences as JSON, an object a line",
+        ))?
         .arg(progress(alloc))
 }
 
@@ -236,12 +258,12 @@ fn place<'a>(alloc: Global) -> Arg<'a>
 }
 
 /// `--format FORM`.
-fn format<'a>(alloc: Global) -> Arg<'a>
+fn format<'a>(alloc: Global, help: &'a str) -> Arg<'a>
     ensures rule { (forms : ValueParser) × AreForms forms × (rule_of result ≡ format_rule forms) }
     ensures local { result.global ≡ false }
 {
     Arg::new(alloc, "format")
-        .help("With jsonl gives refusals with their places as JSON, an object a line")
+        .help(help)
         .long("format")
         .value_name("FORM")
         .value_parser(FORMS)

@@ -203,3 +203,41 @@ Slips:
 Example:
     $ p21 same product.exp product.step product-other.step
     same";
+
+/// What stands below the help of `diff`.
+pub const DIFF: &str =
+    "Answer: a line for each difference, from A to B, in the order of the header, the data
+sections and the names of instances, and behind them how many these are, or the line same:
+    changed header FILE_NAME.TIME_STAMP '2026-11-30T09:00:00' '2026-12-01T09:00:00'
+    went section DATA('A',('S'));
+    moved #4 from DATA('A',('S')); to DATA('B',('S'));
+    changed #5 CIRCLE.RADIUS 4. 4.2
+    changed #8 CARTESIAN_POINT.COORDINATES [2] 0. 1.
+    changed #6 from CIRCLE to ELLIPSE
+    came #9 DIRECTION
+    went #7 DIRECTION
+    different: 5 changed, 1 came, 2 went
+Instances are told by their names. Values are compared by what they mean, as same does, and
+shown as canon writes them; where a list or a set differs in one element alone, that element
+is shown behind its index in brackets, and - where it came or went. The sixth of these lines
+says that #6 has another set of entities, the third that #4 stands in another data section.
+Of a value of more than 100 characters 100 are shown, and .. for the others.
+With --format jsonl each difference is a JSON object on a line, with whole values, and the
+last one has the counts.
+On standard error the first refusal, with first: or second: in front for the file, or that
+of the schema:
+    second: refused 24 EndsEarly at statement 10
+    schema refused S5 Circular
+Statuses: 0 same; 1 different or refused; 2 a wrong command line; 3 out of memory, cannot
+open, read or write.
+
+Slips:
+  - schema refused S2 Syntax: schema and file are exchanged; the schema stands first.
+  - refused 20 Unexpected at statement 1: A or B is a schema too.
+  - One of the files from a pipe: gunzip -c a.step.gz | p21 diff S - b.step
+  - Each instance came and went: the files number their instances otherwise.
+
+Example:
+    $ p21 diff product.exp product.step changed.step
+    changed #24 CARTESIAN_POINT.COORDINATES [3] 1.25E1 1.225E1
+    different: 1 changed, 0 came, 0 went";

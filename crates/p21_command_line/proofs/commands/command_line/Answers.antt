@@ -1,5 +1,5 @@
 use Rattle.std.proofs.lemmas.Result.{IfOk-weaker}
-use Rattle.p21_command_line.proofs.AddedCommands.{adds, of_forms}
+use Rattle.p21_command_line.proofs.AddedCommands.{adds, of_all_forms}
 use Rattle.p21_command_line.specs.CommandLine.{program_app}
 use Rattle.p21_command_line.proofs.commands.command_line.Goals as goal
 
@@ -13,4 +13,6 @@ returns c =
     let canon = adds check c.in_ok-canon.ensures.app c.in_ok-canon.ensures.local c.in_ok-subcommand-5.ensures in
     let show = adds canon c.in_ok-show.ensures.app c.in_ok-show.ensures.local c.in_ok-subcommand-6.ensures in
     let same = adds show c.in_ok-same.ensures.app c.in_ok-same.ensures.local c.in_ok-subcommand-7.ensures in
-    IfOk-weaker _ _ _ (λ new added. of_forms new program_app check_is.0 check_is.1 (adds same c.in_ok-faults.ensures.app c.in_ok-faults.ensures.local added)) c.subcommand-8.ensures
+    let diff_is = c.in_ok-diff.ensures.app in
+    let diff = adds same diff_is.2 c.in_ok-diff.ensures.local c.in_ok-subcommand-8.ensures in
+    IfOk-weaker _ _ _ (λ new added. of_all_forms new program_app (record { of_check = check_is.0; of_diff = diff_is.0 }) (check_is.1, diff_is.1) (adds diff c.in_ok-faults.ensures.app c.in_ok-faults.ensures.local added)) c.subcommand-9.ensures
