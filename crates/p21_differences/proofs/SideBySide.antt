@@ -223,21 +223,25 @@ module _ (s : Schema) (formed : IsWellFormed s) (holds : HoldsTogether s) (n m :
     sets-same s formed holds first.kinds second.kinds first.canonical_meaning second.canonical_meaning first.canonical second.canonical first.canonical_means second.canonical_means es fs same same_,
   )
 
+  pub places-same : (xs ys : List Row) → AreRowsOf s first.canonical xs → AreRowsOf s second.canonical ys → first.canonical_meaning.entities ≡ second.canonical_meaning.entities → row_places xs ≡ row_places ys
+  places-same xs ys are are_ set =
+      let own = has-set s holds first.kinds first.canonical first.canonical_meaning first.canonical_means.means in
+      let own_ = has-set s holds second.kinds second.canonical second.canonical_meaning second.canonical_means.means in
+      record-places s formed first.canonical xs own.set are own.are ∙ ap (flat_map (own_places s)) (one-list own.set own_.set own.are own_.are set)
+      ∙ sym (record-places s formed second.canonical ys own_.set are_ own_.are)
+
   pub lines-differ : (xs ys : List Row) → AreRowsOf s first.canonical xs → AreRowsOf s second.canonical ys → first.canonical_meaning.entities ≡ second.canonical_meaning.entities
       → (place : Place) → HaveOtherAt xs ys place ↔ HasOtherValue first.canonical_meaning second.canonical_meaning place
   lines-differ xs ys are are_ set =
       let own = has-set s holds first.kinds first.canonical first.canonical_meaning first.canonical_means.means in
-      let own_ = has-set s holds second.kinds second.canonical second.canonical_meaning second.canonical_means.means in
       let places_are : row_places xs ≡ flat_map (own_places s) own.set = record-places s formed first.canonical xs own.set are own.are in
-      let places_are_ : row_places ys ≡ flat_map (own_places s) own_.set = record-places s formed second.canonical ys own_.set are_ own_.are in
-      let same : row_places xs ≡ row_places ys = places_are ∙ ap (flat_map (own_places s)) (one-list own.set own_.set own.are own_.are set) ∙ sym places_are_ in
       let by = meant-by s n r line first in
       let by_ = meant-by s m q text second in
       let In : List Place → Place → Type 0 = λ ps place. Contains ps place in
       rows-differ s formed first.kinds second.kinds first.canonical_meaning second.canonical_meaning by by_ set xs ys
       (good-rows s formed first.kinds first.canonical_meaning first.canonical xs first.canonical_means first.is_canonical by.spelled are)
       (good-rows s formed second.kinds second.canonical_meaning second.canonical ys second.canonical_means second.is_canonical by_.spelled are_)
-      same
+      (places-same xs ys are are_ set)
       (λ place v has.
       let (among, at) = value-placed s first.kinds first.canonical_meaning by place v has in
       subst (λ (ps : List Place). In ps place) (sym places_are) (Contains-flat_map (own_places s) own.set place.entity place ((own.same place.entity).1 among) at))
@@ -253,5 +257,6 @@ values-told s formed holds n m r q line text first second values tells tells_ se
       rows = own.rows;
       others = own_.rows;
       tells = (tells own.rows own.told.are, tells_ own_.rows own_.told.are);
+      beside = places-same s formed holds n m r q line text first second own.rows own_.rows own.told.are own_.told.are set;
       differ = lines-differ s formed holds n m r q line text first second own.rows own_.rows own.told.are own_.told.are set;
     }

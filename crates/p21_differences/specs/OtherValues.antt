@@ -1,10 +1,10 @@
 -- Two instances of one set of entities, attribute by attribute.
-use Rattle.std.specs.Prelude.{◌≡◌, ◌≢◌, ◌↔◌, ◌⊎◌, ℕ, List, [], ◌∷◌, Option, None, Some, Contains}
+use Rattle.std.specs.Prelude.{◌≡◌, ◌≢◌, ◌↔◌, ◌⊎◌, ℕ, List, [], ◌∷◌, Option, None, Some, Contains, map}
 use Rattle.std.specs.List.{zip}
 use Rattle.p21_differences.specs.declared.values.OtherValue.{OtherValue}
 use Rattle.p21_differences.specs.declared.values.OtherValues.{OtherValues}
 use Rattle.p21_express_graph.specs.Meaning.{place as place_of}
-use Rattle.p21_model.specs.Left.{TellsRows, left_size}
+use Rattle.p21_model.specs.Left.{TellsRows, left_size, schema_of}
 use Rattle.p21_model.specs.Rows.{Row}
 use Rattle.p21_model_values.specs.Written.{IsTextOf}
 use Rattle.p21_spec_differences.specs.Difference.{HasOtherValue}
@@ -41,9 +41,19 @@ HandsOutOther (row ∷ rows) (other ∷ others) result new =
     ((param_text row.1 ≡ param_text other.1) × HandsOutOther rows others result new) ⊎
     ((param_text row.1 ≢ param_text other.1) × IsOther result row other × TellsBoth new rows others)
 
--- the attributes of both instances are left, and texts differ at a place exactly where the instances have different values there
+-- the schema whose entities declare them
+abbrev pub values_schema : OtherValues → Schema
+values_schema o = schema_of o.first
+
+-- the rows of a number stand at one place
+abbrev pub HaveOnePlaces : List Row → List Row → Type 0
+HaveOnePlaces rows others = map (λ (row : Row). row.0) rows ≡ map (λ (row : Row). row.0) others
+
+-- the attributes of both instances are left, beside each other at one place, and texts differ at a place exactly where the instances have
+-- different values there
 pub record TellsDifferences {s : Schema} {n m : ℕ} {record_ other : Record} {line text : List ℕ} (first : IsInstanceText s n record_ line) (second : IsInstanceText s m other text) (values : OtherValues) : Type 0 where
   pub rows : List Row
   pub others : List Row
   pub tells : TellsBoth values rows others
+  pub beside : HaveOnePlaces rows others
   pub differ : (place : Place) → HaveOtherAt rows others place ↔ HasOtherValue first.canonical_meaning second.canonical_meaning place

@@ -1,6 +1,8 @@
 //! Two instances of one set of entities, attribute by attribute.
 ghost use Rattle.std.specs.Prelude.{◌≡◌, ◌<◌, IfSome, List};
-ghost use Rattle.p21_differences.specs.OtherValues.{HandsOutOther, TellsBoth, TellsDifferences, values_size};
+ghost use Rattle.p21_differences.specs.OtherValues.{HandsOutOther, TellsBoth, TellsDifferences, values_schema, values_size};
+ghost use Rattle.p21_express_graph.specs.Meaning.{place as place_of};
+ghost use Rattle.p21_express_graph.specs.Resolved.{IsPlace};
 ghost use Rattle.p21_model.specs.Rows.{Row};
 ghost use Rattle.p21_spec_exchange.specs.Record.{Record};
 ghost use Rattle.p21_spec_file.specs.CanonicalTexts.{IsInstanceText};
@@ -27,9 +29,10 @@ pub struct OtherValues<'a> {
 impl<'a> OtherValues<'a> {
     /// The attributes of two instances of one set of entities, both under the schema of the first.
     pub fn new(first: &Instance<'a>, second: &Instance<'a>) -> OtherValues<'a>
-        ensures { (record_ other : Record) (stated : IsInstanceText first.now.schema.now first.now.name record_ first.now.line.now)
+        ensures told { (record_ other : Record) (stated : IsInstanceText first.now.schema.now first.now.name record_ first.now.line.now)
             (others : IsInstanceText first.now.schema.now second.now.name other second.now.line.now) →
             stated.canonical_meaning.entities ≡ others.canonical_meaning.entities → TellsDifferences stated others result }
+        ensures schema { values_schema result ≡ first.now.schema.now }
     {
         first.schema.well_formed();
         first.schema.holds_together();
@@ -47,6 +50,8 @@ impl<'a> OtherValues<'a> {
     /// The next attribute at which the values differ. It takes no memory.
     pub fn next(&mut self) -> Option<OtherValue<'a>>
         ensures handed { (rows others : List Row) → TellsBoth self.old rows others → HandsOutOther rows others result self.new }
+        ensures place { IfSome result (λ found. IsPlace (values_schema self.old) (place_of found.place)) }
+        ensures schema { values_schema self.new ≡ values_schema self.old }
         ensures shorter { IfSome result (λ found. values_size self.new < values_size self.old) }
     {
         while let Some(before) = self.first.next() {
