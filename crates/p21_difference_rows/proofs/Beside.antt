@@ -1,0 +1,227 @@
+-- The attributes at which the values of two instances differ, told one by one.
+use Rattle.std.specs.Prelude.{◌≡◌, ◌≢◌, ◌↔◌, ◌⊎◌, ℕ, List, [], ◌∷◌, ◌++◌, Option, Some, None, Contains, map, refl}
+use Rattle.std.specs.List.{zip}
+use Rattle.std.proofs.Common.{ap, sym, subst, ◌∙◌, inl, inr}
+use Rattle.p21_difference_rows.proofs.Adding.{more-added, none-added, weaker-added}
+use Rattle.p21_difference_rows.specs.Steps.{AddsRows, TellsAlone, TellsValues}
+use Rattle.p21_difference_rows.specs.declared.row.RowForm.{RowForm}
+use Rattle.p21_differences.specs.OtherValues.{HandsOutOther, HaveOnePlaces, HaveOtherAt, TellsBoth, TellsDifferences}
+use Rattle.p21_differences.specs.declared.values.OtherValue.{OtherValue}
+use Rattle.p21_differences.specs.declared.values.OtherValues.{OtherValues}
+use Rattle.p21_express_graph.specs.Meaning.{place as place_of}
+use Rattle.p21_model.specs.Rows.{Row}
+use Rattle.p21_spec_basics.proofs.Members.{Contains-none, Contains-first, Contains-later, Contains-cases}
+use Rattle.p21_spec_differences.specs.Difference.{Difference, HasOtherValue, value_changed}
+use Rattle.p21_spec_exchange.specs.CanonicalText.{param_text}
+use Rattle.p21_spec_exchange.specs.Parameter.{Param}
+use Rattle.p21_spec_exchange.specs.Record.{Record}
+use Rattle.p21_spec_file.specs.CanonicalTexts.{IsInstanceText}
+use Rattle.p21_spec_file.specs.Meaning.{Typed}
+use Rattle.p21_spec_schema.specs.Schema.{Place, Schema}
+
+-- ---- members of lists joined
+
+pub member-front : {X : Type 0} (xs ys : List X) (y : X) → Contains xs y → Contains (xs ++ ys) y
+member-front [] ys y among = absurd (Contains-none y among)
+member-front (x ∷ xs) ys y among = elim (Contains-cases x xs y among) [
+  | inl is ↦ subst (Contains (x ∷ (xs ++ ys))) is (Contains-first x (xs ++ ys))
+  | inr later ↦ Contains-later x (xs ++ ys) y (member-front xs ys y later)
+]
+
+pub member-back : {X : Type 0} (xs ys : List X) (y : X) → Contains ys y → Contains (xs ++ ys) y
+member-back [] ys y among = among
+member-back (x ∷ xs) ys y among = Contains-later x (xs ++ ys) y (member-back xs ys y among)
+
+pub member-of : {X : Type 0} (xs ys : List X) (y : X) → Contains (xs ++ ys) y → Contains xs y ⊎ Contains ys y
+member-of [] ys y among = inr among
+member-of (x ∷ xs) ys y among = elim (Contains-cases x (xs ++ ys) y among) [
+  | inl is ↦ inl (subst (Contains (x ∷ xs)) is (Contains-first x xs))
+  | inr later ↦ elim (member-of xs ys y later) [
+    | inl front ↦ inl (Contains-later x xs y front)
+    | inr back ↦ inr back
+  ]
+]
+
+pub member-alone : {X : Type 0} (x y : X) → Contains (x ∷ []) y → x ≡ y
+member-alone x y among = elim (Contains-cases x [] y among) [
+  | inl is ↦ is
+  | inr none ↦ absurd (Contains-none y none)
+]
+
+-- ---- rows beside each other
+
+-- the difference is of the name, at a place where texts differ
+abbrev pub IsOtherOf : ℕ → List Row → List Row → Difference → Type 0
+IsOtherOf name rows others d = (place : Place) × (d ≡ value_changed name place) × HaveOtherAt rows others place
+
+module _ (row other : Row) (rows others : List Row) where
+  -- behind rows of equal texts
+  other-later : (place : Place) → param_text row.1 ≡ param_text other.1 → HaveOtherAt (row ∷ rows) (other ∷ others) place → HaveOtherAt rows others place
+  other-later place same (p, q, among, differ) = elim (Contains-cases (row, other) (zip rows others) ((place, p), (place, q)) among) [
+    | inl is ↦
+        let first : row.1 ≡ p = ap (λ (i : Row × Row). i.0.1) is in
+        let second : other.1 ≡ q = ap (λ (i : Row × Row). i.1.1) is in
+        absurd (differ (sym (ap param_text first) ∙ same ∙ ap param_text second))
+    | inr later ↦ (p, q, later, differ)
+  ]
+
+  other-before : (place : Place) → HaveOtherAt rows others place → HaveOtherAt (row ∷ rows) (other ∷ others) place
+  other-before place (p, q, among, differ) = (p, q, Contains-later (row, other) (zip rows others) ((place, p), (place, q)) among, differ)
+
+  -- the first rows
+  other-first : row.0 ≡ other.0 → param_text row.1 ≢ param_text other.1 → HaveOtherAt (row ∷ rows) (other ∷ others) row.0
+  other-first beside differ =
+      let P : Place → Type 0 = λ place. Contains ((row, other) ∷ zip rows others) ((row.0, row.1), (place, other.1)) in
+      (row.1, other.1, subst P (sym beside) (Contains-first (row, other) (zip rows others)), differ)
+
+  other-cases : (place : Place) → HaveOtherAt (row ∷ rows) (other ∷ others) place → (row.0 ≡ place) ⊎ HaveOtherAt rows others place
+  other-cases place (p, q, among, differ) = elim (Contains-cases (row, other) (zip rows others) ((place, p), (place, q)) among) [
+    | inl is ↦ inl (ap (λ (i : Row × Row). i.0.0) is)
+    | inr later ↦ inr (p, q, later, differ)
+  ]
+
+none-other : (rows others : List Row) (new : OtherValues) → HandsOutOther rows others None new → (place : Place) → HaveOtherAt rows others place → ⊥
+none-other [] others new handed place (p, q, among, differ) = Contains-none ((place, p), (place, q)) among
+none-other (row ∷ rows) [] new handed place (p, q, among, differ) = Contains-none ((place, p), (place, q)) among
+none-other (row ∷ rows) (other ∷ others) new (inl handed) place have = none-other rows others new handed.1 place (other-later row other rows others place handed.0 have)
+none-other (row ∷ rows) (other ∷ others) new (inr handed) place have = absurd handed.1
+
+-- ---- the next of them
+
+record IsStep (name : ℕ) (rows others : List Row) (found : OtherValue) (new : OtherValues) : Type 0 where
+  left : List Row
+  left_ : List Row
+  tells : TellsBoth new left left_
+  beside : HaveOnePlaces left left_
+  told : (d : Difference) → ((value_changed name (place_of found.place) ≡ d) ⊎ IsOtherOf name left left_ d) ↔ IsOtherOf name rows others d
+
+places-later : (row other : Row) (rows others : List Row) → HaveOnePlaces (row ∷ rows) (other ∷ others) → (row.0 ≡ other.0) × HaveOnePlaces rows others
+places-later row other rows others beside = (cc, cc)
+
+step-made : (name : ℕ) (rows others : List Row) (found : OtherValue) (new : OtherValues) → HaveOnePlaces rows others → HandsOutOther rows others (Some found) new → IsStep name rows others found new
+step-made name [] others found new beside handed = absurd handed
+step-made name (row ∷ rows) [] found new beside handed = absurd handed
+step-made name (row ∷ rows) (other ∷ others) found new beside (inl handed) =
+    let more = step-made name rows others found new (places-later row other rows others beside).1 handed.1 in
+    record {
+      left = more.left;
+      left_ = more.left_;
+      tells = more.tells;
+      beside = more.beside;
+      told = λ d. (
+        λ is. let (place, same, have) = (more.told d).0 is in (place, same, other-before row other rows others place have),
+        λ (place, same, have). (more.told d).1 (place, same, other-later row other rows others place handed.0 have),
+      );
+    }
+step-made name (row ∷ rows) (other ∷ others) found new beside (inr (differ, (place_is, before, after), tells)) =
+    let (first, later) = places-later row other rows others beside in
+    record {
+      left = rows;
+      left_ = others;
+      tells = tells;
+      beside = later;
+      told = λ d. (there d, back d);
+    }
+  where
+    there : (d : Difference) → (value_changed name (place_of found.place) ≡ d) ⊎ IsOtherOf name rows others d → IsOtherOf name (row ∷ rows) (other ∷ others) d
+    there d (inl is) = (
+      row.0,
+      sym is ∙ ap (value_changed name) place_is,
+      other-first row other rows others (places-later row other rows others beside).0 differ,
+    )
+    there d (inr (place, same, have)) = (place, same, other-before row other rows others place have)
+
+    back : (d : Difference) → IsOtherOf name (row ∷ rows) (other ∷ others) d → (value_changed name (place_of found.place) ≡ d) ⊎ IsOtherOf name rows others d
+    back d (place, same, have) = elim (other-cases row other rows others place have) [
+      | inl is ↦ inl (ap (value_changed name) (place_is ∙ is) ∙ sym same)
+      | inr more ↦ inr (place, same, more)
+    ]
+
+-- ---- so far
+
+-- these attributes are left, and the others are told
+pub record IsHalfway (form : RowForm) (s : Schema) (name : ℕ) (x y : Typed) (values : OtherValues) (old new : List ℕ) : Type 0 where
+  pub rows : List Row
+  pub others : List Row
+  pub differ : (place : Place) → HaveOtherAt rows others place ↔ HasOtherValue x y place
+  pub left : List Row
+  pub left_ : List Row
+  pub tells : TellsBoth values left left_
+  pub beside : HaveOnePlaces left left_
+  pub adds : AddsRows form s (λ (list : List Difference). (d : Difference) → (Contains list d ⊎ IsOtherOf name left left_ d) ↔ IsOtherOf name rows others d) old new
+
+module _ (form : RowForm) (s : Schema) (name : ℕ) (x y : Typed) where
+  module _ (rows others left left_ : List Row) where
+    abbrev AreTold : List Difference → Type 0
+    AreTold list = (d : Difference) → (Contains list d ⊎ IsOtherOf name left left_ d) ↔ IsOtherOf name rows others d
+
+  pub values-more : (values values_ : OtherValues) (found : OtherValue) (old text new : List ℕ) → IsHalfway form s name x y values old text
+      → ((left left_ : List Row) → TellsBoth values left left_ → HandsOutOther left left_ (Some found) values_)
+      → AddsRows form s (TellsAlone (value_changed name (place_of found.place) ∷ [])) text new → IsHalfway form s name x y values_ old new
+  values-more values values_ found old text new h hands adds =
+      let step = step-made name h.left h.left_ found values_ h.beside (hands h.left h.left_ h.tells) in
+      let v = value_changed name (place_of found.place) in
+      record {
+        rows = h.rows;
+        others = h.others;
+        differ = h.differ;
+        left = step.left;
+        left_ = step.left_;
+        tells = step.tells;
+        beside = step.beside;
+        adds = more-added form s (AreTold h.rows h.others h.left h.left_) (TellsAlone (v ∷ [])) (AreTold h.rows h.others step.left step.left_) old text new
+            (λ list more told is. let All : List Difference → Type 0 = λ m. AreTold h.rows h.others step.left step.left_ (list ++ m) in subst All (sym is) (λ d. (there step list told d, back step list told d)))
+            h.adds adds;
+      }
+    where
+      there : (step : IsStep name h.left h.left_ found values_) (list : List Difference) → AreTold h.rows h.others h.left h.left_ list → (d : Difference)
+          → Contains (list ++ (value_changed name (place_of found.place) ∷ [])) d ⊎ IsOtherOf name step.left step.left_ d → IsOtherOf name h.rows h.others d
+      there step list told d (inl among) = elim (member-of list (value_changed name (place_of found.place) ∷ []) d among) [
+        | inl front ↦ (told d).0 (inl front)
+        | inr back ↦ (told d).0 (inr ((step.told d).0 (inl (member-alone (value_changed name (place_of found.place)) d back))))
+      ]
+      there step list told d (inr left) = (told d).0 (inr ((step.told d).0 (inr left)))
+
+      back : (step : IsStep name h.left h.left_ found values_) (list : List Difference) → AreTold h.rows h.others h.left h.left_ list → (d : Difference)
+          → IsOtherOf name h.rows h.others d → Contains (list ++ (value_changed name (place_of found.place) ∷ [])) d ⊎ IsOtherOf name step.left step.left_ d
+      back step list told d is = elim ((told d).1 is) [
+        | inl front ↦ inl (member-front list (value_changed name (place_of found.place) ∷ []) d front)
+        | inr left ↦ elim ((step.told d).1 left) [
+          | inl same ↦
+              let P : Difference → Type 0 = λ e. Contains (list ++ (value_changed name (place_of found.place) ∷ [])) e in
+              inl (subst P same (member-back list (value_changed name (place_of found.place) ∷ []) (value_changed name (place_of found.place)) (Contains-first (value_changed name (place_of found.place)) [])))
+          | inr more ↦ inr more
+        ]
+      ]
+
+  pub values-ended : (values values_ : OtherValues) (old new : List ℕ) → IsHalfway form s name x y values old new
+      → ((left left_ : List Row) → TellsBoth values left left_ → HandsOutOther left left_ None values_)
+      → AddsRows form s (TellsValues x y name) old new
+  values-ended values values_ old new h hands =
+      weaker-added form s (AreTold h.rows h.others h.left h.left_) (TellsValues x y name) old new (λ list told d. (there list told d, back list told d)) h.adds
+    where
+      there : (list : List Difference) → AreTold h.rows h.others h.left h.left_ list → (d : Difference) → Contains list d → (place : Place) × (d ≡ value_changed name place) × HasOtherValue x y place
+      there list told d among = let (place, is, have) = (told d).0 (inl among) in (place, is, (h.differ place).0 have)
+
+      back : (list : List Difference) → AreTold h.rows h.others h.left h.left_ list → (d : Difference) → (place : Place) × (d ≡ value_changed name place) × HasOtherValue x y place → Contains list d
+      back list told d (place, is, other) = elim ((told d).1 (place, is, (h.differ place).1 other)) [
+        | inl among ↦ among
+        | inr (at, same, have) ↦ absurd (none-other h.left h.left_ values_ (hands h.left h.left_ h.tells) at have)
+      ]
+
+pub values-begun : (form : RowForm) (s : Schema) (name m : ℕ) (r q : Record) (line text : List ℕ) (first : IsInstanceText s name r line) (second : IsInstanceText s m q text) (values : OtherValues) (old : List ℕ)
+    → TellsDifferences first second values → IsHalfway form s name first.canonical_meaning second.canonical_meaning values old old
+values-begun form s name m r q line text first second values old tells = record {
+  rows = tells.rows;
+  others = tells.others;
+  differ = tells.differ;
+  left = tells.rows;
+  left_ = tells.others;
+  tells = tells.tells;
+  beside = tells.beside;
+  adds = none-added form s _ old (λ d. (there d, λ is. inr is));
+}
+  where
+    there : (d : Difference) → Contains [] d ⊎ IsOtherOf name tells.rows tells.others d → IsOtherOf name tells.rows tells.others d
+    there d (inl none) = absurd (Contains-none d none)
+    there d (inr is) = is

@@ -1,0 +1,6 @@
+pub mod Chains
+pub mod Adding
+pub mod Along
+pub mod Beside
+pub mod Walk
+pub mod Listing

@@ -1,0 +1,80 @@
+-- What is listed of two files.
+use Rattle.std.specs.Prelude.{◌≡◌, ◌≢◌, ◌↔◌, ℕ, Bool, true, false, List, [], ◌∷◌, ◌++◌, Contains}
+use Rattle.std.specs.List.{flat_map, AllByRecursion as Each}
+use Rattle.p21_difference_rows.specs.Fronts.{end_front, front, same_line}
+use Rattle.p21_difference_rows.specs.declared.row.RowForm.{RowForm}
+use Rattle.p21_difference_rows.specs.declared.row.Subject.{Subject}
+use Rattle.p21_difference_rows.specs.declared.row.Subject.TheVariants.{Header, Section, Moved, Came, Went, Set, Value}
+use Rattle.p21_express_graph.specs.Meaning.{place as place_of}
+use Rattle.p21_express_graph.specs.Resolved.{IsPlace}
+use Rattle.p21_spec_differences.specs.Difference.{Difference, Differs, instance_came, instance_went, set_changed, value_changed}
+use Rattle.p21_spec_file.specs.File.{FileMeaning}
+use Rattle.p21_spec_schema.specs.Schema.{Schema}
+
+-- ---- rows
+
+-- what a row is about, and what stands behind its beginning
+pub record Row : Type 0 where
+  pub subject : Subject
+  pub rest : List ℕ
+
+-- no byte is a line feed
+abbrev pub HoldsNoFeed : List ℕ → Type 0
+HoldsNoFeed text = Each (λ (byte : ℕ). byte ≢ 10) text
+
+abbrev pub row_line : RowForm → Schema → Row → List ℕ
+row_line form s row = front form s row.subject ++ (row.rest ++ (10 ∷ []))
+
+abbrev pub rows_text : RowForm → Schema → List Row → List ℕ
+rows_text form s rows = flat_map (row_line form s) rows
+
+abbrev pub AreLines : List Row → Type 0
+AreLines rows = Each (λ (row : Row). HoldsNoFeed row.rest) rows
+
+-- the attribute, if the row is about one, is one of the schema
+abbrev pub IsOfSchema : Schema → Subject → Type 0
+IsOfSchema s (Value name place) = IsPlace s (place_of place)
+IsOfSchema s subject = Unit {0}
+
+-- ---- what is told of instances
+
+-- the difference that a row tells; none where it isn't about what instances mean
+abbrev pub told : Subject → List Difference
+told (Header happening) = []
+told (Section happening) = []
+told (Moved name) = []
+told (Came name) = instance_came name ∷ []
+told (Went name) = instance_went name ∷ []
+told (Set name) = set_changed name ∷ []
+told (Value name place) = value_changed name (place_of place) ∷ []
+
+abbrev pub all_told : List Row → List Difference
+all_told rows = flat_map (λ (row : Row). told row.subject) rows
+
+-- it is about what an instance means
+abbrev pub IsOfInstance : Difference → Type 0
+IsOfInstance (instance_came name) = Unit {0}
+IsOfInstance (instance_went name) = Unit {0}
+IsOfInstance (set_changed name) = Unit {0}
+IsOfInstance (value_changed name place) = Unit {0}
+IsOfInstance other = ⊥
+
+-- exactly what differs in instances is told
+abbrev pub TellsInstances : FileMeaning → FileMeaning → List Difference → Type 0
+TellsInstances a b list = (d : Difference) → Contains list d ↔ (IsOfInstance d × Differs a b d)
+
+-- ---- the list
+
+-- rows, each a line, which tell exactly what differs in instances, and a last line that says that the files differ
+pub record IsListOfOthers (form : RowForm) (s : Schema) (a b : FileMeaning) (text : List ℕ) : Type 0 where
+  pub rows : List Row
+  pub are_lines : AreLines rows
+  pub end : List ℕ
+  pub end_is_line : HoldsNoFeed end
+  pub text_is : text ≡ rows_text form s rows ++ (end_front form ++ (end ++ (10 ∷ [])))
+  pub tells : TellsInstances a b (all_told rows)
+
+-- the list of two files, by whether they mean the same: where they do, it has one line alone, which says so
+abbrev pub IsList : RowForm → Schema → FileMeaning → FileMeaning → Bool → List ℕ → Type 0
+IsList form s a b true text = text ≡ same_line form
+IsList form s a b false text = IsListOfOthers form s a b text

@@ -1,0 +1,25 @@
+//! What differs from one accepted file to another one, as rows: lines for people, or JSON objects (RFC 8259).
+//!
+//! `list_differences` writes a row for each difference. The beginning of each row says what it is about, and is proved (`front`, in
+//! `specs/Fronts`); so is that the rows about instances are of exactly what differs in these (`specs/Listed`). What stands behind that
+//! beginning, the values before and after with the index of the element that differs, is tested, and so are the rows about header
+//! sections, data sections and the sections of instances; but a row holds no line feed, so none can pass for two.
+//!
+//! `instances` walks the names of both files, `values` the attributes of two instances, and `outlines` all else. `proofs/Walk` says
+//! what is listed so far, name by name, and `proofs/Values` does so attribute by attribute.
+#![tactic(auto)]
+
+mod fronts;
+mod instances;
+mod keywords;
+mod list;
+mod narrowing;
+mod outlines;
+mod pushing;
+mod row;
+mod rows;
+mod texts;
+mod values;
+
+pub use list::{DifferenceList, list_differences};
+pub use row::{Happening, RowForm, Subject};
