@@ -8,7 +8,7 @@ use Rattle.p21_commands.specs.declared.fault.CommandFault.{CommandFault}
 use Rattle.p21_commands.specs.declared.fault.CommandFault.TheVariants.{Refused, NoMemory, Read, Write}
 use Rattle.p21_commands.specs.Files.{IsFileRefused}
 use Rattle.p21_commands.specs.Refusals.{IsFaultOf}
-use Rattle.p21_commands.specs.Same.{EndsComparing, IsAnswered, IsCompared, IsFirstAccepted, IsRefused, read_in, read_of, same_answer_line, word_of}
+use Rattle.p21_commands.specs.Same.{EndsBy, IsCompared, IsEither, IsFirstAccepted, IsRefused, read_in, read_of, same_answer_line, word_of}
 use Rattle.p21_commands.specs.Failures.{Failures, FailedBy, NoneFailed}
 use Rattle.p21_commands.specs.Fault.{Reports}
 use Rattle.p21_commands.specs.Status.{done, refused}
@@ -25,13 +25,13 @@ use Rattle.p21_stream.specs.declared.comparing.Which.TheVariants.{First, Second}
 use Rattle.p21_stream_statements.specs.declared.fault.Fault.{Fault}
 use Rattle.p21_stream_statements.specs.declared.refusal.Refusal.{Refusal}
 
-which-fails : (schema first_old first_new second_old second_new output : Option (List ℕ)) (s : Schema) (which : Which) (refusal : Refusal) (fault : CommandFault) (word : List ℕ)
+which-fails : (IsAnswer : List ℕ → Type 0) (schema first_old first_new second_old second_new output : Option (List ℕ)) (s : Schema) (which : Which) (refusal : Refusal) (fault : CommandFault) (word : List ℕ)
     → DeclaresRead schema s → word ≡ word_of which → IsFaultOf word refusal fault → FailsToCompare s usual first_old first_new second_old second_new which refusal.fault
-    → FailsBy (IsAnswered (read_of schema first_old first_new second_old second_new)) (IsRefused (read_of schema first_old first_new second_old second_new)) output output fault
-which-fails schema first_old first_new second_old second_new output s First refusal (Refused line) word declares named is fails =
+    → FailsBy IsAnswer (IsRefused (read_of schema first_old first_new second_old second_new)) output output fault
+which-fails IsAnswer schema first_old first_new second_old second_new output s First refusal (Refused line) word declares named is fails =
     let of_first : IsFaultOf (word_of First) refusal (Refused line) = subst (λ w. IsFaultOf w refusal (Refused line)) named is in
     (inr (inl (file-refused (word_of First) schema first_old first_new s refusal (string_bytes line) declares of_first fails.0, fails.1)), Keeps-refl output)
-which-fails schema first_old first_new second_old second_new output s Second refusal (Refused line) word declares named is fails =
+which-fails IsAnswer schema first_old first_new second_old second_new output s Second refusal (Refused line) word declares named is fails =
     let of_second : IsFaultOf (word_of Second) refusal (Refused line) = subst (λ w. IsFaultOf w refusal (Refused line)) named is in
     let second : IsFileRefused (word_of Second) schema second_old second_new (string_bytes line) = record {
       declared = s;
@@ -43,16 +43,16 @@ which-fails schema first_old first_new second_old second_new output s Second ref
       line_is = of_second.1;
     } in
     (inr (inr (record { second = second; first_text = fails.0.0; first = fails.0.1 })), Keeps-refl output)
-which-fails schema first_old first_new second_old second_new output s which refusal NoMemory word declares named is fails = Keeps-refl output
-which-fails schema first_old first_new second_old second_new output s which refusal Read word declares named is fails = Keeps-refl output
-which-fails schema first_old first_new second_old second_new output s First refusal Write word declares named is fails = absurd (not-written s usual first_old first_new refusal.fault is fails.0)
-which-fails schema first_old first_new second_old second_new output s Second refusal Write word declares named is fails = absurd (not-written s usual second_old second_new refusal.fault is fails.1)
+which-fails IsAnswer schema first_old first_new second_old second_new output s which refusal NoMemory word declares named is fails = Keeps-refl output
+which-fails IsAnswer schema first_old first_new second_old second_new output s which refusal Read word declares named is fails = Keeps-refl output
+which-fails IsAnswer schema first_old first_new second_old second_new output s First refusal Write word declares named is fails = absurd (not-written s usual first_old first_new refusal.fault is fails.0)
+which-fails IsAnswer schema first_old first_new second_old second_new output s Second refusal Write word declares named is fails = absurd (not-written s usual second_old second_new refusal.fault is fails.1)
 
-pub comparing-fails : (schema first_old first_new second_old second_new output : Option (List ℕ)) (s : Schema) (limits : Limits) (which : Which) (refusal : Refusal) (fault : CommandFault) (word : List ℕ)
+pub comparing-fails : (IsAnswer : List ℕ → Type 0) (schema first_old first_new second_old second_new output : Option (List ℕ)) (s : Schema) (limits : Limits) (which : Which) (refusal : Refusal) (fault : CommandFault) (word : List ℕ)
     → limits ≡ usual → DeclaresRead schema s → word ≡ word_of which → IsFaultOf word refusal fault → FailsToCompare s limits first_old first_new second_old second_new which refusal.fault
-    → FailsBy (IsAnswered (read_of schema first_old first_new second_old second_new)) (IsRefused (read_of schema first_old first_new second_old second_new)) output output fault
-comparing-fails schema first_old first_new second_old second_new output s limits which refusal fault word is_usual declares named is fails =
-    which-fails schema first_old first_new second_old second_new output s which refusal fault word declares named is
+    → FailsBy IsAnswer (IsRefused (read_of schema first_old first_new second_old second_new)) output output fault
+comparing-fails IsAnswer schema first_old first_new second_old second_new output s limits which refusal fault word is_usual declares named is fails =
+    which-fails IsAnswer schema first_old first_new second_old second_new output s which refusal fault word declares named is
     (subst (λ l. FailsToCompare s l first_old first_new second_old second_new which refusal.fault) is_usual fails)
 
 -- the answer is written, or only its beginning
@@ -80,40 +80,40 @@ answer-fails IsAnswer IsRefusal old new line fault is part same = subst (FailsBy
 
 -- ---- how the command ends
 
-module _ (streams : PairStreams) where
+module _ (IsAnswer : Bool → List ℕ → Type 0) (streams : PairStreams) where
   abbrev readers : List Failures
   readers = streams.schema.failures ∷ streams.first.failures ∷ streams.second.failures ∷ []
 
-  pub comparing-reported : (fault : CommandFault) (status : ℕ) → FailsBy (IsAnswered (read_in streams)) (IsRefused (read_in streams)) streams.output.before streams.output.behind fault
-      → FailedBy readers (streams.output.failures ∷ []) fault → Reports fault status streams.faults → EndsComparing streams status
+  pub comparing-reported : (fault : CommandFault) (status : ℕ) → FailsBy (IsEither IsAnswer) (IsRefused (read_in streams)) streams.output.before streams.output.behind fault
+      → FailedBy readers (streams.output.failures ∷ []) fault → Reports fault status streams.faults → EndsBy IsAnswer streams status
   comparing-reported fault status f b r =
-      let IsAnswer = IsAnswered (read_in streams) in
+      let IsOne = IsEither IsAnswer in
       let IsRefusal = IsRefused (read_in streams) in record {
         status = inr (reported_status streams.faults fault status r);
         answered = λ e. absurd (not_done streams.faults fault status r e);
         silent = λ e. absurd (not_done streams.faults fault status r e);
-        refused = λ e. inr (refusal_written streams.faults IsAnswer IsRefusal streams.output fault status f r e, refusal-kept IsAnswer IsRefusal streams.output.before streams.output.behind streams.faults fault status f r e);
-        failed = failure_reported streams.faults IsAnswer IsRefusal streams.output readers fault status f b r;
+        refused = λ e. inr (refusal_written streams.faults IsOne IsRefusal streams.output fault status f r e, refusal-kept IsOne IsRefusal streams.output.before streams.output.behind streams.faults fault status f r e);
+        failed = failure_reported streams.faults IsOne IsRefusal streams.output readers fault status f b r;
         unfailed = unfailed streams.faults readers streams.output.failures fault status b r;
       }
 
-  module _ (same : Bool) (writes : Writes (IsCompared (read_in streams) same) streams.output.before streams.output.behind) (keeps : Keeps streams.faults.before streams.faults.behind) (none : NoneFailed (readers ++ streams.output.failures ∷ streams.faults.failures ∷ [])) where
-    pub comparing-same : same ≡ true → EndsComparing streams done
+  module _ (same : Bool) (writes : Writes (IsAnswer same) streams.output.before streams.output.behind) (keeps : Keeps streams.faults.before streams.faults.behind) (none : NoneFailed (readers ++ streams.output.failures ∷ streams.faults.failures ∷ [])) where
+    pub comparing-same : same ≡ true → EndsBy IsAnswer streams done
     comparing-same is = record {
       status = inl refl;
-      answered = λ e. subst (λ (b : Bool). Writes (IsCompared (read_in streams) b) streams.output.before streams.output.behind) is writes;
+      answered = λ e. subst (λ (b : Bool). Writes (IsAnswer b) streams.output.before streams.output.behind) is writes;
       silent = λ e. keeps;
       refused = λ e. cc e;
       failed = λ e. cc e;
       unfailed = λ e. none;
     }
 
-    pub comparing-different : same ≡ false → EndsComparing streams refused
+    pub comparing-different : same ≡ false → EndsBy IsAnswer streams refused
     comparing-different is = record {
       status = inr (inl refl);
       answered = λ e. cc e;
       silent = λ e. cc e;
-      refused = λ e. inl (subst (λ (b : Bool). Writes (IsCompared (read_in streams) b) streams.output.before streams.output.behind) is writes, keeps);
+      refused = λ e. inl (subst (λ (b : Bool). Writes (IsAnswer b) streams.output.before streams.output.behind) is writes, keeps);
       failed = λ e. cc e;
       unfailed = λ e. none;
     }

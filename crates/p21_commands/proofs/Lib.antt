@@ -3,6 +3,7 @@ pub mod Reporting
 mod TransferLemmas
 pub mod Comparing
 pub mod Counting
+pub mod Differing
 pub mod FileFailing
 pub mod Showing
 pub mod Writing

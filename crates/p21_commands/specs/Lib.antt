@@ -18,6 +18,7 @@ pub mod Tells
 pub mod Files
 pub mod Refusals
 pub mod Same
+pub mod Diff
 pub mod Show
 pub mod Syntax
 pub mod OwnTexts

@@ -45,10 +45,6 @@ pub record IsCompared (read : Read) (same : Bool) (line : List ℕ) : Type 0 whe
   pub compares : Compares declared usual read.first_old read.first_new read.second_old read.second_new same
   pub line_is : line ≡ same_answer_line same
 
--- the line answers that the files mean the same, or that they do not
-abbrev pub IsAnswered : Read → List ℕ → Type 0
-IsAnswered read line = (same : Bool) × IsCompared read same line
-
 -- the first file is accepted under the schema that its reader declares
 pub record IsFirstAccepted (read : Read) : Type 0 where
   pub declared : Schema
@@ -69,18 +65,29 @@ IsRefused read line =
     ⊎ ((IsFileRefused (word_of First) read.schema read.first_old read.first_new line × Keeps read.second_old read.second_new)
     ⊎ IsSecondRefused read line)
 
+-- one of the answers, by whether the files mean the same
+abbrev pub IsEither : (Bool → List ℕ → Type 0) → List ℕ → Type 0
+IsEither IsAnswer line = (same : Bool) × IsAnswer same line
+
+-- the line answers that the files mean the same, or that they do not
+abbrev pub IsAnswered : Read → List ℕ → Type 0
+IsAnswered read line = IsEither (IsCompared read) line
+
 -- the output has the answer that the files differ and the fault output is as it was; or the fault output has the line of a refusal and
 -- the output is as it was
-abbrev pub IsDifferentOrRefused : PairStreams → Type 0
-IsDifferentOrRefused streams =
-    (Writes (IsCompared (read_in streams) false) streams.output.before streams.output.behind × Keeps streams.faults.before streams.faults.behind)
+abbrev pub IsDifferentOrRefused : (Bool → List ℕ → Type 0) → PairStreams → Type 0
+IsDifferentOrRefused IsAnswer streams =
+    (Writes (IsAnswer false) streams.output.before streams.output.behind × Keeps streams.faults.before streams.faults.behind)
     ⊎ (Writes (IsRefused (read_in streams)) streams.faults.before streams.faults.behind × Keeps streams.output.before streams.output.behind)
 
--- how the command ends, by its status, as `Ends` says of others; but files that differ have the status of a refusal
-pub record EndsComparing (streams : PairStreams) (answer : ℕ) : Type 0 where
+-- how a command ends that compares two files, by its status, as `Ends` says of others; but files that differ have the status of a refusal
+pub record EndsBy (IsAnswer : Bool → List ℕ → Type 0) (streams : PairStreams) (answer : ℕ) : Type 0 where
   pub status : (answer ≡ statuses.done) ⊎ (answer ≡ statuses.refused) ⊎ (answer ≡ statuses.failed)
-  pub answered : answer ≡ statuses.done → Writes (IsCompared (read_in streams) true) streams.output.before streams.output.behind
+  pub answered : answer ≡ statuses.done → Writes (IsAnswer true) streams.output.before streams.output.behind
   pub silent : answer ≡ statuses.done → Keeps streams.faults.before streams.faults.behind
-  pub refused : answer ≡ statuses.refused → IsDifferentOrRefused streams
-  pub failed : answer ≡ statuses.failed → Fails (IsAnswered (read_in streams)) (IsRefused (read_in streams)) (streams.schema.failures ∷ streams.first.failures ∷ streams.second.failures ∷ []) streams.output streams.faults
+  pub refused : answer ≡ statuses.refused → IsDifferentOrRefused IsAnswer streams
+  pub failed : answer ≡ statuses.failed → Fails (IsEither IsAnswer) (IsRefused (read_in streams)) (streams.schema.failures ∷ streams.first.failures ∷ streams.second.failures ∷ []) streams.output streams.faults
   pub unfailed : answer ≢ statuses.failed → NoneFailed (streams.schema.failures ∷ streams.first.failures ∷ streams.second.failures ∷ streams.output.failures ∷ streams.faults.failures ∷ [])
+
+abbrev pub EndsComparing : PairStreams → ℕ → Type 0
+EndsComparing streams answer = EndsBy (IsCompared (read_in streams)) streams answer

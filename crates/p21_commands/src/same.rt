@@ -79,7 +79,7 @@ fn write_same<S: Read, A: Read, B: Read, W: Write>(
 }
 
 /// The word for each file, in front of the line of its refusal.
-fn word_of(which: Which) -> &'static str
+pub(crate) fn word_of(which: Which) -> &'static str
     ensures { result.now ≡ word_of which }
 {
     match which {

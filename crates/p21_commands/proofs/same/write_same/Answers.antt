@@ -7,7 +7,7 @@ use Rattle.p21_commands.proofs.Comparing.{answer-fails, compared, comparing-fail
 use Rattle.p21_commands.proofs.same.write_same.Goals as goal
 
 pub returns-in-Err-clause-err : goal.returns-in-Err-clause-err
-returns-in-Err-clause-err g c = comparing-fails _ _ _ _ _ _ _ _ _ _ _ _ c.usual.ensures c.in_ok-schema.ensures.ok c.word_of.ensures c.fault_of.ensures c.in-Err.ensures.err
+returns-in-Err-clause-err g c = comparing-fails _ _ _ _ _ _ _ _ _ _ _ _ _ c.usual.ensures c.in_ok-schema.ensures.ok c.word_of.ensures c.fault_of.ensures c.in-Err.ensures.err
 
 pub returns-in-Ok-write_whole-clause-ok : goal.returns-in-Ok-write_whole-clause-ok
 returns-in-Ok-write_whole-clause-ok g c = record {
