@@ -4,7 +4,7 @@ _p21() {
     local word=${COMP_WORDS[COMP_CWORD]} words=
     COMPREPLY=()
     if [ "$COMP_CWORD" -eq 1 ]; then
-        words='param syntax schema check canon show same faults help --help --version'
+        words='param syntax schema check canon show same diff faults help --help --version'
         COMPREPLY=($(compgen -W "$words" -- "$word"))
         return
     fi
@@ -16,8 +16,9 @@ _p21() {
         canon) words='--progress --help' ;;
         show) words='--name --help' ;;
         same) words='--progress --help' ;;
+        diff) words='--format --progress --help' ;;
         faults) words='--help' ;;
-        help) words='param syntax schema check canon show same faults' ;;
+        help) words='param syntax schema check canon show same diff faults' ;;
     esac
     case ${COMP_WORDS[1]}:$word in
         *:-* | help:*) COMPREPLY=($(compgen -W "$words" -- "$word")) ;;

@@ -54,7 +54,7 @@ run() {
 if [ "$#" -eq 0 ]; then
     # release.py stands behind the parts that build what it packs.
     set -- lint.sh program.sh texts.py canonical_form.py definitions.py edits.py wrong_bodies.sh records.py refusals.py patterns.py library.py \
-        copies.py install.sh pages.sh bindings.sh page.py page_module.py platforms.py release.py every_refusal.py record_places.py worked_cases.py ranks.py
+        copies.py install.sh pages.sh bindings.sh page.py page_module.py platforms.py release.py every_refusal.py record_places.py worked_cases.py differences.py ranks.py
     for tools in tools_*.py; do
         [ ! -e "$tools" ] || set -- "$@" "$tools"
     done

@@ -15,24 +15,23 @@ use Rattle.clap.specs.declared.error.kind.ErrorKind.TheVariants.{DisplayHelp, Di
 use Rattle.p21.specs.Statuses.{AreMistaken, AreTaken, AskForHelp, IsOfCommand, IsOfRun, IsOfStop, IsOfWords, IsStatus, IsUnopened, NamesFiles, command_in, error_kinds_in}
 use Rattle.p21.specs.declared.commands.Stopped.{Stopped}
 use Rattle.p21.specs.declared.commands.Stopped.TheVariants.{NoCommand, Signed, NoRefusal, Unopened}
-use Rattle.clap.specs.declared.builder.value_parser.ValueParser.{ValueParser}
 use Rattle.clap.specs.declared.builder.value_parser.ValueParser.TheVariants.{Names}
-use Rattle.p21_command_line.specs.CommandLine.{AreForms, program_app}
+use Rattle.p21_command_line.specs.CommandLine.{Forms, HaveForms, program_app}
 use Rattle.p21_commands.specs.Status.{done, refused, usage, failed}
 
-program_is_free : (forms : ValueParser) → is_simple_and_free (program_app forms) ≡ true
+program_is_free : (forms : Forms) → is_simple_and_free (program_app forms) ≡ true
 program_is_free forms = refl
 
-program_is_simple : (forms : ValueParser) → is_simple (program_app forms) ≡ true
+program_is_simple : (forms : Forms) → is_simple (program_app forms) ≡ true
 program_is_simple forms = refl
 
 -- ---- what `clap` finds in the words, by its answer
 
-are_taken : (forms : ValueParser) (app : App) (words : List Text) → app ≡ program_app forms → (is_simple_and_free app ≡ true → fault_of app words ≡ []) → AreTaken forms words
+are_taken : (forms : Forms) (app : App) (words : List Text) → app ≡ program_app forms → (is_simple_and_free app ≡ true → fault_of app words ≡ []) → AreTaken forms words
 unfolding error_kinds_in
 are_taken forms app words same finds = subst (λ (a : App). fault_of a words ≡ []) same (finds (ap is_simple_and_free same ∙ program_is_free forms))
 
-have_kind : (forms : ValueParser) (app : App) (words : List Text) (error : Error) → app ≡ program_app forms → (is_simple_and_free app ≡ true → HasKind (fault_of app words) error) → HasKind (error_kinds_in forms words) error
+have_kind : (forms : Forms) (app : App) (words : List Text) (error : Error) → app ≡ program_app forms → (is_simple_and_free app ≡ true → HasKind (fault_of app words) error) → HasKind (error_kinds_in forms words) error
 unfolding error_kinds_in
 have_kind forms app words error same finds = subst (λ (a : App). HasKind (fault_of a words) error) same (finds (ap is_simple_and_free same ∙ program_is_free forms))
 
@@ -44,7 +43,7 @@ name_of_rows m = elim (out-ArgMatches m).subcommand as (λ o. option_map (λ p. 
   | Some b ↦ refl
 ]
 
-command_is : (forms : ValueParser) (app : App) (words : List Text) (m : ArgMatches) → app ≡ program_app forms → HasMatchesOf app words m → command_in forms words ≡ subcommand_name_of m
+command_is : (forms : Forms) (app : App) (words : List Text) (m : ArgMatches) → app ≡ program_app forms → HasMatchesOf app words m → command_in forms words ≡ subcommand_name_of m
 unfolding command_in
 command_is forms app words m same has =
     let rows : subcommand_rows_of m ≡ subcommand_of app words = (has (ap is_simple same ∙ program_is_simple forms)).1 in
@@ -53,15 +52,17 @@ command_is forms app words m same has =
 -- ---- the status, by the way that was gone
 
 -- the forms, as if they lay nowhere
-some_forms : ValueParser
-some_forms = Names (record { ref_ptr = (0, 0); now = record { ref_ptr = (0, 0); now = codes "text" } ∷ record { ref_ptr = (0, 0); now = codes "jsonl" } ∷ [] })
+some_forms : Forms
+some_forms =
+    let words = Names (record { ref_ptr = (0, 0); now = record { ref_ptr = (0, 0); now = codes "text" } ∷ record { ref_ptr = (0, 0); now = codes "jsonl" } ∷ [] }) in
+    record { of_check = words; of_diff = words }
 
 -- memory ran out before the words were looked at
 pub failed_early : (words : List Text) (status : ℕ) → status ≡ failed → IsOfWords words status
 unfolding some_forms
 failed_early words status is = record {
   forms = some_forms;
-  are_forms = refl;
+  are_forms = (refl, refl);
   known = inr (inr (inr is));
   when_done = λ e. cc (is, e);
   when_refused = λ e. cc (is, e);
@@ -93,7 +94,7 @@ never_mistaken (Err (NoRefusal word)) status of unopened is e = unopened
 never_mistaken (Err (Unopened path error)) status of unopened is e = cc (is, e)
 
 -- a command that was run, or wasn't
-pub of_run : (forms : ValueParser) (app : App) (words : List Text) (m : ArgMatches) (ran : Result ℕ Stopped) (status : ℕ) → AreForms forms → app ≡ program_app forms → (is_simple_and_free app ≡ true → fault_of app words ≡ []) → HasMatchesOf app words m
+pub of_run : (forms : Forms) (app : App) (words : List Text) (m : ArgMatches) (ran : Result ℕ Stopped) (status : ℕ) → HaveForms forms → app ≡ program_app forms → (is_simple_and_free app ≡ true → fault_of app words ≡ []) → HasMatchesOf app words m
     → IfOk ran IsOfCommand → (NamesFiles (subcommand_name_of m) → IfErr ran IsUnopened) → IsOfRun ran status → IsOfWords words status
 of_run forms app words m ran status are same finds has of unopened is =
     let taken = are_taken forms app words same finds in
@@ -113,7 +114,7 @@ pub record IsExplained (error : Error) (status : ℕ) : Type 0 where
   pub shown : status ≡ done → (kind_of error ≡ DisplayHelp) ⊎ (kind_of error ≡ DisplayVersion)
   pub mistake : status ≡ usage → (kind_of error ≢ DisplayHelp) × (kind_of error ≢ DisplayVersion)
 
-module _ (forms : ValueParser) (are : AreForms forms) (words : List Text) (error : Error) (status : ℕ) (explained : IsExplained error status) where
+module _ (forms : Forms) (are : HaveForms forms) (words : List Text) (error : Error) (status : ℕ) (explained : IsExplained error status) where
   known_of_error : (status ≡ done) ⊎ (status ≡ usage) ⊎ (status ≡ failed) → IsStatus status
   known_of_error (inl is) = inl is
   known_of_error (inr (inl is)) = inr (inr (inl is))
@@ -147,6 +148,6 @@ module _ (forms : ValueParser) (are : AreForms forms) (words : List Text) (error
   }
 
 -- `clap` answered an error, which was explained
-pub of_error : (forms : ValueParser) (app : App) (words : List Text) (error : Error) (status : ℕ) → AreForms forms → app ≡ program_app forms → (is_simple_and_free app ≡ true → HasKind (fault_of app words) error)
+pub of_error : (forms : Forms) (app : App) (words : List Text) (error : Error) (status : ℕ) → HaveForms forms → app ≡ program_app forms → (is_simple_and_free app ≡ true → HasKind (fault_of app words) error)
     → IsExplained error status → IsOfWords words status
 of_error forms app words error status are same finds explained = of_kind forms are words error status explained (have_kind forms app words error same finds)

@@ -8,8 +8,7 @@ use Rattle.clap.specs.declared.error.kind.ErrorKind.{ErrorKind}
 use Rattle.clap.specs.declared.error.kind.ErrorKind.TheVariants.{DisplayHelp, DisplayVersion}
 use Rattle.p21.specs.declared.commands.Stopped.{Stopped}
 use Rattle.p21.specs.declared.commands.Stopped.TheVariants.{NoCommand, Signed, NoRefusal, Unopened}
-use Rattle.clap.specs.declared.builder.value_parser.ValueParser.{ValueParser}
-use Rattle.p21_command_line.specs.CommandLine.{AreForms, program_app}
+use Rattle.p21_command_line.specs.CommandLine.{Forms, HaveForms, program_app}
 use Rattle.p21_commands.specs.Status.{done, refused, usage, failed}
 
 abbrev pub IsStatus : ℕ → Type 0
@@ -31,35 +30,35 @@ IsOfMistake status = (status ≡ usage) ⊎ (status ≡ failed)
 
 -- the kinds of what `clap` finds in the words: a mistake, or that they ask for help or for the version; none where it takes
 -- them
-unfoldable pub error_kinds_in : ValueParser → List Text → Kinds
+unfoldable pub error_kinds_in : Forms → List Text → Kinds
 error_kinds_in forms words = fault_of (program_app forms) words
 
-abbrev pub AreTaken : ValueParser → List Text → Type 0
+abbrev pub AreTaken : Forms → List Text → Type 0
 AreTaken forms words = error_kinds_in forms words ≡ []
 
-abbrev pub AskForHelp : ValueParser → List Text → Type 0
+abbrev pub AskForHelp : Forms → List Text → Type 0
 AskForHelp forms words = IsAmong DisplayHelp (error_kinds_in forms words) ⊎ IsAmong DisplayVersion (error_kinds_in forms words)
 
-pub record AreMistaken (forms : ValueParser) (words : List Text) : Type 0 where
+pub record AreMistaken (forms : Forms) (words : List Text) : Type 0 where
   pub mistake : ErrorKind
   pub among : IsAmong mistake (error_kinds_in forms words)
   pub not_help : mistake ≢ DisplayHelp
   pub not_version : mistake ≢ DisplayVersion
 
 -- the name of the command in words that are taken
-unfoldable pub command_in : ValueParser → List Text → Option Text
+unfoldable pub command_in : Forms → List Text → Option Text
 command_in forms words = option_map (λ p. p.0) (subcommand_of (program_app forms) words)
 
 -- a command whose words but its name are paths
 abbrev pub NamesFiles : Option Text → Type 0
 NamesFiles None = ⊥
-NamesFiles (Some name) = (name ≡ codes "param") ⊎ (name ≡ codes "schema") ⊎ (name ≡ codes "syntax") ⊎ (name ≡ codes "check") ⊎ (name ≡ codes "canon") ⊎ (name ≡ codes "same")
+NamesFiles (Some name) = (name ≡ codes "param") ⊎ (name ≡ codes "schema") ⊎ (name ≡ codes "syntax") ⊎ (name ≡ codes "check") ⊎ (name ≡ codes "canon") ⊎ (name ≡ codes "same") ⊎ (name ≡ codes "diff")
 
 -- The status is that of the words. In words that are taken another command may find a mistake, and a failure may come of any
 -- words.
 pub record IsOfWords (words : List Text) (status : ℕ) : Type 0 where
-  pub forms : ValueParser
-  pub are_forms : AreForms forms
+  pub forms : Forms
+  pub are_forms : HaveForms forms
   pub known : IsStatus status
   pub when_done : status ≡ done → AreTaken forms words ⊎ AskForHelp forms words
   pub when_refused : status ≡ refused → AreTaken forms words

@@ -6,6 +6,7 @@ ghost use Rattle.std.specs.Prelude.{Some, IfErr, IfOk};
 ghost use Rattle.clap.specs.Words.{subcommand_name_of};
 ghost use Rattle.p21.specs.Statuses.{IsOfAnswer, IsOfCommand, IsUnopened, NamesFiles};
 
+use crate::differences::run_diff;
 use crate::input::{Inputs, Kept, Source};
 use crate::lines::Lines;
 use crate::notes::{Given, Wanted, note_file, note_files, note_given, note_listing};
@@ -61,6 +62,7 @@ fn run_named<'a>(rt: &HostRuntime, name: &str, found: &ArgMatches<'a>) -> Result
         "canon" => run_canon(rt, found),
         "show" => run_show(rt, found),
         "same" => run_same(rt, found),
+        "diff" => run_diff(rt, found),
         "faults" => run_faults(rt, found),
         _ => Err(Stopped::NoCommand),
     }

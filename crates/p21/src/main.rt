@@ -13,6 +13,7 @@ ghost use Rattle.p21.specs.Statuses.{IsOfMistake, IsOfRun, IsOfWords, IsStatus};
 ghost use Rattle.p21_commands.specs.Status.{done, usage, failed};
 
 mod commands;
+mod differences;
 mod input;
 mod lines;
 mod named;

@@ -1,10 +1,11 @@
 //! Two files compared.
-use crate::run::Command::Same;
-use crate::run::Left::{Answer, Different, Refusal};
+use crate::run::Command::{Diff, Same};
+use crate::run::Left::{Answer, Differences, Different, Refusal};
 use crate::run::Row::{Compared, Leaves};
 use crate::run::{Rows, first_wrong};
 use crate::schemas::EMPTY;
 use crate::schemas::File::{self, Lines, Replaced, Text};
+use p21_commands::RowForm::{self, Json};
 
 const WITHOUT_INSTANCES: File = Text(EMPTY);
 
@@ -138,6 +139,36 @@ const ROWS: Rows = &[
     ),
     Leaves(
         Same(DANGLING),
+        WITHOUT_INSTANCES,
+        Refusal("second: refused 56 Dangling in #1\n"),
+    ),
+    // what differs, row by row
+    Leaves(
+        Diff(RowForm::Text, Lines("#2=POINT($,1.,1.);\n")),
+        Lines("#2 = POINT($, 1.0, 10.E-1);\n"),
+        Answer("same\n"),
+    ),
+    Leaves(
+        Diff(
+            RowForm::Text,
+            Lines("#1=POINT('b',1.,2.);#2=ORIGIN($,*,1.);#4=POINT($,1.,1.);"),
+        ),
+        Lines("#1=POINT('a',1.,3.);#2=POINT($,0.,1.);#3=POINT($,1.,1.);"),
+        Differences(
+            "changed #1 SHAPE.LABEL 'a' 'b'\nchanged #1 POINT.Y 3. 2.\nchanged #2 from POINT to ORIGIN\n\
+went #3 POINT\ncame #4 POINT\ndifferent: 3 changed, 1 came, 1 went\n",
+        ),
+    ),
+    Leaves(
+        Diff(Json, Lines("#1=CLOUD((),((2.,1.),(3.)),(TALLY(1)));\n")),
+        Lines("#1=CLOUD((),((2.,1.),(3.)),(TALLY(2)));\n"),
+        Differences(
+            "{\"kind\":\"changed\",\"what\":\"instance\",\"a\":1,\"b\":1,\"entity\":\"CLOUD\",\"attribute\":\"VALUES\",\"indices\":[1],\"before\":\"TALLY(2)\",\"after\":\"TALLY(1)\"}\n\
+{\"kind\":\"verdict\",\"verdict\":\"different\",\"changed\":1,\"came\":0,\"went\":0}\n",
+        ),
+    ),
+    Leaves(
+        Diff(RowForm::Text, DANGLING),
         WITHOUT_INSTANCES,
         Refusal("second: refused 56 Dangling in #1\n"),
     ),

@@ -2,8 +2,8 @@
 use crate::devices::{Behind, Full, SmallReader, SmallWriter};
 use crate::schemas::File;
 use p21_commands::{
-    Details, canon_command, check_all_command, check_command, param_command, same_command,
-    schema_command, show_command, syntax_command,
+    Details, RowForm, canon_command, check_all_command, check_command, diff_command, param_command,
+    same_command, schema_command, show_command, syntax_command,
 };
 use p21_stream::Watched;
 use p21_values::Name;
@@ -47,6 +47,8 @@ pub(crate) enum Left<'a> {
     Answer(&'a str),
     /// The answer that two files are different.
     Different,
+    /// A list of what differs in two files, and nothing else.
+    Differences(&'a str),
     /// This fault line and nothing else, with the status of a refusal.
     Refusal(&'a str),
     /// This much of an answer and this much of a fault line, with the status of a failure.
@@ -58,6 +60,7 @@ impl<'a> Left<'a> {
         match self {
             Left::Answer(answer) => (0, answer, ""),
             Left::Different => (1, "different\n", ""),
+            Left::Differences(list) => (1, list, ""),
             Left::Refusal(line) => (1, "", line),
             Left::Failure(output, faults) => (3, output, faults),
         }
@@ -226,6 +229,32 @@ pub(crate) fn same<S: Read, A: Read + Drop, B: Read + Drop>(
     run
 }
 
+/// Whether what is listed of two files leaves this.
+fn lists(
+    alloc: Global,
+    schema: &str,
+    first: &str,
+    (form, second): (RowForm, File),
+    rooms: Rooms,
+    left: Left,
+) -> bool {
+    let Some(second) = second.text(alloc) else {
+        return false;
+    };
+    let mut output = Watched::new(rooms.output(alloc));
+    let mut faults = Watched::new(rooms.faults(alloc));
+    let status = diff_command(
+        alloc,
+        &mut Watched::new(schema.as_bytes()),
+        &mut Watched::new(first.as_bytes()),
+        &mut Watched::new(second.as_bytes()),
+        form,
+        &mut output,
+        &mut faults,
+    );
+    Run::new(status, output.into_inner(), faults.into_inner()).is(left)
+}
+
 /// A command over a text or a file, with what it takes beside that.
 #[derive(Clone, Copy)]
 pub(crate) enum Command {
@@ -240,6 +269,8 @@ pub(crate) enum Command {
     Show(u64),
     /// With the second file.
     Same(File),
+    /// With the form of rows and the second file.
+    Diff(RowForm, File),
 }
 
 /// Whether two files compared leave this.
@@ -285,6 +316,7 @@ pub(crate) fn leaves_of(
         Command::Canon => canon(alloc, &mut reader, bytes, rooms).is(left),
         Command::Show(name) => show(alloc, &mut reader, bytes, name, rooms).is(left),
         Command::Same(second) => compares(alloc, declared, text, second, rooms, left),
+        Command::Diff(form, second) => { lists(alloc, declared, text, (form, second), rooms, left) }
     }
 }
 
@@ -416,7 +448,7 @@ impl Row {
     fn name(self) -> &'static str {
         match self {
             Row::Leaves(Command::Show(_), _, Left::Answer(text) | Left::Refusal(text)) => text,
-            Row::Leaves(Command::Same(file), _, _)
+            Row::Leaves(Command::Same(file) | Command::Diff(_, file), _, _)
             | Row::Leaves(_, file, _)
             | Row::Rewritten(file, _)
             | Row::Refused(file, _)

@@ -33,6 +33,8 @@ const COMMANDS: Taken = &[
     (&["p21", "same", "s", "a", "b"], "same", "S", "s"),
     (&["p21", "same", "s", "a", "b"], "same", "A", "a"),
     (&["p21", "same", "s", "a", "b"], "same", "B", "b"),
+    (&["p21", "diff", "s", "a", "b"], "diff", "A", "a"),
+    (&["p21", "diff", "s", "a", "b"], "diff", "B", "b"),
     (&["p21", "faults", "20"], "faults", "N", "20"),
     (
         &["p21", "check", "s", "f", "--progress"],
@@ -73,6 +75,12 @@ const COMMANDS: Taken = &[
         "check",
         "format",
         "text",
+    ),
+    (
+        &["p21", "diff", "--format=jsonl", "s", "a", "b"],
+        "diff",
+        "format",
+        "jsonl",
     ),
     (
         &["p21", "syntax", "--where", "f"],
@@ -255,6 +263,10 @@ const MISTAKES: NotTaken = &[
     ),
     (
         &["p21", "check", "s", "f", "--format", "JSONL"],
+        ErrorKind::InvalidValue,
+    ),
+    (
+        &["p21", "diff", "s", "a", "b", "--format", "json"],
         ErrorKind::InvalidValue,
     ),
     (

@@ -1,0 +1,345 @@
+#!/usr/bin/env python3
+"""Runs `p21 diff` over pairs of files that are made: against the lines that are worked out by hand, against `p21 same`, and against
+tools/p21-diff, which finds what differs in the canonical texts by itself. P21 names another program than ./p21.
+"""
+
+import json
+import os
+import random
+import subprocess
+import sys
+import tempfile
+
+from tooling import FRAME, ROOT, SCHEMA, file_of
+
+PROGRAM = os.environ["P21"]
+MOST_SECONDS = 120
+PAIRS = 60
+SEED = 20261130
+
+POINT = "#1=CARTESIAN_POINT('',(0.,0.,0.));"
+PERSON = "#2=PERSON('ek',$,$,$);"
+UNIT = "#3=(LENGTH_UNIT()NAMED_UNIT(*)SI_UNIT(.MILLI.,.METRE.));"
+LONG = "p" * 150
+SECTION = "DATA('{name}',('PRODUCT_MODEL'));\n{lines}\nENDSEC;"
+
+
+def sections(*named):
+    """A file with these data sections."""
+    return FRAME.format(data="\n".join(SECTION.format(name=name, lines=lines) for name, lines in named))
+
+
+# Each row: a name, the file A, the file B, and the lines that are printed; the last one is the count.
+ROWS = [
+    ("the same text", file_of(POINT), file_of(POINT), ["same"]),
+    (
+        "order and spelling don't count",
+        file_of(f"{POINT}\n{PERSON}"),
+        file_of(f"{PERSON}\n/* moved */ #01 = CARTESIAN_POINT('',(0.0,-0.,0.E5)) ;"),
+        ["same"],
+    ),
+    (
+        "an element",
+        file_of(POINT),
+        file_of(POINT, [("0.,0.,0.", "0.,0.,7.5")]),
+        ["changed #1 CARTESIAN_POINT.COORDINATES [3] 0. 7.5", "different: 1 changed, 0 came, 0 went"],
+    ),
+    (
+        "two elements",
+        file_of(POINT),
+        file_of(POINT, [("0.,0.,0.", "1.,0.,7.5")]),
+        ["changed #1 CARTESIAN_POINT.COORDINATES (0.,0.,0.) (1.,0.,7.5)", "different: 1 changed, 0 came, 0 went"],
+    ),
+    (
+        "an element that came, and one that went",
+        file_of("#1=CARTESIAN_POINT('',(0.,1.));\n#2=PERSON('a',$,$,('t','u'));"),
+        file_of("#1=CARTESIAN_POINT('',(0.,1.,2.));\n#2=PERSON('a',$,$,('u'));"),
+        [
+            "changed #1 CARTESIAN_POINT.COORDINATES [3] - 2.",
+            "changed #2 PERSON.TITLES [1] 't' -",
+            "different: 2 changed, 0 came, 0 went",
+        ],
+    ),
+    (
+        "two values of one instance",
+        file_of(PERSON),
+        file_of("#2=PERSON('jo',$,'Jo',$);"),
+        ["changed #2 PERSON.ID 'ek' 'jo'", "changed #2 PERSON.FIRST_NAME $ 'Jo'", "different: 2 changed, 0 came, 0 went"],
+    ),
+    (
+        "a value in parts",
+        file_of(UNIT),
+        file_of(UNIT, [("MILLI", "CENTI")]),
+        ["changed #3 SI_UNIT.PREFIX .MILLI. .CENTI.", "different: 1 changed, 0 came, 0 went"],
+    ),
+    (
+        "another set of entities",
+        file_of(f"#1=DIRECTION('',(0.,0.,1.));\n{UNIT}"),
+        file_of(f"{POINT}\n#3=(NAMED_UNIT(*)PLANE_ANGLE_UNIT()SI_UNIT($,.RADIAN.));"),
+        [
+            "changed #1 from DIRECTION to CARTESIAN_POINT",
+            "changed #3 from LENGTH_UNIT+NAMED_UNIT+SI_UNIT to NAMED_UNIT+PLANE_ANGLE_UNIT+SI_UNIT",
+            "different: 2 changed, 0 came, 0 went",
+        ],
+    ),
+    (
+        "instances of one file alone, told by numbers",
+        file_of(f"{POINT}\n#10=PERSON('a',$,$,$);\n#18446744073709551615=PERSON('z',$,$,$);"),
+        file_of(f"{PERSON}\n#10=PERSON('a',$,$,$);\n#9=PERSON('b',$,$,$);"),
+        [
+            "went #1 CARTESIAN_POINT",
+            "came #2 PERSON",
+            "came #9 PERSON",
+            "went #18446744073709551615 PERSON",
+            "different: 0 changed, 2 came, 2 went",
+        ],
+    ),
+    (
+        "a string with signs in it",
+        file_of("#1=PERSON('(,;''',$,$,$);"),
+        file_of("#1=PERSON('(,;''',')',$,$);"),
+        ["changed #1 PERSON.LAST_NAME $ ')'", "different: 1 changed, 0 came, 0 went"],
+    ),
+    (
+        "the time stamp",
+        file_of(POINT, [("FILE_NAME('',''", "FILE_NAME('','2024-03-15'")]),
+        file_of(POINT, [("FILE_NAME('',''", "FILE_NAME('','2024-03-16'")]),
+        ["changed header FILE_NAME.TIME_STAMP '2024-03-15' '2024-03-16'", "different: 1 changed, 0 came, 0 went"],
+    ),
+    (
+        "a further header record",
+        file_of(POINT, [("MODEL'));", "MODEL'));\n!MY_RECORD(1);")]),
+        file_of(POINT),
+        ["went header !MY_RECORD", "different: 0 changed, 0 came, 1 went"],
+    ),
+    (
+        "a parameter of a further header record, and how many there are",
+        file_of(POINT, [("MODEL'));", "MODEL'));\n!MY_RECORD(1,2);\n!OTHER(1);")]),
+        file_of(POINT, [("MODEL'));", "MODEL'));\n!MY_RECORD(1,3);\n!OTHER(1,1);")]),
+        [
+            "changed header !MY_RECORD.2 2 3",
+            "changed header !OTHER !OTHER(1); !OTHER(1,1);",
+            "different: 2 changed, 0 came, 0 went",
+        ],
+    ),
+    (
+        "sections",
+        sections(("a", POINT), ("b", "")),
+        sections(("b", POINT)),
+        [
+            "went section DATA('a',('PRODUCT_MODEL'));",
+            "moved #1 from DATA('a',('PRODUCT_MODEL')); to DATA('b',('PRODUCT_MODEL'));",
+            "different: 1 changed, 0 came, 1 went",
+        ],
+    ),
+    (
+        "sections whose spelled names rise otherwise than their lines",
+        sections(("a", POINT), ("a''b", "")),
+        sections(("a", POINT), ("a''c", "")),
+        [
+            "went section DATA('a''b',('PRODUCT_MODEL'));",
+            "came section DATA('a''c',('PRODUCT_MODEL'));",
+            "different: 0 changed, 1 came, 1 went",
+        ],
+    ),
+    (
+        "names that don't rise from section to section",
+        sections(("a", PERSON), ("b", POINT)),
+        sections(("a", ""), ("b", POINT)),
+        ["went #2 PERSON", "different: 0 changed, 0 came, 1 went"],
+    ),
+    (
+        "a long text is shortened around the difference",
+        file_of(f"#1=PERSON('a','{LONG}x{LONG}',$,$);"),
+        file_of(f"#1=PERSON('a','{LONG}y{LONG}',$,$);"),
+        [
+            f"changed #1 PERSON.LAST_NAME .. {'p' * 50}x{'p' * 49} .. .. {'p' * 50}y{'p' * 49} ..",
+            "different: 1 changed, 0 came, 0 went",
+        ],
+    ),
+]
+
+
+def run(*words):
+    """What the program writes to each stream, and its status."""
+    done = subprocess.run([PROGRAM, *words], capture_output=True, check=False, timeout=MOST_SECONDS)
+    return done.stdout.decode(), done.stderr.decode(), done.returncode
+
+
+def element_at(text, indices):
+    """The element of a canonical value at these indices, counted from 1; nothing where it isn't there."""
+    for index in indices:
+        depth, quoted, found = 0, False, [""]
+        for sign in text[1:-1]:
+            quoted ^= sign == "'"
+            depth += (sign == "(") - (sign == ")") if not quoted else 0
+            if sign == "," and depth == 0 and not quoted:
+                found.append("")
+            else:
+                found[-1] += sign
+        text = found[index - 1] if index <= len(found) else ""
+    return text
+
+
+def told_by_tool(paths):
+    """What tools/p21-diff finds: for each difference its key, with the texts of both files."""
+    done = subprocess.run(["tools/p21-diff", "--format", "json", SCHEMA, *paths], capture_output=True, check=False, timeout=MOST_SECONDS)
+    found = {}
+    for line in done.stdout.decode().splitlines():
+        row = json.loads(line)
+        if row["kind"] != "verdict":
+            found[key_of(row)] = row
+    return found
+
+
+def key_of(row):
+    """What a difference is about: attributes in capital letters, those of a header record by their keyword."""
+    attribute = row.get("attribute", "").upper()
+    attribute = "?" if attribute.isdigit() else attribute
+    entity = row.get("entity") if row["what"] == "header" else None
+    text = row.get("before", row.get("after")) if row["what"] in ("section", "header") and not attribute else None
+    return row["kind"], row["what"], row.get("a"), row.get("b"), entity if attribute else None, attribute, text
+
+
+def is_told_alike(row, other):
+    """Do the program and the tool show the same texts?"""
+    indices = row.get("indices", [])
+    for member in ("before", "after"):
+        text = other.get(member)
+        if indices and text is not None:
+            whole = element_at(text, indices)
+            if row.get(member) is not None and row[member] != whole:
+                return False
+        elif row.get("attribute") and row.get(member) != text:
+            return False
+    return True
+
+
+def against_tool(name, paths):
+    """What the program says otherwise than the tool, if anything."""
+    output, error, status = run("diff", "--format", "jsonl", SCHEMA, *paths)
+    rows = [json.loads(line) for line in output.splitlines()]
+    tool = told_by_tool(paths)
+    if error or not rows or rows[-1]["kind"] != "verdict":
+        return f"{name}: {error or output}"
+    mine = {key_of(row): row for row in rows[:-1]}
+    if len(mine) != len(rows) - 1:
+        return f"{name}: a difference is listed twice"
+    if set(mine) != set(tool):
+        return f"{name}: {sorted(map(str, set(mine) ^ set(tool)))}"
+    wrong = [key for key, row in mine.items() if not is_told_alike(row, tool[key])]
+    if wrong:
+        return f"{name}: {wrong[0]}: {mine[wrong[0]]} {tool[wrong[0]]}"
+    same = run("same", SCHEMA, *paths)
+    if (same[0] == "same\n") != (status == 0) or (status == 0) != (not mine):
+        return f"{name}: {same[0]!r}, status {status}, {len(mine)} differences"
+    counts = [sum(row["kind"] == kind for row in mine.values()) for kind in ("changed", "came", "went")]
+    return None if counts == [rows[-1][kind] for kind in ("changed", "came", "went")] else f"{name}: {counts} {rows[-1]}"
+
+
+UNITS = [
+    "(LENGTH_UNIT()NAMED_UNIT(*)SI_UNIT(.MILLI.,.METRE.))",
+    "(LENGTH_UNIT()NAMED_UNIT(*)SI_UNIT($,.METRE.))",
+    "(NAMED_UNIT(*)PLANE_ANGLE_UNIT()SI_UNIT($,.RADIAN.))",
+]
+TITLES = ["$", "('t')", "('t','u')", "('u')"]
+
+
+def record_of(chance):
+    """The record of an instance that refers to no other."""
+
+    def reals():
+        return ",".join(chance.choice(["0.", "1.", "-2.5", "1.E3", "1.E-7"]) for _ in range(3))
+
+    kind = chance.randrange(4)
+    if kind == 0:
+        return f"CARTESIAN_POINT('{chance.choice('abc')}',({reals()}))"
+    if kind == 1:
+        return f"DIRECTION('',({reals()}))"
+    if kind == 2:
+        return f"PERSON('{chance.choice('xyz')}',$,{chance.choice(['$', repr('F')])},{chance.choice(TITLES)})"
+    return chance.choice(UNITS)
+
+
+def made(chance):
+    """The instances of a file, by their names."""
+    return {name: record_of(chance) for name in chance.sample(range(1, 40), chance.randrange(1, 25))}
+
+
+def edited(lines, chance):
+    """The same instances with some edits."""
+    found, others = dict(lines), made(chance)
+    for name in list(found):
+        if chance.random() < 0.15:
+            del found[name]
+        elif chance.random() < 0.25:
+            found[name] = chance.choice(list(others.values()))
+    for name in others:
+        if chance.random() < 0.1:
+            found.setdefault(name, others[name])
+    return found
+
+
+def text_of(lines, chance, count):
+    """A file with these instances in any order, in so many data sections, or in one without a name."""
+    order = list(lines)
+    chance.shuffle(order)
+    if count == 0:
+        stamp = [("FILE_NAME('',''", f"FILE_NAME('','{chance.choice('12')}'")]
+        return file_of("\n".join(f"#{name}={lines[name]};" for name in order), stamp)
+    rows = [[name for name in order if name * 7919 % count == at] for at in range(count)]
+    return sections(*(("abc"[at], "\n".join(f"#{name}={lines[name]};" for name in row)) for at, row in enumerate(rows)))
+
+
+def main():
+    """Compares files."""
+    os.chdir(ROOT)
+    failed, passed = [], 0
+    with tempfile.TemporaryDirectory() as folder:
+        paths = [os.path.join(folder, name) for name in ("a.step", "b.step")]
+
+        def make(*texts):
+            for path, text in zip(paths, texts):
+                with open(path, "w", encoding="utf-8") as file:
+                    file.write(text)
+
+        for name, one, other, lines in ROWS:
+            make(one, other)
+            wanted = "".join(line + "\n" for line in lines), "", int(lines != ["same"])
+            found = run("diff", SCHEMA, *paths)
+            wrong = None if found == wanted else f"{name}: {found} and not {wanted}"
+            for problem in (wrong, against_tool(name, paths)):
+                passed += problem is None
+                failed += [problem] if problem else []
+        chance = random.Random(SEED)
+        for number in range(PAIRS):
+            lines = made(chance)
+            count = chance.randrange(3)
+            other = chance.choice([count, count, chance.randrange(3)])
+            make(text_of(lines, chance, count), text_of(edited(lines, chance), chance, other))
+            problem = against_tool(f"pair {number}", paths)
+            passed += problem is None
+            failed += [problem] if problem else []
+        for first, second in (("product", "product-changed"), ("product", "product-other"), ("product-changed", "product-other")):
+            problem = against_tool(f"{first} and {second}", [f"examples/{first}.step", f"examples/{second}.step"])
+            passed += problem is None
+            failed += [problem] if problem else []
+        make(POINT, POINT)
+        found = run("diff", SCHEMA, "examples/product.step", paths[1])
+        first_line = found[1].partition("\n")[0]
+        wanted = "", "second: refused 20 Unexpected at statement 1", 1
+        problem = None if (found[0], first_line, found[2]) == wanted else f"a file that is refused: {found}"
+        passed += problem is None
+        failed += [problem] if problem else []
+        for words, status in ((["--format", "xml"], 2), (["--format"], 2)):
+            found = run("diff", *words, SCHEMA, "examples/product.step", "examples/product.step")
+            passed += found[2] == status
+            failed += [] if found[2] == status else [f"{words}: {found}"]
+    for line in failed:
+        print(line)
+    print(f"{passed} passed, {len(failed)} failed")
+    return int(bool(failed))
+
+
+if __name__ == "__main__":
+    sys.exit(main())
