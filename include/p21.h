@@ -346,6 +346,250 @@ uint8_t p21_text_bytes(const p21_text *text, const uint8_t **bytes, size_t *leng
 /* Lets go of a text. */
 void p21_text_free(p21_text *text);
 
+/*
+ * The model in hand: the instances of an accepted file with their values, what a schema declares, and who refers to whom. Nothing
+ * is made for an instance or a value: what is handed out are spans of the canonical file where the library has it, each valid until the
+ * handle that it came from is freed, and read only. None of these calls takes memory, but for those that fill a handle. A call that
+ * fills an array writes as many as there is room for, and reads none of it.
+ */
+
+/* Bytes where they lie. A span of a file lives as long as the accepted file, one of a schema as long as some handle of the schema. */
+typedef struct p21_span {
+    const uint8_t *bytes;
+    size_t length;
+} p21_span;
+
+/* An instance, by its name and its statement in the canonical file, which has no line feed. */
+typedef struct p21_line {
+    uint64_t name;
+    p21_span line;
+} p21_line;
+
+/* An attribute, by the number of the entity that declares it and its number there from 0, with the value of an instance. */
+typedef struct p21_attribute {
+    uint32_t entity;
+    uint32_t index;
+    p21_span value;
+} p21_attribute;
+
+/* An instance that refers to another one, and the attribute whose value has the name of that. */
+typedef struct p21_use {
+    uint64_t user;
+    uint32_t entity;
+    uint32_t index;
+} p21_use;
+
+/*
+ * A number by its digits in ASCII: those of `whole` and of `fraction` as one number, times ten to the exponent less the length of
+ * `fraction`. A whole number has no fraction, and the exponent 0. They are spans of the value.
+ */
+typedef struct p21_digits {
+    uint8_t negative; /* 1 or 0 */
+    int32_t exponent;
+    p21_span whole;
+    p21_span fraction;
+} p21_digits;
+
+/* Who refers to whom in an accepted file. */
+typedef struct p21_users {
+    void *inside;
+} p21_users;
+
+/* What a value is. */
+enum {
+    P21_VALUE_MISSING = 0,   /* $ */
+    P21_VALUE_DERIVED = 1,   /* * */
+    P21_VALUE_WHOLE = 2,     /* 12 */
+    P21_VALUE_REAL = 3,      /* 1.5, and the value of a NUMBER */
+    P21_VALUE_TEXT = 4,      /* 'a' */
+    P21_VALUE_ITEM = 5,      /* .RED., and values of BOOLEAN and LOGICAL */
+    P21_VALUE_BITS = 6,      /* "0A" */
+    P21_VALUE_REFERENCE = 7, /* #12 */
+    P21_VALUE_AGGREGATE = 8, /* (1,2) */
+    P21_VALUE_TYPED = 9      /* LABEL('a') */
+};
+
+/* What a type is where it is used: `kind` of a p21_type. */
+enum {
+    P21_TYPE_INTEGER = 0,
+    P21_TYPE_REAL = 1,
+    P21_TYPE_NUMBER = 2,
+    P21_TYPE_BOOLEAN = 3,
+    P21_TYPE_LOGICAL = 4,
+    P21_TYPE_STRING = 5,
+    P21_TYPE_BINARY = 6,
+    P21_TYPE_ENTITY = 7,  /* `number` is that of the entity */
+    P21_TYPE_DEFINED = 8, /* `number` is that of the declared type */
+    P21_TYPE_ARRAY = 9,
+    P21_TYPE_LIST = 10,
+    P21_TYPE_SET = 11,
+    P21_TYPE_BAG = 12,
+    P21_TYPE_DERIVED = 13 /* a derived attribute, which is written as `*` */
+};
+
+/* A type where it is used. What doesn't apply is 0. */
+typedef struct p21_type {
+    uint8_t kind;
+    uint8_t optional; /* 1 where a value may be left out here */
+    uint8_t unique;   /* 1 where elements may not be equal */
+    uint8_t fixed;    /* 1 where a text or a binary has exactly so many characters or bits */
+    uint8_t bounded;  /* 1 where there is an upper bound or a width */
+    uint32_t number;  /* of the entity or the declared type */
+    uint32_t low;     /* the lower bound */
+    uint32_t high;    /* the upper bound, or the width */
+} p21_type;
+
+/* What a declared type is: `kind` of a p21_declared. */
+enum {
+    P21_DECLARED_RENAMED = 0, /* another type under its name */
+    P21_DECLARED_ITEMS = 1,   /* an enumeration */
+    P21_DECLARED_SELECT = 2   /* a select */
+};
+
+/* What a declared type is, and how many items or members it has. */
+typedef struct p21_declared {
+    uint8_t kind;
+    size_t count;
+} p21_declared;
+
+/* A member of a select: P21_TYPE_ENTITY or P21_TYPE_DEFINED, with its number. */
+typedef struct p21_member {
+    uint8_t kind;
+    uint32_t number;
+} p21_member;
+
+/* Finds the instance of this name in an accepted file, without a walk. P21_REFUSED: there is none, and nothing is written. */
+uint8_t p21_instance(const p21_session *accepted, uint64_t name, p21_line *instance);
+
+/*
+ * Finds the first instance whose name is this one or above it. P21_REFUSED: there is none. To walk over all in the order of
+ * names begin with 0, and go on with the name that was found and 1 more, unless it is UINT64_MAX.
+ */
+uint8_t p21_instance_from(const p21_session *accepted, uint64_t least, p21_line *instance);
+
+/* Finds the line with which the data section begins that an instance stands in: `DATA;` or one with its name and its schema. */
+uint8_t p21_instance_section(const p21_session *accepted, uint64_t name, p21_span *line);
+
+/*
+ * Tells the entities of an instance's set by their numbers: of each keyword in its record, and of a record with one keyword all above
+ * it too. `count` is how many were written: `room` where there may be more, which no schema's number of entities is below.
+ */
+uint8_t p21_instance_entities(const p21_session *accepted, uint64_t name, uint32_t *entities, size_t room, size_t *count);
+
+/*
+ * Tells the attributes of an instance with their values, in the order of its record. `count` is how many were written: `room` where
+ * there may be more.
+ */
+uint8_t p21_instance_values(const p21_session *accepted, uint64_t name, p21_attribute *values, size_t room, size_t *count);
+
+/* Finds the value of an instance at an attribute. P21_REFUSED: there is no such instance, or it hasn't this attribute. */
+uint8_t p21_instance_value(const p21_session *accepted, uint64_t name, uint32_t entity, uint32_t index, p21_span *value);
+
+/* What a value is, which is a span of a canonical file: a P21_VALUE_ number. What is no such span gets some answer. */
+uint8_t p21_value_kind(const uint8_t *value, size_t length);
+
+/* Writes the name of the instance that a reference names. P21_REFUSED: the value is none. */
+uint8_t p21_value_reference(const uint8_t *value, size_t length, uint64_t *name);
+
+/* Writes where the elements of an aggregate begin, for p21_next_element. */
+void p21_value_elements(const uint8_t *value, size_t length, p21_span *rest);
+
+/*
+ * Writes the first of the elements that are left, and what is left behind it. P21_REFUSED: none is left. The elements of an aggregate
+ * are walked by
+ *     p21_value_elements(value.bytes, value.length, &rest);
+ *     while (p21_next_element(rest.bytes, rest.length, &element, &rest) == P21_DONE) ..
+ */
+uint8_t p21_next_element(const uint8_t *left, size_t length, p21_span *element, p21_span *rest);
+
+/* Writes the keyword and the value of a value that stands with the keyword of its type. P21_REFUSED: the value is none such. */
+uint8_t p21_value_typed(const uint8_t *value, size_t length, p21_span *keyword, p21_span *inside);
+
+/*
+ * Tells the characters of a text by their code points. `count` is how many were written: `room` where there may be more. A text has at
+ * most as many as its span has bytes, less two.
+ */
+void p21_value_characters(const uint8_t *value, size_t length, uint32_t *characters, size_t room, size_t *count);
+
+/* Writes the exact digits of a whole number or a real. P21_REFUSED: the value is neither. */
+uint8_t p21_value_digits(const uint8_t *value, size_t length, p21_digits *digits);
+
+/*
+ * Writes the double that is nearest to a whole number or a real: a tie goes to the even one, and past the largest it is infinite.
+ * P21_REFUSED: the value is neither.
+ */
+uint8_t p21_value_double(const uint8_t *value, size_t length, double *nearest);
+
+/*
+ * Hands out who refers to whom in an accepted file: a walk over all its values, once. A reference takes 8 bytes, an instance that
+ * is used 16 and one that uses others 8. It needs the file no more. P21_FAILED: there was no memory. P21_REFUSED: there are 2^32
+ * references or more.
+ */
+uint8_t p21_users_new(const p21_session *accepted, p21_users *users);
+
+/* Lets go of who refers to whom. */
+void p21_users_free(p21_users *users);
+
+/*
+ * Tells the instances that refer to the one of this name, by rising names, each as often as it has an attribute that does. `count` is
+ * how many there are, of which as many were written as there is room for.
+ */
+uint8_t p21_users_of(const p21_users *users, uint64_t name, p21_use *uses, size_t room, size_t *count);
+
+/* Hands out another handle of the schema under which a file was accepted, which the file keeps as long as it needs it. It has no report. */
+uint8_t p21_accepted_schema(const p21_session *accepted, p21_schema *schema);
+
+/* Writes the name of a schema, and how many entities and types it declares: their numbers begin with 0. Names are in upper case. */
+uint8_t p21_schema_declares(const p21_schema *schema, p21_span *name, uint32_t *entities, uint32_t *types);
+
+/* Finds the entity of this name, which is in upper case. P21_REFUSED: there is none. */
+uint8_t p21_entity_named(const p21_schema *schema, const uint8_t *name, size_t length, uint32_t *entity);
+
+/*
+ * Writes the name of an entity, whether it is abstract, and how many attributes it declares itself. P21_REFUSED: there is none of this
+ * number.
+ */
+uint8_t p21_entity_declares(const p21_schema *schema, uint32_t entity, p21_span *name, uint8_t *is_abstract, uint32_t *attributes);
+
+/* Tells the direct supertypes of an entity, as listed. `count` is how many there are. */
+uint8_t p21_entity_supertypes(const p21_schema *schema, uint32_t entity, uint32_t *supertypes, size_t room, size_t *count);
+
+/* Tells an entity and all above it, in the order in which their attributes stand in a record. `count` is how many there are. */
+uint8_t p21_entity_order(const p21_schema *schema, uint32_t entity, uint32_t *entities, size_t room, size_t *count);
+
+/* Whether an entity is another one, or a direct or indirect subtype of it: 1 or 0. */
+uint8_t p21_entity_is(const p21_schema *schema, uint32_t entity, uint32_t other, uint8_t *is);
+
+/* Writes the name of an attribute. P21_REFUSED: there is none of this number. */
+uint8_t p21_attribute_name(const p21_schema *schema, uint32_t entity, uint32_t index, p21_span *name);
+
+/*
+ * Writes what may stand at an attribute of an instance of the entity `of`, redeclarations included: with a depth of 0 its type, with 1 that
+ * of its elements, and so on. P21_REFUSED: there is no such attribute, it isn't so deep, or redeclarations leave it open.
+ */
+uint8_t p21_attribute_type(const p21_schema *schema, uint32_t of, uint32_t entity, uint32_t index, uint32_t depth, p21_type *found);
+
+/* Finds the type of this name, which is in upper case. P21_REFUSED: there is none. */
+uint8_t p21_type_named(const p21_schema *schema, const uint8_t *name, size_t length, uint32_t *number);
+
+/* Writes the name of a type, and what it is. P21_REFUSED: there is none of this number. */
+uint8_t p21_type_declares(const p21_schema *schema, uint32_t number, p21_span *name, p21_declared *declared);
+
+/* Writes the type that a type renames, so many aggregates deep. P21_REFUSED: it renames none. */
+uint8_t p21_type_renames(const p21_schema *schema, uint32_t number, uint32_t depth, p21_type *found);
+
+/* Writes an item of an enumeration, in upper case. P21_REFUSED: there is none of this number, counted from 0. */
+uint8_t p21_type_item(const p21_schema *schema, uint32_t number, size_t at, p21_span *item);
+
+/* Writes a member of a select. P21_REFUSED: there is none of this number, counted from 0. */
+uint8_t p21_type_member(const p21_schema *schema, uint32_t number, size_t at, p21_member *member);
+
+/* Whether a select offers an entity, itself or by a select in it: 1 or 0. */
+uint8_t p21_type_offers_entity(const p21_schema *schema, uint32_t number, uint32_t entity, uint8_t *offers);
+
+/* Whether a select offers a type other than a select, itself or by a select in it: 1 or 0. */
+uint8_t p21_type_offers_type(const p21_schema *schema, uint32_t number, uint32_t other, uint8_t *offers);
+
 #ifdef __cplusplus
 }
 #endif

@@ -15,12 +15,14 @@
 
 #include <cstddef>
 #include <cstdint>
+#include <iterator>
 #include <new>
 #include <optional>
 #include <stdexcept>
 #include <string>
 #include <string_view>
 #include <utility>
+#include <vector>
 
 #include "p21.h"
 
@@ -111,6 +113,29 @@ inline void judge(std::uint8_t status, const p21_report &report = {}, const char
     if (status == P21_REFUSED) throw refused(report, which, place);
 }
 
+inline std::string_view view(const p21_span &span) noexcept { return view(span.bytes, span.length); }
+
+/* Whether a call found what it was asked for. */
+inline bool found(std::uint8_t status) {
+    if (status == P21_REFUSED) return false;
+    judge(status);
+    return true;
+}
+
+/* An array that a call fills, which is asked again with more room until all fits. */
+template <typename Element, typename Call> std::vector<Element> filled(Call call) {
+    std::vector<Element> room(16);
+    for (;;) {
+        std::size_t count = 0;
+        call(room.data(), room.size(), &count);
+        if (count < room.size()) {
+            room.resize(count);
+            return room;
+        }
+        room.resize(count < 2 * room.size() ? 2 * room.size() : count + 1);
+    }
+}
+
 /* Makes a call of C whose last parameter is a report. */
 template <typename Call, typename... Given> p21_report call(Call function, Given... given) {
     p21_report report;
@@ -170,6 +195,105 @@ private:
     std::uint8_t extent_ = P21_WHOLE;
 };
 
+/* What a value is. */
+enum class kind : std::uint8_t {
+    missing = P21_VALUE_MISSING,
+    derived = P21_VALUE_DERIVED,
+    whole = P21_VALUE_WHOLE,
+    real = P21_VALUE_REAL,
+    text = P21_VALUE_TEXT,
+    item = P21_VALUE_ITEM,
+    bits = P21_VALUE_BITS,
+    reference = P21_VALUE_REFERENCE,
+    aggregate = P21_VALUE_AGGREGATE,
+    typed = P21_VALUE_TYPED
+};
+
+/* A value of an instance, which lives as long as the accepted file. What it isn't, is std::nullopt or empty. */
+class value {
+public:
+    explicit value(p21_span span) noexcept : span_(span) {}
+
+    kind of_kind() const noexcept { return static_cast<kind>(p21_value_kind(span_.bytes, span_.length)); }
+    /* The canonical text. */
+    std::string_view view() const noexcept { return detail::view(span_); }
+    /* The instance that a reference names. */
+    std::optional<std::uint64_t> reference() const noexcept {
+        std::uint64_t name = 0;
+        if (of_kind() != kind::reference || p21_value_reference(span_.bytes, span_.length, &name) != P21_DONE) return std::nullopt;
+        return name;
+    }
+    /* The nearest double of a number. */
+    std::optional<double> nearest() const noexcept {
+        double found = 0;
+        if (!is_number() || p21_value_double(span_.bytes, span_.length, &found) != P21_DONE) return std::nullopt;
+        return found;
+    }
+    /* The exact digits of a number. */
+    std::optional<p21_digits> digits() const noexcept {
+        p21_digits found{};
+        if (!is_number() || p21_value_digits(span_.bytes, span_.length, &found) != P21_DONE) return std::nullopt;
+        return found;
+    }
+    /* The characters of a text. */
+    std::u32string characters() const {
+        if (of_kind() != kind::text) return {};
+        std::vector<std::uint32_t> room(span_.length);
+        std::size_t count = 0;
+        p21_value_characters(span_.bytes, span_.length, room.data(), room.size(), &count);
+        return {room.begin(), room.begin() + static_cast<std::ptrdiff_t>(count)};
+    }
+    /* The same in UTF-8. */
+    std::string utf8() const {
+        std::string made;
+        for (const char32_t c : characters()) {
+            if (c < 0x80) {
+                made += static_cast<char>(c);
+                continue;
+            }
+            const int more = c < 0x800 ? 1 : c < 0x10000 ? 2 : 3;
+            made += static_cast<char>((0xFF00 >> (more + 1) & 0xFF) | (c >> 6 * more));
+            for (int k = more - 1; k >= 0; k--) made += static_cast<char>(0x80 | (c >> 6 * k & 0x3F));
+        }
+        return made;
+    }
+    /* The elements of an aggregate. */
+    std::vector<value> elements() const {
+        std::vector<value> made;
+        if (of_kind() != kind::aggregate) return made;
+        p21_span rest, element;
+        p21_value_elements(span_.bytes, span_.length, &rest);
+        while (p21_next_element(rest.bytes, rest.length, &element, &rest) == P21_DONE) made.emplace_back(element);
+        return made;
+    }
+    /* The keyword and the value of one with the keyword of its type. */
+    std::optional<std::pair<std::string_view, value>> typed() const noexcept {
+        p21_span keyword, inside;
+        if (of_kind() != kind::typed || p21_value_typed(span_.bytes, span_.length, &keyword, &inside) != P21_DONE) return std::nullopt;
+        return std::make_pair(detail::view(keyword), value(inside));
+    }
+
+private:
+    bool is_number() const noexcept { return of_kind() == kind::whole || of_kind() == kind::real; }
+
+    p21_span span_;
+};
+
+/* An attribute by the entity that declares it and its number there, with the value of an instance. */
+struct attribute {
+    std::uint32_t entity;
+    std::uint32_t index;
+    p21::value value;
+};
+
+/* An entity of a schema, by its number. */
+struct entity {
+    std::uint32_t number;
+    std::string_view name;
+    bool is_abstract;
+    std::uint32_t attributes; /* how many it declares itself */
+};
+
 /* The schema that an EXPRESS text declares. */
 class schema : public detail::holder<p21_schema, p21_schema_free> {
 public:
@@ -227,6 +351,129 @@ public:
         detail::judge(status);
         return std::string(made.view());
     }
+
+    /* The name of the schema. The views that these calls answer live as long as some handle of the schema. */
+    std::string_view name() const {
+        p21_span name;
+        std::uint32_t entities = 0, types = 0;
+        detail::judge(p21_schema_declares(get(), &name, &entities, &types));
+        return detail::view(name);
+    }
+    /* The entities, in the order of their declarations. */
+    std::vector<p21::entity> entities() const {
+        p21_span name;
+        std::uint32_t count = 0, types = 0;
+        detail::judge(p21_schema_declares(get(), &name, &count, &types));
+        std::vector<p21::entity> made;
+        for (std::uint32_t number = 0; number < count; number++) made.push_back(entity(number));
+        return made;
+    }
+    /* The entity of this name, in upper case. */
+    std::optional<p21::entity> entity_named(std::string_view name) const {
+        std::uint32_t number = 0;
+        if (!detail::found(p21_entity_named(get(), detail::at(name), name.size(), &number))) return std::nullopt;
+        return entity(number);
+    }
+    /* The entity of this number; std::out_of_range where there is none. */
+    p21::entity entity(std::uint32_t number) const {
+        p21_span name;
+        std::uint8_t is_abstract = 0;
+        std::uint32_t attributes = 0;
+        if (!detail::found(p21_entity_declares(get(), number, &name, &is_abstract, &attributes))) {
+            throw std::out_of_range("p21: no such entity");
+        }
+        return {number, detail::view(name), is_abstract == 1, attributes};
+    }
+    /* The direct supertypes of an entity, by their numbers; and it and all above it, in the order of a record. */
+    std::vector<std::uint32_t> supertypes(std::uint32_t of) const {
+        return detail::filled<std::uint32_t>([&](std::uint32_t *at, std::size_t room, std::size_t *count) {
+            if (!detail::found(p21_entity_supertypes(get(), of, at, room, count))) throw std::out_of_range("p21: no such entity");
+        });
+    }
+    std::vector<std::uint32_t> order(std::uint32_t of) const {
+        return detail::filled<std::uint32_t>([&](std::uint32_t *at, std::size_t room, std::size_t *count) {
+            if (!detail::found(p21_entity_order(get(), of, at, room, count))) throw std::out_of_range("p21: no such entity");
+        });
+    }
+    /* Whether an entity is another one or a subtype of it. */
+    bool is(std::uint32_t entity, std::uint32_t other) const {
+        std::uint8_t answer = 0;
+        if (!detail::found(p21_entity_is(get(), entity, other, &answer))) throw std::out_of_range("p21: no such entity");
+        return answer == 1;
+    }
+    /* The name of an attribute. */
+    std::string_view attribute_name(std::uint32_t entity, std::uint32_t index) const {
+        p21_span name;
+        if (!detail::found(p21_attribute_name(get(), entity, index, &name))) throw std::out_of_range("p21: no such attribute");
+        return detail::view(name);
+    }
+    /* What may stand at an attribute of an instance of an entity, so many aggregates deep. */
+    std::optional<p21_type> attribute_type(std::uint32_t of, std::uint32_t entity, std::uint32_t index, std::uint32_t depth = 0) const {
+        p21_type type{};
+        if (!detail::found(p21_attribute_type(get(), of, entity, index, depth, &type))) return std::nullopt;
+        return type;
+    }
+
+private:
+    friend class accepted;
+    schema() noexcept = default;
+};
+
+/* Who refers to whom in an accepted file, which it needs no more. */
+class users : public detail::holder<p21_users, p21_users_free> {
+public:
+    /* The instances that refer to the one of this name, with the attribute. */
+    std::vector<p21_use> of(std::uint64_t name) const {
+        return detail::filled<p21_use>([&](p21_use *at, std::size_t room, std::size_t *count) {
+            detail::judge(p21_users_of(get(), name, at, room, count));
+        });
+    }
+
+private:
+    friend class accepted;
+    users() noexcept = default;
+};
+
+/* An instance of an accepted file, for as long as that lives and isn't moved. */
+class instance {
+public:
+    std::uint64_t name() const noexcept { return line_.name; }
+    /* Its canonical statement. */
+    std::string_view line() const noexcept { return detail::view(line_.line); }
+    /* The line with which its data section begins. */
+    std::string_view section() const {
+        p21_span line;
+        detail::judge(p21_instance_section(of_, line_.name, &line));
+        return detail::view(line);
+    }
+    /* The entities of its set, by their numbers. */
+    std::vector<std::uint32_t> entities() const {
+        return detail::filled<std::uint32_t>([&](std::uint32_t *at, std::size_t room, std::size_t *count) {
+            detail::judge(p21_instance_entities(of_, line_.name, at, room, count));
+        });
+    }
+    /* The attributes with their values, in the order of its record. */
+    std::vector<attribute> attributes() const {
+        const auto found = detail::filled<p21_attribute>([&](p21_attribute *at, std::size_t room, std::size_t *count) {
+            detail::judge(p21_instance_values(of_, line_.name, at, room, count));
+        });
+        std::vector<attribute> made;
+        for (const p21_attribute &it : found) made.push_back({it.entity, it.index, p21::value(it.value)});
+        return made;
+    }
+    /* The value at an attribute, if it has it. */
+    std::optional<p21::value> value(std::uint32_t entity, std::uint32_t index) const {
+        p21_span found;
+        if (!detail::found(p21_instance_value(of_, line_.name, entity, index, &found))) return std::nullopt;
+        return p21::value(found);
+    }
+
+private:
+    friend class accepted;
+    instance(const p21_session *of, p21_line line) noexcept : of_(of), line_(line) {}
+
+    const p21_session *of_;
+    p21_line line_;
 };
 
 /* What a well-formed file says of itself. */
@@ -278,6 +525,66 @@ public:
     }
     /* Has `read` begin again. */
     void rewind() noexcept { cursor_ = P21_START; }
+
+    /* The instance of this name, if there is one; and the first whose name is this one or above it. */
+    std::optional<p21::instance> instance(std::uint64_t name) const {
+        p21_line line;
+        if (!detail::found(p21_instance(get(), name, &line))) return std::nullopt;
+        return p21::instance(get(), line);
+    }
+    std::optional<p21::instance> instance_from(std::uint64_t least) const {
+        p21_line line;
+        if (!detail::found(p21_instance_from(get(), least, &line))) return std::nullopt;
+        return p21::instance(get(), line);
+    }
+
+    /* The instances in the order of their names: for (const p21::instance &it : file) .. */
+    class iterator {
+    public:
+        using iterator_category = std::input_iterator_tag;
+        using value_type = p21::instance;
+        using difference_type = std::ptrdiff_t;
+        using pointer = const p21::instance *;
+        using reference = const p21::instance &;
+
+        reference operator*() const noexcept { return *at_; }
+        pointer operator->() const noexcept { return &*at_; }
+        iterator &operator++() {
+            at_ = at_->name() == UINT64_MAX ? std::nullopt : of_->instance_from(at_->name() + 1);
+            return *this;
+        }
+        iterator operator++(int) {
+            iterator before = *this;
+            ++*this;
+            return before;
+        }
+        friend bool operator==(const iterator &a, const iterator &b) noexcept {
+            return a.at_.has_value() == b.at_.has_value() && (!a.at_ || a.at_->name() == b.at_->name());
+        }
+        friend bool operator!=(const iterator &a, const iterator &b) noexcept { return !(a == b); }
+
+    private:
+        friend class accepted;
+        iterator(const accepted *of, std::optional<p21::instance> at) : of_(of), at_(std::move(at)) {}
+
+        const accepted *of_;
+        std::optional<p21::instance> at_;
+    };
+    iterator begin() const { return {this, instance_from(0)}; }
+    iterator end() const { return {this, std::nullopt}; }
+
+    /* The schema under which the file was accepted. */
+    p21::schema schema() const {
+        p21::schema made;
+        detail::judge(p21_accepted_schema(get(), made.get()));
+        return made;
+    }
+    /* Who refers to whom: a walk over all values, once. */
+    p21::users users() const {
+        p21::users made;
+        detail::judge(p21_users_new(get(), made.get()));
+        return made;
+    }
 
 private:
     friend class session;

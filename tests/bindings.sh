@@ -169,15 +169,30 @@ part 'the program that leaves no block is compiled over the shared library' \
     compile "$here/shared_blocks" "$blocks" "$counting" "-Wl,-rpath,$here" "$shared" "-Wl,-rpath,$prefix/lib"
 part 'no block is left by the static library' says 'no block is left' "$here/static_blocks" "$root/examples"
 part 'no block is left by the shared library' says 'no block is left' "$here/shared_blocks" "$root/examples"
+# The model in hand: its calls, and all that it tells of files by the plain reading.
+model_calls=$root/tests/bindings/model_calls.c
+model=$root/tests/bindings/model.c
+part 'the program over the model is compiled over the static library' \
+    compile "$here/static_model" "$model_calls" "$counting" "-Wl,-rpath,$here" "$static" -pthread
+part 'the program over the model is compiled over the shared library' \
+    compile "$here/shared_model" "$model_calls" "$counting" "-Wl,-rpath,$here" "$shared" "-Wl,-rpath,$prefix/lib" -pthread
+part 'the model over the static library' says 'the model is as it must be' "$here/static_model"
+part 'the model over the shared library' says 'the model is as it must be' "$here/shared_model"
+part 'the program that prints a model is compiled' statically "$here/model" "$model"
+part 'all that a model tells' "$python" "$root/tests/bindings/model.py" --program "$here/model"
+if command -v valgrind > /dev/null; then
+    part 'all that a model tells under valgrind' says 'status 0' sh -c 'valgrind -q --error-exitcode=9 --leak-check=full --errors-for-leak-kinds=all "$@" > /dev/null; echo "status $?"' sh \
+        "$here/model" "$root/examples/product.exp" "$root/examples/product.step"
+fi
 part 'the program over the structs is compiled' statically "$here/layout" "$layout"
 part 'the structs stand as the header has them' says 'all stands where the header has it' "$here/layout" "$root/examples" "$version"
 
 # The fields of a struct that C and the library share, with their types and in their order: of the header, and of the sources.
 fields_in_c() {
-    sed -n "/^typedef struct $1 {/,/^}/s/^    \(uint[0-9]*_t\|size_t\) \([a-z]*\(\[[0-9]*\]\)\{0,1\}\);.*/\2 \1/p" "$root/include/p21.h"
+    sed -n "/^typedef struct $1 {/,/^}/s/^    \([a-z0-9_ ]*[ *]\)\([a-z]*\(\[[0-9]*\]\)\{0,1\}\);.*/\2 \1/p" "$root/include/p21.h" | sed 's/ *$//'
 }
 fields_in_source() {
-    sed -n "/^#\[repr(C)\]/,/^}/{/pub struct $2 {/,/^}/{s/^    pub \([a-z]*\): u\([0-9]*\),\$/\1 uint\2_t/p;s/^    pub \([a-z]*\): usize,\$/\1 size_t/p;s/^    pub \([a-z]*\): \[u\([0-9]*\); \([0-9]*\)\],\$/\1[\3] uint\2_t/p}}" "$root/crates/$1"
+    sed -n "/^#\[repr(C)\]/,/^}/{/pub struct $2 {/,/^}/{s/^    pub \([a-z]*\): u\([0-9]*\),\$/\1 uint\2_t/p;s/^    pub \([a-z]*\): i\([0-9]*\),\$/\1 int\2_t/p;s/^    pub \([a-z]*\): usize,\$/\1 size_t/p;s/^    pub \([a-z]*\): Span,\$/\1 p21_span/p;s/^    pub \([a-z]*\): \*const u8,\$/\1 const uint8_t */p;s/^    pub \([a-z]*\): \[u\([0-9]*\); \([0-9]*\)\],\$/\1[\3] uint\2_t/p}}" "$root/crates/$1"
 }
 fields_in_c p21_report > "$here/declared"
 fields_in_source p21_c/src/answers.rt Report > "$here/found"
@@ -191,6 +206,20 @@ part 'the fields of a version' same_lists "$here/declared" "$here/found"
 fields_in_c p21_cursor > "$here/declared"
 fields_in_source p21_stream_output/src/cursor.rt Cursor > "$here/found"
 part 'the fields of a cursor' same_lists "$here/declared" "$here/found"
+while read -r struct file name; do
+    fields_in_c "p21_$struct" > "$here/declared"
+    fields_in_source "p21_c/src/$file.rt" "$name" > "$here/found"
+    part "the fields of p21_$struct" same_lists "$here/declared" "$here/found"
+done << 'STRUCTS'
+span spans Span
+line model_instances InstanceLine
+attribute model_instances AttributeValue
+use model_users UseOf
+digits model_values NumberDigits
+type model_types TypeParts
+declared model_types Declared
+member model_types Member
+STRUCTS
 
 # C++: the program over each class of p21.hpp, by each compiler, and with its sanitizers.
 cpp() {
@@ -260,6 +289,10 @@ fi
 # page LANGUAGE NUMBER: one of the programs of docs/LIBRARY.md.
 page() {
     awk -v language="$1" -v number="$2" '$0 == "```" language { found++; on = found == number; next } /^```$/ { on = 0 } on' "$root/docs/LIBRARY.md"
+}
+# below TITLE LANGUAGE: the first program below a title of that page.
+below() {
+    awk -v title="### $1" -v language="$2" '$0 == title { found = 1 } found && $0 == "```" language { on = 1; next } on && /^```$/ { exit } on' "$root/docs/LIBRARY.md"
 }
 receive() {
     "$here/receive" "$root/examples/product.exp" < "$root/examples/product.step"
@@ -341,8 +374,14 @@ if command -v rt > /dev/null; then
             says 'accepted, instances 128' rt try -- product.exp product.step
     )
     part 'the program of docs/LIBRARY.md in Rattle' in_rattle
+    over_model() (
+        sed -i 's/^mine: .*/mine: p21_model p21_express_graph p21_stream/' "$here/clone/crates.txt" &&
+            below 'What do the instances of a file say?' rust > "$here/clone/crates/mine/src/main.rt" && cd "$here/clone/crates/mine" &&
+            says 'used by #16 PRODUCT_DEFINITION.OF_PRODUCT' rt try -- product.exp product.step 15
+    )
+    part 'the program of docs/LIBRARY.md in Rattle over a model' over_model
 else
-    leave_out 'the program of docs/LIBRARY.md in Rattle' 'rt is not in PATH'
+    leave_out 'the programs of docs/LIBRARY.md in Rattle' 'rt is not in PATH'
 fi
 
 # The Python package, and a program of a user of it.

@@ -56,6 +56,7 @@ static_assert(!std::is_copy_constructible_v<p21::text> && std::is_nothrow_move_c
 static_assert(!std::is_copy_constructible_v<p21::session> && std::is_nothrow_move_constructible_v<p21::session>);
 static_assert(!std::is_copy_constructible_v<p21::refusals> && std::is_nothrow_move_constructible_v<p21::refusals>);
 static_assert(!std::is_copy_constructible_v<p21::accepted> && std::is_nothrow_move_constructible_v<p21::accepted>);
+static_assert(!std::is_copy_constructible_v<p21::users> && std::is_nothrow_move_constructible_v<p21::users>);
 static_assert(std::is_copy_constructible_v<p21::schema> && std::is_nothrow_move_constructible_v<p21::schema>);
 
 static void test_files(const p21::schema &schema, const std::string &folder) {
@@ -187,6 +188,88 @@ static void test_threads(const p21::schema &schema, const std::string &product, 
     for (int count : right) judge(count == 20, "what a thread finds");
 }
 
+/* Whether a call throws std::out_of_range. */
+static bool is_out_of_range(const std::function<void()> &call) {
+    try {
+        call();
+    } catch (const std::out_of_range &) {
+        return true;
+    }
+    return false;
+}
+
+/* The values of an instance, and what they hold. */
+static void test_values(const p21::accepted &file) {
+    const p21::schema schema = file.schema();
+    const std::uint32_t product = schema.entity_named("PRODUCT")->number, person = schema.entity_named("PERSON")->number;
+    const std::optional<p21::instance> found = file.instance(15);
+    judge(found && found->name() == 15 && found->line().substr(0, 12) == "#15=PRODUCT(" && found->section() == "DATA;", "an instance by its name");
+    judge(found->entities() == std::vector<std::uint32_t>{product}, "the entities of its set");
+    const std::vector<p21::attribute> values = found->attributes();
+    judge(values.size() == 4 && schema.attribute_name(values[1].entity, values[1].index) == "NAME", "its attributes");
+    judge(values[1].value.of_kind() == p21::kind::text && values[1].value.view() == "'Block'" && values[1].value.utf8() == "Block", "a text");
+    judge(values[3].value.of_kind() == p21::kind::aggregate && values[3].value.elements().size() == 2, "an aggregate");
+    judge(values[3].value.elements()[0].reference() == 12 && !values[1].value.reference() && !values[3].value.nearest(), "a reference");
+    judge(found->value(product, 0)->view() == "'B-100'" && !found->value(person, 0) && !found->value(product, 4), "a value at an attribute");
+    judge(file.instance(8)->value(person, 1)->utf8() == "Kr\xC3\xBCger" && file.instance(8)->value(person, 1)->characters() == U"Kr\u00FCger", "characters");
+    judge(file.instance(9)->value(person, 1)->utf8() == "O'Neill" && file.instance(9)->value(person, 2)->of_kind() == p21::kind::missing, "an apostrophe, and no value");
+    const std::vector<p21::value> coordinates = file.instance(24)->attributes()[1].value.elements();
+    const std::optional<p21_digits> digits = coordinates[2].digits();
+    judge(coordinates.size() == 3 && coordinates[2].nearest() == 12.5 && digits && digits->exponent == 1 && digits->negative == 0, "a real");
+    judge(values[0].value.elements().empty() && values[0].value.characters().size() == 5 && !values[0].value.typed() && !values[0].value.digits(), "what a text isn't");
+    judge(!file.instance(999) && !file.instance_from(999), "no such instance");
+}
+
+/* What a schema declares. */
+static void test_declared(const p21::schema &schema) {
+    const std::optional<p21::entity> point = schema.entity_named("CARTESIAN_POINT"), item = schema.entity_named("GEOMETRIC_REPRESENTATION_ITEM");
+    judge(schema.name() == "PRODUCT_MODEL" && !schema.entity_named("cartesian_point") && point && item, "entities by their names");
+    judge(schema.entities().size() == 39 && schema.entities()[point->number].name == "CARTESIAN_POINT" && point->attributes == 1, "all entities");
+    judge(schema.supertypes(point->number) == std::vector<std::uint32_t>{item->number}, "supertypes");
+    judge(schema.order(point->number).back() == point->number && schema.order(point->number).size() > 2, "the order of a record");
+    judge(schema.is(point->number, item->number) && !schema.is(item->number, point->number), "a subtype");
+    judge(schema.attribute_name(point->number, 0) == "COORDINATES", "an attribute");
+    const std::optional<p21_type> type = schema.attribute_type(point->number, point->number, 0), inside = schema.attribute_type(point->number, point->number, 0, 1);
+    judge(type && type->kind == P21_TYPE_LIST && type->low == 1 && type->high == 3 && inside && inside->kind == P21_TYPE_DEFINED, "a type");
+    judge(!schema.attribute_type(point->number, point->number, 0, 2) && !schema.attribute_type(point->number, point->number, 1), "none so deep, and none such");
+    judge(is_out_of_range([&] { schema.entity(UINT32_MAX); }) && is_out_of_range([&] { schema.order(UINT32_MAX); }), "no such entity");
+    judge(is_out_of_range([&] { schema.attribute_name(point->number, 1); }) && is_out_of_range([&] { schema.supertypes(UINT32_MAX); }), "no such attribute");
+}
+
+/* The instances of an accepted file in their order, and who refers to whom; by several threads at once. */
+static void test_models(const p21::schema &given, const std::string &product) {
+    p21::session session(given);
+    session.feed(product);
+    const p21::accepted file = session.finish();
+    const p21::users users = file.users();
+    test_values(file);
+    test_declared(file.schema());
+    std::vector<std::thread> threads;
+    std::vector<int> right(8);
+    for (int &count : right) {
+        threads.emplace_back([&] {
+            std::uint64_t last = 0;
+            for (const p21::instance &it : file) {
+                count += it.name() > last && it.line() == file.line(it.name())->view();
+                last = it.name();
+                for (const p21::attribute &attribute : it.attributes()) {
+                    if (const auto name = attribute.value.reference()) {
+                        bool is_told = false;
+                        for (const p21_use &use : users.of(*name)) is_told = is_told || (use.user == it.name() && use.entity == attribute.entity && use.index == attribute.index);
+                        count += is_told ? 0 : -1000;
+                    }
+                }
+            }
+        });
+    }
+    for (std::thread &thread : threads) thread.join();
+    for (int count : right) judge(count == 128, "the instances of a file in a thread");
+    const std::vector<p21_use> of_product = users.of(15);
+    judge(of_product.size() == 1 && of_product[0].user == 16 && users.of(999).empty(), "who refers to an instance");
+    p21::accepted::iterator at = file.begin();
+    judge(at->name() == 1 && (at++)->name() == 1 && at->name() == 2 && at != file.end() && file.end() == file.end(), "an iterator");
+}
+
 int main(int count, char **words) {
     if (count != 2) {
         std::cerr << "usage: classes FOLDER\n";
@@ -200,6 +283,7 @@ int main(int count, char **words) {
     test_schemas(schema, product);
     test_sessions(schema, product);
     test_threads(schema, product, other);
+    test_models(schema, product);
     judge(p21::version() == P21_VERSION, "the version of the header and of the library");
     std::cout << (wrong ? "something is wrong" : "all is as it must be") << '\n';
     return wrong;

@@ -2,3 +2,5 @@ pub mod Owning
 pub mod Answering
 pub mod Lending
 pub mod Telling
+pub mod Filling
+pub mod Modelled

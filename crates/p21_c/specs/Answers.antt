@@ -4,7 +4,7 @@ use Rattle.std.specs.Global.{Vec}
 use Rattle.std.specs.Vec.{vec_ptr}
 use denote.RawPtr.{Ptr}
 use Rattle.p21_spec_basics.specs.Limits.{usual}
-use Rattle.p21_c.specs.Contents.{HoldsText, handed_content, list_in, output_in, schema_in, session_in}
+use Rattle.p21_c.specs.Contents.{HoldsText, handed_content, kept_in, list_in, output_in, schema_in, session_in}
 use Rattle.p21_c.specs.declared.contents.Content.{Content}
 use Rattle.p21_spec_laws.specs.CanonicalLaws.{MeanTheSame}
 use Rattle.p21_express.specs.ReadSchema.{SchemaRead}
@@ -121,11 +121,11 @@ TellsAnswer IsAnswer old new = (same : Option Bool) × IsAnswer same × (new ≡
 
 -- ---- sessions
 
--- a session that has taken nothing; or nothing
+-- a session that has taken nothing, with its schema; or nothing
 abbrev pub MakesSession : Option Schema → ℕ → Option Content → Type 0
 MakesSession None status made = (made ≡ None) × (status ≡ misused)
 MakesSession (Some s) status made =
-    ((held : SessionHeld) × (session_in made ≡ Some held) × Stands held nothing_taken × (schema_of held ≡ s) × (limits_of held ≡ usual) × (status ≡ done))
+    ((held : SessionHeld) × (session_in made ≡ Some held) × Stands held nothing_taken × (schema_of held ≡ s) × (limits_of held ≡ usual) × (kept_in made ≡ Some s) × (status ≡ done))
     ⊎ ((made ≡ None) × (status ≡ failed))
 
 -- what a piece gives: all that a session's own contract says of it
@@ -145,7 +145,7 @@ feed_answer (Err refusal) = refused_answer file_subject refusal
 abbrev pub Feeds : Option SessionHeld → List ℕ → Answer → Option Content → Option Content → Type 0
 Feeds None piece answer old new = (new ≡ old) × (answer ≡ misused_answer)
 Feeds (Some held) piece answer old new =
-    (result : Result (Unit {0}) Refusal) × (after : SessionHeld) × IsFed held piece result after × (session_in new ≡ Some after) × (answer ≡ feed_answer result)
+    (result : Result (Unit {0}) Refusal) × (after : SessionHeld) × IsFed held piece result after × (session_in new ≡ Some after) × (kept_in new ≡ kept_in old) × (answer ≡ feed_answer result)
 
 -- what the end gives: all that a session's own contract says of it
 pub record IsFinished (old : SessionHeld) (result : Result Output Refusal) : Type 0 where
@@ -153,11 +153,11 @@ pub record IsFinished (old : SessionHeld) (result : Result Output Refusal) : Typ
   pub again : RefusesAtEnd old result
   pub kind : IfErr result (λ refusal. IsOfBytes refusal.fault)
 
--- the end: what is held is the accepted file, or nothing any more
+-- the end: what is held is the accepted file with the schema of its session, or nothing any more
 abbrev pub Finishes : Option SessionHeld → Answer → Option Content → Option Content → Type 0
 Finishes None answer old new = (new ≡ old) × (answer ≡ misused_answer)
 Finishes (Some held) answer old new =
-    ((output : Output) × IsFinished held (Ok output) × (output_in new ≡ Some output) × (answer ≡ accepted_answer output))
+    ((output : Output) × IsFinished held (Ok output) × (output_in new ≡ Some output) × (kept_in new ≡ kept_in old) × (answer ≡ accepted_answer output))
     ⊎ ((refusal : Refusal) × IsFinished held (Err refusal) × (new ≡ None) × (answer ≡ refused_answer file_subject refusal))
 
 -- where the refusal stands that the session answered

@@ -1,5 +1,5 @@
 //! What a call answers: a status, and a report.
-ghost use Rattle.std.specs.Prelude.{◌≡◌};
+ghost use Rattle.std.specs.Prelude.{◌≡◌, cond};
 ghost use Rattle.p21_c.specs.Reports.{absent_form_of, absent_number_of, absent_of, absent_token_of, accepted_answer, counted_answer, done_answer, misused_answer, no_memory_answer, location_of, location_number_of, quiet_answer, refused_answer, schema_refused_answer, schema_status_of, status_of};
 
 use p21_express_outline::SchemaFault;
@@ -147,6 +147,16 @@ pub fn schema_refused(fault: SchemaFault) -> Answer
     answer.report.subject = SCHEMA;
     answer.report.number = fault.number();
     answer
+}
+
+/// A truth, as C has it.
+pub(crate) fn flag(yes: bool) -> u8
+    ensures { result ≡ cond yes 1 0 }
+{
+    match yes {
+        true => 1,
+        false => 0,
+    }
 }
 
 /// The status of a refusal.

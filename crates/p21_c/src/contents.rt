@@ -4,19 +4,21 @@ ghost use Rattle.p21_c.specs.Contents.{TakesSession, boxed_content};
 ghost use Rattle.p21_c.specs.declared.contents.Content.TheVariants as content;
 
 use p21_express_tables::Schema;
+use p21_model::Users;
 use p21_stream::{LocatedSurvey, SharedSession};
 use p21_stream_output::Accepted;
 use std::alloc::Global;
 use std::sync::Arc;
 
-/// What a handle holds. While it is used, `Nothing` stands for it.
+/// What a handle holds: a session and an accepted file with their schema. While it is used, `Nothing` stands for it.
 #[derive(Drop)]
 pub enum Content {
     Schema(Arc<Schema, Global>),
-    Session(SharedSession),
-    Accepted(Accepted),
+    Session(SharedSession, Arc<Schema, Global>),
+    Accepted(Accepted, Arc<Schema, Global>),
     Text(Vec<u8>),
     List(LocatedSurvey),
+    Users(Users),
     Nothing,
 }
 
@@ -41,9 +43,9 @@ fn replaced(mut held: Box<Content, Global>, content: Content) -> Box<Content, Gl
     held
 }
 
-/// A session, and the block that it leaves; or what was held, where that is no session.
+/// A session with its schema, and the block that they leave; or what was held, where that is no session.
 pub(crate) enum Taken {
-    Session(SharedSession, Box<Content, Global>),
+    Session(SharedSession, Arc<Schema, Global>, Box<Content, Global>),
     Other(Holding),
 }
 
@@ -55,21 +57,29 @@ pub(crate) fn take_session(held: Holding) -> Taken
         return Taken::Other(None);
     };
     match Box::replace(&mut place, Content::Nothing) {
-        Content::Session(session) => Taken::Session(session, place),
+        Content::Session(session, schema) => Taken::Session(session, schema, place),
         content => Taken::Other(Some(replaced(place, content))),
     }
 }
 
 /// Puts a session into a block.
-pub(crate) fn put_session(place: Box<Content, Global>, session: SharedSession) -> Holding
-    ensures { boxed_content result ≡ Some (content.Session session) }
+pub(crate) fn put_session(
+    place: Box<Content, Global>,
+    session: SharedSession,
+    schema: Arc<Schema, Global>,
+) -> Holding
+    ensures { boxed_content result ≡ Some (content.Session session schema) }
 {
-    Some(replaced(place, Content::Session(session)))
+    Some(replaced(place, Content::Session(session, schema)))
 }
 
 /// Puts an accepted file into a block.
-pub(crate) fn put_accepted(place: Box<Content, Global>, accepted: Accepted) -> Holding
-    ensures { boxed_content result ≡ Some (content.Accepted accepted) }
+pub(crate) fn put_accepted(
+    place: Box<Content, Global>,
+    accepted: Accepted,
+    schema: Arc<Schema, Global>,
+) -> Holding
+    ensures { boxed_content result ≡ Some (content.Accepted accepted schema) }
 {
-    Some(replaced(place, Content::Accepted(accepted)))
+    Some(replaced(place, Content::Accepted(accepted, schema)))
 }

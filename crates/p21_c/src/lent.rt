@@ -36,12 +36,14 @@
 //! the prover's search gave up on the whole of them. In Python each call takes a handle of its own, under a lock for
 //! that moment: any thread may close a schema while another one is in a call with it, and that must do no harm.
 ghost use Rattle.std.specs.Prelude.{◌≡◌, Option, None, Some, MatchOption};
-ghost use Rattle.p21_c.specs.Contents.{list_in, output_in, schema_in, session_in, text_in};
+ghost use Rattle.p21_c.specs.Contents.{list_in, model_in, output_in, schema_in, session_in, text_in, users_in};
 ghost use Rattle.p21_c.specs.Owned.{held_code};
 ghost use Rattle.p21_c.specs.declared.contents.Content.{Content};
+ghost use Rattle.p21_stream_output.specs.Output.{Output};
 
 use crate::contents::Content;
 use p21_express_tables::Schema;
+use p21_model::{AcceptedModel, Users};
 use p21_stream::{LocatedSurvey, SharedSession};
 use p21_stream_output::Accepted;
 use std::alloc::Global;
@@ -104,7 +106,7 @@ impl Lent {
         ensures { MatchOption result (session_in self.now.value ≡ None) (λ session. session_in self.now.value ≡ Some session.now) }
     {
         match self.content() {
-            Some(Content::Session(session)) => Some(session),
+            Some(Content::Session(session, _)) => Some(session),
             _ => None,
         }
     }
@@ -114,7 +116,7 @@ impl Lent {
         ensures { MatchOption result (output_in self.now.value ≡ None) (λ accepted. output_in self.now.value ≡ Some accepted.now) }
     {
         match self.content() {
-            Some(Content::Accepted(accepted)) => Some(accepted),
+            Some(Content::Accepted(accepted, _)) => Some(accepted),
             _ => None,
         }
     }
@@ -135,6 +137,39 @@ impl Lent {
     {
         match self.content() {
             Some(Content::List(list)) => Some(list),
+            _ => None,
+        }
+    }
+
+    /// The accepted file that is held, with its schema.
+    pub(crate) fn model(&self) -> Option<AcceptedModel<'_>>
+        ensures { MatchOption result (model_in self.now.value ≡ None) (λ model. model_in self.now.value ≡ Some (model.accepted.now, model.schema.now)) }
+    {
+        match self.content() {
+            Some(Content::Accepted(accepted, shared)) => {
+                let schema: &Schema = shared;
+                Some(AcceptedModel { schema, accepted })
+            }
+            _ => None,
+        }
+    }
+
+    /// The schema of the accepted file that is held.
+    pub(crate) fn schema_of_file(&self) -> Option<&Arc<Schema, Global>>
+        ensures { MatchOption result (model_in self.now.value ≡ None) (λ shared. (output : Output) × (model_in self.now.value ≡ Some (output, shared.now.value))) }
+    {
+        match self.content() {
+            Some(Content::Accepted(_, schema)) => Some(schema),
+            _ => None,
+        }
+    }
+
+    /// The table of users that is held.
+    pub(crate) fn users(&self) -> Option<&Users>
+        ensures { MatchOption result (users_in self.now.value ≡ None) (λ users. users_in self.now.value ≡ Some users.now) }
+    {
+        match self.content() {
+            Some(Content::Users(users)) => Some(users),
             _ => None,
         }
     }

@@ -7,8 +7,12 @@
 //! that changes it takes the content out, and puts it back (`src/handles`). A call that only reads takes a `Lent`, the
 //! same pointer, and reads the content where it lies (`src/lent`). The fields of a handle, and of a box that is taken
 //! apart, are in sight in `src/components` alone, and neither type may be let go: so no other function can lose a
-//! block. `proofs/components` are proofs by hand over `proofs/Owning`, as `proofs/lent` is over `proofs/Lending`, and
-//! all else is proved over what they promise.
+//! block. `proofs/components` are proofs by hand over `proofs/Owning`, as `proofs/lent` is over `proofs/Lending` and `proofs/spans` of
+//! where bytes lie, and all else is proved over what they promise.
+//!
+//! The calls over an accepted file (`src/model_instances`, `src/model_values`, `src/model_users`) and over its schema (`src/model_schema`,
+//! `src/model_types`) hand out bytes where they lie (`src/spans`), and lists in room that C gives, one element after the other
+//! (`AreFirst` of `specs/Filled`, `proofs/Filling`).
 #![tactic(auto)]
 
 mod accepting;
@@ -19,10 +23,16 @@ mod files;
 mod handles;
 mod lent;
 mod lists;
+mod model_instances;
+mod model_schema;
+mod model_types;
+mod model_users;
+mod model_values;
 mod names;
 mod places;
 mod schemas;
 mod sessions;
+mod spans;
 mod syntax;
 mod texts;
 mod versions;

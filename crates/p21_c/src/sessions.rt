@@ -134,11 +134,14 @@ fn begin(alloc: Global, schema: &Lent) -> (Holding, u8)
     let Some(schema) = schema.schema() else {
         return (None, MISUSED);
     };
+    let Ok(kept) = Arc::try_clone(schema) else {
+        return (None, FAILED);
+    };
     let Ok(schema) = Arc::try_clone(schema) else {
         return (None, FAILED);
     };
     let session = SharedSession::new(alloc, schema, Limits::usual());
-    match boxed(alloc, Content::Session(session)) {
+    match boxed(alloc, Content::Session(session, kept)) {
         Some(content) => (Some(content), DONE),
         None => (None, FAILED),
     }
@@ -148,12 +151,12 @@ fn begin(alloc: Global, schema: &Lent) -> (Holding, u8)
 fn feed(held: Holding, piece: &[u8]) -> (Holding, Answer)
     ensures { Feeds (session_in (boxed_content held)) piece.now result.1 (boxed_content held) (boxed_content result.0) }
 {
-    let (mut session, place) = match take_session(held) {
-        Taken::Session(session, place) => (session, place),
+    let (mut session, schema, place) = match take_session(held) {
+        Taken::Session(session, schema, place) => (session, schema, place),
         Taken::Other(held) => return (held, misused()),
     };
     let answer = answer_to_feed(session.feed(piece));
-    (put_session(place, session), answer)
+    (put_session(place, session, schema), answer)
 }
 
 /// What is answered to a piece.
@@ -170,8 +173,8 @@ fn answer_to_feed(taken: Result<(), Refusal>) -> Answer
 fn finish(held: Holding) -> (Holding, Placed)
     ensures { Finishes (session_in (boxed_content held)) result.1.answer (boxed_content held) (boxed_content result.0) }
 {
-    let (session, block) = match take_session(held) {
-        Taken::Session(session, block) => (session, block),
+    let (session, schema, block) = match take_session(held) {
+        Taken::Session(session, schema, block) => (session, schema, block),
         Taken::Other(held) => {
             let placed = Placed {
                 answer: misused(),
@@ -188,7 +191,7 @@ fn finish(held: Holding) -> (Holding, Placed)
                 answer: accepted(&output),
                 place: nowhere(),
             };
-            (put_accepted(block, output), placed)
+            (put_accepted(block, output, schema), placed)
         }
         Err(refusal) => {
             let end = BytePlace::of(refusal.fault, places);

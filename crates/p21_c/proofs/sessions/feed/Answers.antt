@@ -1,6 +1,6 @@
-use Rattle.std.proofs.Common.{Option, subst, sym, ap}
+use Rattle.std.proofs.Common.{Option, subst, sym, ap, ◌∙◌}
 use Rattle.p21_c.specs.Answers.{Feeds}
-use Rattle.p21_c.specs.Contents.{boxed_content, session_in}
+use Rattle.p21_c.specs.Contents.{boxed_content, kept_in, session_in}
 use Rattle.p21_stream.specs.Held.{SessionHeld}
 use Rattle.p21_c.proofs.sessions.feed.Goals as goal
 
@@ -20,5 +20,6 @@ returns c =
         schema = c.feed.ensures.schema;
       },
       ap session_in c.put_session.ensures,
+      ap kept_in c.put_session.ensures ∙ sym (ap kept_in c.in-Session.ensures),
       c.answer_to_feed-answer.ensures,
     )
