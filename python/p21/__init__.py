@@ -33,6 +33,7 @@ from p21._diff import Differences, diff
 from p21._faults import Refused, SchemaRefused
 from p21._files import Hash, canonical, check, hash, same
 from p21._library import version
+from p21._model import DERIVED, Aggregate, Attribute, Bits, Entity, EntityAttribute, Enum, Instance, Model, Typed, Use, frame, read
 from p21._numbers import RefusalNumber, SchemaRefusalNumber
 from p21._places import RefusalPlace
 from p21._schema import Schema
@@ -44,9 +45,18 @@ from p21._where import Place, where
 
 __all__ = [
     "Accepted",
+    "Aggregate",
+    "Attribute",
+    "Bits",
     "Buffer",
+    "DERIVED",
     "Differences",
+    "Entity",
+    "EntityAttribute",
+    "Enum",
     "Hash",
+    "Instance",
+    "Model",
     "Place",
     "RefusalNumber",
     "RefusalPlace",
@@ -59,11 +69,15 @@ __all__ = [
     "Source",
     "Survey",
     "Syntax",
+    "Typed",
+    "Use",
     "accept",
     "canonical",
     "check",
     "diff",
+    "frame",
     "hash",
+    "read",
     "same",
     "survey",
     "syntax",

@@ -62,6 +62,45 @@ class CursorStruct(ctypes.Structure):
     _fields_ = [("part", ctypes.c_size_t), ("line", ctypes.c_size_t), ("byte", ctypes.c_size_t)]
 
 
+class SpanStruct(ctypes.Structure):
+    """Bytes where the library has them."""
+
+    _fields_ = [("bytes", ctypes.c_void_p), ("length", ctypes.c_size_t)]
+
+
+class LineStruct(ctypes.Structure):
+    """An instance, by its name and its statement."""
+
+    _fields_ = [("name", ctypes.c_uint64), ("line", SpanStruct)]
+
+
+class AttributeStruct(ctypes.Structure):
+    """An attribute with the value of an instance."""
+
+    _fields_ = [("entity", ctypes.c_uint32), ("index", ctypes.c_uint32), ("value", SpanStruct)]
+
+
+class UseStruct(ctypes.Structure):
+    """An instance that refers to another one, and the attribute where it does."""
+
+    _fields_ = [("user", ctypes.c_uint64), ("entity", ctypes.c_uint32), ("index", ctypes.c_uint32)]
+
+
+class TypeStruct(ctypes.Structure):
+    """A type where it is used."""
+
+    _fields_ = [
+        ("kind", ctypes.c_uint8),
+        ("optional", ctypes.c_uint8),
+        ("unique", ctypes.c_uint8),
+        ("fixed", ctypes.c_uint8),
+        ("bounded", ctypes.c_uint8),
+        ("number", ctypes.c_uint32),
+        ("low", ctypes.c_uint32),
+        ("high", ctypes.c_uint32),
+    ]
+
+
 def _path() -> str:
     named = os.environ.get("P21_LIBRARY")
     return named if named else str(pathlib.Path(__file__).resolve().parent / ("p21.dll" if os.name == "nt" else "libp21.so"))
@@ -83,6 +122,8 @@ def _declared() -> Any:
     report = ctypes.POINTER(ReportStruct)
     place = ctypes.POINTER(PlaceStruct)
     text = [ctypes.c_void_p, ctypes.c_size_t]
+    size = ctypes.c_size_t
+    number = ctypes.POINTER(ctypes.c_uint32)
     calls = {
         "p21_schema_new": (text + [handle, report], ctypes.c_uint8),
         "p21_schema_share": ([handle, handle], ctypes.c_uint8),
@@ -105,6 +146,24 @@ def _declared() -> Any:
         ),
         "p21_text_bytes": ([handle, ctypes.POINTER(ctypes.c_void_p), ctypes.POINTER(ctypes.c_size_t)], ctypes.c_uint8),
         "p21_text_free": ([handle], None),
+        "p21_instance": ([handle, ctypes.c_uint64, ctypes.POINTER(LineStruct)], ctypes.c_uint8),
+        "p21_instance_from": ([handle, ctypes.c_uint64, ctypes.POINTER(LineStruct)], ctypes.c_uint8),
+        "p21_instance_section": ([handle, ctypes.c_uint64, ctypes.POINTER(SpanStruct)], ctypes.c_uint8),
+        "p21_instance_entities": ([handle, ctypes.c_uint64, number, size, ctypes.POINTER(size)], ctypes.c_uint8),
+        "p21_instance_values": ([handle, ctypes.c_uint64, ctypes.POINTER(AttributeStruct), size, ctypes.POINTER(size)], ctypes.c_uint8),
+        "p21_users_new": ([handle, handle], ctypes.c_uint8),
+        "p21_users_free": ([handle], None),
+        "p21_users_of": ([handle, ctypes.c_uint64, ctypes.POINTER(UseStruct), size, ctypes.POINTER(size)], ctypes.c_uint8),
+        "p21_schema_declares": ([handle, ctypes.POINTER(SpanStruct), number, number], ctypes.c_uint8),
+        "p21_entity_named": ([handle] + text + [number], ctypes.c_uint8),
+        "p21_entity_declares": ([handle, ctypes.c_uint32, ctypes.POINTER(SpanStruct), ctypes.POINTER(ctypes.c_uint8), number], ctypes.c_uint8),
+        "p21_entity_supertypes": ([handle, ctypes.c_uint32, number, size, ctypes.POINTER(size)], ctypes.c_uint8),
+        "p21_entity_order": ([handle, ctypes.c_uint32, number, size, ctypes.POINTER(size)], ctypes.c_uint8),
+        "p21_attribute_name": ([handle, ctypes.c_uint32, ctypes.c_uint32, ctypes.POINTER(SpanStruct)], ctypes.c_uint8),
+        "p21_attribute_type": (
+            [handle, ctypes.c_uint32, ctypes.c_uint32, ctypes.c_uint32, ctypes.c_uint32, ctypes.POINTER(TypeStruct)],
+            ctypes.c_uint8,
+        ),
         "p21_version": ([ctypes.POINTER(VersionStruct)], None),
     }
     for name, (arguments, result) in calls.items():

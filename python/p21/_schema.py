@@ -7,11 +7,14 @@ import pathlib
 import re
 import threading
 from types import TracebackType
-from typing import Any, Iterator, Optional, Tuple, Type, Union
+from typing import TYPE_CHECKING, Any, Iterator, Optional, Tuple, Type, Union
 
 from p21._buffers import Passed, bytes_of
 from p21._library import FAILED, LIBRARY, Handle, ReportStruct, judge
 from p21._source import Buffer, Path, is_buffer
+
+if TYPE_CHECKING:
+    from p21._model import Entity
 
 # So many schemas that came from other processes are kept, so that each is read once.
 KEPT = 8
@@ -62,6 +65,30 @@ class Schema:
     def text(self) -> bytes:
         """The text that it was read from."""
         return self._text
+
+    @property
+    def entities(self) -> Tuple[str, ...]:
+        """The names of the entities that it declares, in their order.
+
+        >>> schema.entities
+        ('POINT',)
+        """
+        from p21._model import entities_of
+
+        return entities_of(self)
+
+    def entity(self, name: str) -> "Entity":
+        """What it declares of an entity, in whatever case its name is: whether that is abstract, its supertypes, and its attributes.
+
+        Raises:
+            KeyError: it declares none of this name.
+
+        >>> [attribute.name for attribute in schema.entity("point").attributes]
+        ['X', 'Y']
+        """
+        from p21._model import entity_of
+
+        return entity_of(self, name)
 
     @property
     def closed(self) -> bool:

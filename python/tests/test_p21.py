@@ -415,7 +415,7 @@ def test_library_page():
 def test_readme(tmp_path):
     lines = re.search(r"^In Python,.*\n\n((?:    .*\n)+)", (ROOT / "README.md").read_text(), re.M)[1]
     (tmp_path / "examples").symlink_to(EXAMPLES)
-    assert output_of(textwrap.dedent(lines), tmp_path) == ["128", "True"]
+    assert output_of(textwrap.dedent(lines), tmp_path) == ["128", "True", "Block ['PRODUCT_DEFINITION']"]
     assert (tmp_path / "canonical.step").read_bytes() == p21.canonical(p21.Schema((EXAMPLES / "product.exp").read_text()), EXAMPLES / "product.step")
 
 

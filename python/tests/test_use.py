@@ -568,7 +568,8 @@ def test_help(program):
         os.chdir(folder)
     assert tried >= 30
     documented = [name for name in p21.__all__ if ">>>" in (getattr(p21, name).__doc__ or "")]
-    assert set(p21.__all__) - set(documented) <= {"Buffer", "Source", "Report", "Hash", "Differences", "Place", "Survey", "Syntax", "survey", "accept"}
+    answers = {"Report", "Hash", "Differences", "Place", "Survey", "Syntax", "Aggregate", "Attribute", "Bits", "DERIVED", "Entity", "EntityAttribute", "Typed", "Use"}
+    assert set(p21.__all__) - set(documented) <= {"Buffer", "Source", "survey", "accept", "frame", *answers}
 
 
 # --- What the tools answer ---
