@@ -23,6 +23,13 @@ import tempfile
 import threading
 
 ROOT = pathlib.Path(__file__).resolve().parents[2]
+sys.path[:0] = [str(ROOT / "tests"), str(ROOT / "tests" / "bindings")]
+
+from model import named  # noqa: E402
+from plain import canonical as canonical_form  # noqa: E402
+from plain.files import read_file  # noqa: E402
+from plain.schema import read_schema  # noqa: E402
+
 EXAMPLES = ROOT / "examples"
 SCHEMA = EXAMPLES / "product.exp"
 BLOCK = "5d11fa2abae65fa2bff1265d357ae88c5adf85242cd77e53a1c8b9877eff411c"
@@ -232,10 +239,62 @@ def table(tasks):
         tasks.judge("a file that isn't there", ([str(folder / "none.step"), "no answer", ""], 3), (rows[2], status))
 
 
+def model(tasks):
+    """What the instances of a file say, as the plain reading finds it."""
+    schema = read_schema(SCHEMA.read_bytes())
+    meaning = read_file(schema, (EXAMPLES / "product.step").read_bytes())
+    told = {name: meant for name, (_, meant) in sorted(meaning.instances.items())}
+    values = {name: dict(meant.values) for name, meant in told.items()}
+    # Python writes the characters of a text, and C its canonical spelling.
+    written = (lambda value: str(value[1])) if tasks.language == "python" else canonical_form.value
+    products = [
+        f"#{name} {' '.join(written(values[name]['PRODUCT', attribute]) for attribute in ('ID', 'NAME'))}"
+        for name in told
+        if "PRODUCT" in told[name].entities
+    ]
+    counts = [(sum(entity in meant.entities for meant in told.values()), entity) for entity in schema.entities]
+    uses = [
+        f"#{name} {entity}.{attribute}"
+        for name in told
+        for entity, attribute in schema.places(schema.leaves(told[name].entities)[0])
+        if 15 in set(named(values[name][entity, attribute]))
+    ]
+
+    def walked(name, depth, met):
+        if name not in met:
+            met.add(name)
+            yield "  " * depth + canonical_form.instance(schema, name, told[name])
+            for place in schema.places(schema.leaves(told[name].entities)[0]):
+                for target in named(values[name][place]):
+                    yield from walked(target, depth + 1, met)
+
+    simple = [name for name in told if len(schema.leaves(told[name].entities)) == 1]
+    tasks.judge("the file has instances to walk from", True, 16 in simple and len(products) == 1 and len(uses) > 0)
+    rows = [
+        ("List products", [], products),
+        ("Count by type", [], [f"{many} {entity}" for many, entity in counts if many > 0]),
+        ("Find who refers to an instance", ["15"], uses),
+        ("Find who refers to an instance", ["999"], []),
+        ("Walk an assembly", ["15"], list(walked(15, 0, set()))),
+        ("Walk an assembly", ["999"], []),
+    ]
+    for title, given, wanted in rows:
+        words = tasks.words(title)
+        tasks.judge(f"{title} {given}", ("\n".join([*wanted, ""]) if wanted else "", "", 0), answered(tasks.run(words, SCHEMA, EXAMPLES / "product.step", *given)))
+        _, _, status = tasks.run(words, SCHEMA, EXAMPLES / "refused" / "Count.step", *given)
+        tasks.judge(f"{title}, refused", 1, status)
+        tasks.unanswered(f"{title}, a folder", *tasks.run(words, SCHEMA, EXAMPLES, *given))
+
+
+def answered(ran):
+    """An answer as text."""
+    return (ran[0].decode(), ran[1], ran[2])
+
+
 def main():
     language, library, *command = sys.argv[1:]
     tasks = Tasks(language, library, command)
-    for task in (catch, syntax, canonical, compare, receive, hashes, table):
+    for task in (catch, syntax, canonical, compare, receive, hashes, table, model):
         task(tasks)
     if not tasks.has_program:
         tasks.left_out.append("what asks the program")
