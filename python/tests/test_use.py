@@ -322,6 +322,9 @@ def test_the_places_of_the_program(product, program):
         row = json.loads(subprocess.run(words, stderr=subprocess.PIPE, check=False).stderr)
         place = refusal_of(p21.check, product, path).place
         if row["number"] != p21.RefusalNumber.DANGLING:
+            # The entity of a part that is refused for no attribute the program finds by a second reading.
+            if "attribute" not in row:
+                row.pop("entity", None)
             named = tuple(row.get(name) for name in ("byte", "line", "column", "entity", "attribute"))
             assert place == (*named, tuple(row.get("indices", ()))), path.name
 
