@@ -2,7 +2,7 @@
 // Instances are told by their names, or up to names by a pairing.
 
 import { areNear } from "./decimals.mjs";
-import { Graph, elementsOf, renamedFile, renamedText, sectionsOf, sortedText } from "./models.mjs";
+import { EQUALS, Graph, elementsOf, renamedFile, renamedText, sectionsOf, sortedText } from "./models.mjs";
 import { NONE, SAME, DIFFERENT, UNDECIDED, fitsWhole, pairing } from "./pairing.mjs";
 import { isSpelled, plainly } from "./plainly.mjs";
 import { joined } from "./program.mjs";
@@ -11,7 +11,6 @@ import { nestingOf } from "./sets.mjs";
 import { unitOf, withUnit } from "./units.mjs";
 
 const LINE_END = 10;
-const EQUALS = 0x3d;
 const HASH_SIGN = 0x23;
 const ENDSEC = [..."ENDSEC;"].map((sign) => sign.charCodeAt(0));
 const FRONT = "ISO-10303-21;\nHEADER;\n";
@@ -297,21 +296,37 @@ class UpToNames {
     this.graph.close();
     this.pairing = pairing(this.graph);
     const alone = this.graph.ofSide(1).filter((node) => this.pairing.partner[node] === NONE);
-    this.leftOver = new Set(alone.map((node) => this.graph.names[node]));
+    this.leftOver = new Set(alone.map((node) => this.graph.name(node)));
     this.headings = [first, second].map(sectionsOf);
+  }
+
+  /** How many instances are paired, and how many of these have one name in both files. */
+  counted() {
+    const { graph, pairing } = this;
+    const found = { pairs: 0, alike: 0 };
+    for (let node = 0; node < graph.sides[0].end; node++) {
+      const other = pairing.partner[node];
+      found.pairs += Number(other !== NONE);
+      found.alike += Number(other !== NONE && graph.name(node) === graph.name(other));
+    }
+    return found;
   }
 
   /** The names of paired instances, by rising names of the first file. */
   pairs() {
     const { graph, pairing } = this;
-    const paired = this.nodes(0).filter((node) => pairing.partner[node] !== NONE);
-    return new Map(paired.map((node) => [graph.names[node], graph.names[pairing.partner[node]]]));
+    const found = new Map();
+    for (const node of this.nodes(0)) {
+      const other = pairing.partner[node];
+      if (other !== NONE) found.set(graph.name(node), graph.name(other));
+    }
+    return found;
   }
 
   /** The instances of a file by rising names. */
   nodes(side) {
     const order = this.graph.ofSide(side);
-    const name = (node) => this.graph.names[node];
+    const name = (node) => this.graph.name(node);
     const isLess = (one, other) => name(one).length - name(other).length || (name(one) < name(other) ? -1 : 1);
     return this.headings[side].length > 1 ? order.sort(isLess) : order;
   }
@@ -321,11 +336,11 @@ class UpToNames {
     const { graph } = this;
     const { partner } = this.pairing;
     for (const node of this.nodes(0)) {
-      if (partner[node] === NONE) yield comparison.either("instance", [graph.names[node], null], [graph.line(node), null]);
+      if (partner[node] === NONE) yield comparison.either("instance", [graph.name(node), null], [graph.line(node), null]);
       else if (!fitsWhole(graph, partner, node)) yield* this.changed(comparison, node, partner[node]);
     }
     for (const node of this.nodes(1)) {
-      if (partner[node] === NONE) yield comparison.either("instance", [null, graph.names[node]], [null, graph.line(node)]);
+      if (partner[node] === NONE) yield comparison.either("instance", [null, graph.name(node)], [null, graph.line(node)]);
     }
   }
 
@@ -338,7 +353,7 @@ class UpToNames {
   /** What differs in a pair. */
   *changed(comparison, node, other) {
     const { graph } = this;
-    const pair = { what: "instance", names: [graph.names[node], graph.names[other]], told: [node, other].map((each) => this.told(each)) };
+    const pair = { what: "instance", names: [graph.name(node), graph.name(other)], told: [node, other].map((each) => this.told(each)) };
     const texts = [graph.line(node), graph.line(other)];
     yield* comparison.section(pair, this.section(node), this.section(other));
     yield* comparison.records(pair, comparison.attributes, texts, this.renamed(node, texts[0]));
@@ -352,12 +367,12 @@ class UpToNames {
   renamed(node, text) {
     const { graph } = this;
     const { partner } = this.pairing;
-    const names = new Map([[graph.names[node], `#${graph.names[node]}`]]);
+    const names = new Map([[graph.name(node), `#${graph.name(node)}`]]);
     for (const ref of this.instancesBelow(node)) {
-      let name = graph.names[ref];
-      if (partner[ref] !== NONE) name = graph.names[partner[ref]];
+      let name = graph.name(ref);
+      if (partner[ref] !== NONE) name = graph.name(partner[ref]);
       else if (!this.leftOver.has(name)) name = NO_NAME + BigInt(name);
-      names.set(graph.names[ref], `#${name}`);
+      names.set(graph.name(ref), `#${name}`);
     }
     return named(text, names);
   }
@@ -371,9 +386,9 @@ class UpToNames {
     const { partner } = this.pairing;
     const found = new Map();
     for (const ref of [node, ...this.instancesBelow(node)]) {
-      const name = graph.names[ref];
+      const name = graph.name(ref);
       const nodes = graph.isFirst(ref) ? [ref, partner[ref]] : [partner[ref], ref];
-      const both = [...new Set(nodes.map((each) => `#${graph.names[each]}`))].join("/");
+      const both = [...new Set(nodes.map((each) => `#${graph.name(each)}`))].join("/");
       found.set(name, partner[ref] === NONE ? `${graph.isFirst(ref) ? "A" : "B"}#${name}` : both);
     }
     return found;
@@ -513,14 +528,12 @@ export class Files {
 
   knownUpToNames({ listed, inHeader }, near) {
     const { verdict, ambiguous } = this.upToNames.pairing;
-    const pairs = this.upToNames.pairs();
-    const isRenumbered = [...pairs].some(([one, other]) => one !== other);
+    const { pairs, alike } = this.upToNames.counted();
     let word = verdict === SAME && (listed > inHeader || near > 0) ? DIFFERENT : verdict;
     if (word === SAME && !this.isSameUpToNames()) word = UNDECIDED;
-    const alike = [...pairs].filter(([one, other]) => one === other).length;
-    const found = { word, pairs: pairs.size, ambiguous, butFor: [], isRenamed: 2 * alike < pairs.size };
+    const found = { word, pairs, ambiguous, butFor: [], isRenamed: 2 * alike < pairs };
     if (word !== SAME || inHeader === 0) return found;
-    return { ...found, word: DIFFERENT, butFor: [...(isRenumbered ? ["numbering"] : []), "the header"] };
+    return { ...found, word: DIFFERENT, butFor: [...(alike < pairs ? ["numbering"] : []), "the header"] };
   }
 
   /** Does the program say of the first file with the names and the front of the second that it means the same as the second? */
@@ -552,8 +565,7 @@ export class Files {
         for (const bytes of this.canonical) graph.add(bytes, this.heard);
         graph.close();
       }
-      const named = new Map(graph.ofSide(1).map((node) => [graph.names[node], node]));
-      this.asGraph = { graph, partner: (node) => named.get(graph.names[node]) ?? NONE };
+      this.asGraph = { graph, partner: (node) => graph.named(1, graph.name(node)) ?? NONE };
     }
     return this.asGraph;
   }

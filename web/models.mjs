@@ -9,6 +9,10 @@ import { nestingOf } from "./sets.mjs";
 
 const NEXT_LINE = 10;
 const SHARP = 0x23;
+export const EQUALS = 0x3d;
+const ZERO = 0x30;
+// A number of so many digits is exact.
+const MOST_EXACT_DIGITS = 15;
 const DIGIT_OR_SHARP = /#(\d+)/;
 export const STRING_OR_REFERENCE = /'[^']*'|#(\d+)/g;
 const CANONICAL_TOKEN = /'[^']*'|#\d*|[(),]|[^'#(),]+/y;
@@ -17,7 +21,7 @@ const SAYING = /'[^']|[(,]-?\d/;
 export const APART = 2 ** 32;
 
 /** Numbers in a row that grows. */
-class Growing {
+export class Growing {
   constructor(Row) {
     this.row = new Row(1024);
     this.length = 0;
@@ -35,6 +39,57 @@ class Growing {
   /** The numbers, to which none is added any more. */
   get whole() {
     return this.row.slice(0, this.length);
+  }
+}
+
+/** The names of instances, as numbers as far as these are exact, which takes less memory than texts. */
+class Names {
+  constructor() {
+    this.numbers = new Growing(Float64Array);
+    this.long = new Map();
+  }
+
+  get length() {
+    return this.numbers.length;
+  }
+
+  /** The next name, whose digits stand between these places. */
+  push(bytes, start, end) {
+    let number = 0;
+    for (let at = start; at < end; at++) number = 10 * number + bytes[at] - ZERO;
+    if (end - start > MOST_EXACT_DIGITS) this.long.set(this.length, textOf(bytes.subarray(start, end)));
+    this.numbers.push(number);
+  }
+
+  /** A name by its number in the row. */
+  at(number) {
+    return this.long.get(number) ?? String(this.numbers.row[number]);
+  }
+}
+
+/** Finds names among those from one place in their row to another: where they rise by looking there, else by a table of them all. */
+class Index {
+  constructor(names, first, isRising) {
+    Object.assign(this, { numbers: names.numbers, first, end: names.length, table: null });
+    if (isRising && names.long.size === 0) return;
+    this.table = new Map();
+    for (let at = first; at < this.end; at++) this.table.set(names.at(at), at);
+  }
+
+  /** The place of a name, or undefined. */
+  get(name) {
+    if (this.table) return this.table.get(name);
+    const { row } = this.numbers;
+    const wanted = Number(name);
+    const guess = this.first + wanted - row[this.first];
+    if (guess >= this.first && guess < this.end && row[guess] === wanted) return guess;
+    let [low, high] = [this.first, this.end];
+    while (low < high) {
+      const middle = (low + high) >>> 1;
+      if (row[middle] < wanted) low = middle + 1;
+      else high = middle;
+    }
+    return low < this.end && row[low] === wanted ? low : undefined;
   }
 }
 
@@ -106,10 +161,17 @@ function keysOf(text) {
   return text[0] === "(" ? recordsOf(text).keys.join("+") : text.slice(0, text.indexOf("("));
 }
 
+/** Does a string begin in a text and not end there, or the other way round? */
+function hasOddQuotes(text) {
+  let isOdd = false;
+  for (let at = text.indexOf("'"); at >= 0; at = text.indexOf("'", at + 1)) isOdd = !isOdd;
+  return isOdd;
+}
+
 /** A text with each name of an instance left out behind its `#`, and the digits that were left out. */
 function withoutNames(text) {
   const pieces = text.split(DIGIT_OR_SHARP);
-  const isTorn = (piece, at) => at % 2 === 0 && piece.split("'").length % 2 === 0;
+  const isTorn = (piece, at) => at % 2 === 0 && hasOddQuotes(piece);
   if (pieces.length > 1 && text.includes("'") && pieces.some(isTorn)) {
     const digits = [...text.matchAll(STRING_OR_REFERENCE)].map((found) => found[1]).filter((found) => found !== undefined);
     return { text: text.replace(STRING_OR_REFERENCE, (found, name) => (name === undefined ? found : "#")), digits };
@@ -258,7 +320,7 @@ export class Graph {
   constructor(sets) {
     this.sets = sets;
     this.sides = [];
-    this.names = [];
+    this.names = new Names();
     this.places = new Growing(Float64Array);
     this.shapes = new Growing(Int32Array);
     this.starts = new Growing(Int32Array);
@@ -306,24 +368,22 @@ export class Graph {
   add(bytes, heard) {
     const first = this.names.length;
     const sections = sectionsOf(bytes);
-    const index = new Map();
     for (const { start } of sections) {
       for (const line of linesFrom(bytes, start)) {
-        const name = textOf(bytes.subarray(line.start + 1, bytes.indexOf(0x3d, line.start)));
-        index.set(name, this.names.length);
-        this.names.push(name);
+        this.names.push(bytes, line.start + 1, bytes.indexOf(EQUALS, line.start));
         this.places.push(line.start);
       }
     }
+    const index = new Index(this.names, first, sections.length === 1);
     let count = 0;
     for (const { heading, start } of sections) {
       const front = sections.length > 1 || heading !== "DATA;" ? `${heading}\n` : "";
       for (const line of linesFrom(bytes, start)) {
         if (++count % 10_000 === 0) heard(first + count);
-        this.addRecord(front, textOf(bytes.subarray(bytes.indexOf(0x3d, line.start) + 1, line.end - 1)), index);
+        this.addRecord(front, textOf(bytes.subarray(bytes.indexOf(EQUALS, line.start) + 1, line.end - 1)), index);
       }
     }
-    this.sides.push({ bytes, first, end: this.names.length });
+    this.sides.push({ bytes, first, end: this.names.length, index });
   }
 
   /** The record of an instance. */
@@ -395,6 +455,16 @@ export class Graph {
   ofSide(side) {
     const { first, end } = this.sides[side];
     return Array.from({ length: end - first }, (_, at) => first + at);
+  }
+
+  /** The name of an instance. */
+  name(node) {
+    return this.names.at(node);
+  }
+
+  /** The instance of a name in a file, or undefined. */
+  named(side, name) {
+    return this.sides[side].index.get(name);
   }
 
   /** How many nodes there are. */

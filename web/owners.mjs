@@ -35,8 +35,10 @@ export class Owners {
 
   /** Finds the nodes of these names in a file, of which the owners are asked. */
   find(side, names) {
-    const all = this.graph.names;
-    for (const node of this.graph.ofSide(side)) if (names.has(all[node])) this.nodes[side].set(all[node], node);
+    for (const node of this.graph.ofSide(side)) {
+      const name = this.graph.name(node);
+      if (names.has(name)) this.nodes[side].set(name, node);
+    }
   }
 
   /** What owns the instance of a name in a file, which was found before. */
@@ -141,7 +143,7 @@ export class Owners {
       const keys = parts.map(({ key }) => key).join("+");
       const side = this.graph.isFirst(node) ? "A" : "";
       const texts = this.texts(this.graph.line(node), parts).join(", ");
-      this.told.set(node, [`${keys} ${side}#${this.graph.names[node]}`, texts].filter(Boolean).join(" "));
+      this.told.set(node, [`${keys} ${side}#${this.graph.name(node)}`, texts].filter(Boolean).join(" "));
     }
     return this.told.get(node);
   }

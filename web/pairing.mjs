@@ -5,7 +5,7 @@
 // has one member in each, or where choosing one pair after another never runs into a contradiction, there is a pairing, which
 // whoever says "the same" has to check. Files that differ are paired from what is alike in them outwards.
 
-import { APART } from "./models.mjs";
+import { APART, Growing } from "./models.mjs";
 
 export const NONE = -1;
 const MOST_ROUNDS = 40;
@@ -46,12 +46,88 @@ function listsOf(groups, key) {
   return groups.get(key);
 }
 
-/** The number of a key, which gets the next one where it has none. */
-function numbered(numbers, key) {
-  const known = numbers.get(key);
-  if (known !== undefined) return known;
-  numbers.set(key, numbers.size);
-  return numbers.size - 1;
+/** Rows of whole numbers, of which equal ones have one number. A row is pushed number by number, and then closed. */
+class Rows {
+  constructor() {
+    this.cells = new Growing(Int32Array);
+    this.starts = new Growing(Int32Array);
+    this.hashes = new Growing(Int32Array);
+    this.table = new Int32Array(1 << 12).fill(NONE);
+    // So that nobody can write a file whose rows fall into one place of the table.
+    this.seed = Math.floor(Math.random() * APART) | 0;
+    this.open = 0;
+  }
+
+  /** The next number of the open row. */
+  push(cell) {
+    this.cells.push(cell);
+  }
+
+  /** Two further numbers of it for one that is too great: that of the whole part and the rest. */
+  pushWide(number) {
+    this.cells.push(Math.floor(number / APART));
+    this.cells.push(number % APART | 0);
+  }
+
+  /** Closes the row, and answers its number, which is the next one where the row is new. */
+  close() {
+    const hash = this.hash();
+    const place = this.placeOf(hash);
+    const known = this.table[place];
+    if (known !== NONE) {
+      this.cells.length = this.open;
+      return known;
+    }
+    const number = this.starts.length;
+    this.starts.push(this.open);
+    this.hashes.push(hash);
+    this.table[place] = number;
+    this.open = this.cells.length;
+    if (2 * number > this.table.length) this.widen();
+    return number;
+  }
+
+  /** A number that equal rows share, of the open row. */
+  hash() {
+    const { row, length } = this.cells;
+    let hash = this.seed;
+    for (let at = this.open; at < length; at++) {
+      hash = Math.imul(hash ^ row[at], 0x9e3779b1);
+      hash ^= hash >>> 15;
+    }
+    hash = Math.imul(hash, 0x85ebca6b);
+    return hash ^ (hash >>> 13);
+  }
+
+  /** The place in the table of the row that is like the open one, or the free one for it. */
+  placeOf(hash) {
+    const last = this.table.length - 1;
+    for (let place = hash & last; ; place = (place + 1) & last) {
+      const number = this.table[place];
+      if (number === NONE || (this.hashes.row[number] === hash && this.isOpenRow(number))) return place;
+    }
+  }
+
+  /** Is the row of a number like the open one? */
+  isOpenRow(number) {
+    const { row, length } = this.cells;
+    const start = this.starts.row[number];
+    const end = number + 1 < this.starts.length ? this.starts.row[number + 1] : this.open;
+    if (end - start !== length - this.open) return false;
+    for (let at = start; at < end; at++) if (row[at] !== row[this.open + at - start]) return false;
+    return true;
+  }
+
+  /** Makes the table twice as large. */
+  widen() {
+    const last = 2 * this.table.length - 1;
+    this.table = new Int32Array(last + 1).fill(NONE);
+    for (let number = 0; number < this.starts.length; number++) {
+      let place = this.hashes.row[number] & last;
+      while (this.table[place] !== NONE) place = (place + 1) & last;
+      this.table[place] = number;
+    }
+  }
 }
 
 /** Nodes that wait, of which the first comes next. */
@@ -84,27 +160,33 @@ class Waiting {
 /** The nodes that reach no cycle, each behind those that it refers to. */
 function orderOf(graph) {
   const waiting = new Int32Array(graph.length);
-  const order = [];
+  const order = new Int32Array(graph.length);
+  let count = 0;
   for (let node = 0; node < graph.length; node++) {
     waiting[node] = graph.starts[node + 1] - graph.starts[node];
-    if (waiting[node] === 0) order.push(node);
+    if (waiting[node] === 0) order[count++] = node;
   }
-  for (let at = 0; at < order.length; at++) {
-    for (const edge of graph.referrers(order[at])) {
-      const source = graph.sources[edge];
-      if (--waiting[source] === 0) order.push(source);
+  for (let at = 0; at < count; at++) {
+    const end = graph.backStarts[order[at] + 1];
+    for (let back = graph.backStarts[order[at]]; back < end; back++) {
+      const source = graph.sources[graph.backEdges[back]];
+      if (--waiting[source] === 0) order[count++] = source;
     }
   }
-  return order;
+  return order.subarray(0, count);
 }
 
-/** What a node says, or what else is known of it, and what it refers to. */
-function keyBelow(graph, node, base, colours) {
-  const refs = graph.refs(node);
+/** What a node says, or what else is known of it, and what it refers to, as a part of a row. */
+function pushBelow(rows, graph, node, base, colours) {
   const labels = graph.labels.get(graph.shapes[node]);
-  const found = Array.from(refs, (ref) => colours[ref]);
-  if (!labels) return [base[node], ...found].join();
-  return [base[node], ...risingPairs(found.map((colour, at) => [labels[at], colour])).map(([, colour]) => colour)].join();
+  rows.push(base[node]);
+  if (labels) {
+    const found = Array.from(graph.refs(node), (ref, at) => [labels[at], colours[ref]]);
+    for (const [, colour] of risingPairs(found)) rows.push(colour);
+  } else {
+    const end = graph.starts[node + 1];
+    for (let edge = graph.starts[node]; edge < end; edge++) rows.push(colours[graph.targets[edge]]);
+  }
 }
 
 /**
@@ -113,17 +195,24 @@ function keyBelow(graph, node, base, colours) {
  */
 function coloursBelow(graph, order, base) {
   const colours = new Int32Array(graph.length).fill(NONE);
-  const numbers = new Map();
-  for (const node of order) colours[node] = numbered(numbers, keyBelow(graph, node, base, colours));
+  const rows = new Rows();
+  for (const node of order) {
+    pushBelow(rows, graph, node, base, colours);
+    colours[node] = rows.close();
+  }
   const cyclic = [];
   colours.forEach((colour, node) => colour === NONE && cyclic.push(node));
   let count = 0;
   for (let round = 0; round < 8; round++) {
-    const keys = cyclic.map((node) => `${NONE},${keyBelow(graph, node, base, colours)}`);
-    cyclic.forEach((node, at) => {
-      colours[node] = numbered(numbers, keys[at]);
+    const next = cyclic.map((node) => {
+      rows.push(NONE);
+      pushBelow(rows, graph, node, base, colours);
+      return rows.close();
     });
-    const found = new Set(cyclic.map((node) => colours[node])).size;
+    cyclic.forEach((node, at) => {
+      colours[node] = next[at];
+    });
+    const found = new Set(next).size;
     if (found === count) break;
     count = found;
   }
@@ -132,17 +221,28 @@ function coloursBelow(graph, order, base) {
 
 /** Finer colours, by what refers to a node too. Of nodes that reach a cycle they are those from below. */
 function coloursAbove(graph, order, below) {
-  const numbers = new Map();
+  const rows = new Rows();
   const colours = new Int32Array(graph.length).fill(NONE);
   const isAcyclic = new Uint8Array(graph.length);
   for (const node of order) isAcyclic[node] = 1;
   for (let node = 0; node < graph.length; node++) {
-    if (!isAcyclic[node]) colours[node] = numbered(numbers, `${NONE},${below[node]}`);
+    if (isAcyclic[node]) continue;
+    rows.push(NONE);
+    rows.push(below[node]);
+    colours[node] = rows.close();
   }
+  const colourOfSource = (edge) => colours[graph.sources[edge]];
+  const inOrder = (one, other) => colourOfSource(one) - colourOfSource(other) || graph.label(one) - graph.label(other);
   for (let at = order.length - 1; at >= 0; at--) {
     const node = order[at];
-    const pairs = Array.from(graph.referrers(node), (edge) => [colours[graph.sources[edge]], graph.label(edge)]);
-    colours[node] = numbered(numbers, `${below[node]};${risingPairs(pairs).join(";")}`);
+    const edges = [];
+    for (let back = graph.backStarts[node]; back < graph.backStarts[node + 1]; back++) edges.push(graph.backEdges[back]);
+    rows.push(below[node]);
+    for (const edge of edges.sort(inOrder)) {
+      rows.push(colourOfSource(edge));
+      rows.pushWide(graph.label(edge));
+    }
+    colours[node] = rows.close();
   }
   return colours;
 }
@@ -157,7 +257,7 @@ function isUnbalanced(graph, colours) {
 }
 
 /** Nodes of both files that are the only ones with their number, of those that are given. */
-function alone(graph, numbers, nodes) {
+function* alone(graph, numbers, nodes) {
   const size = numbers.reduce((most, number) => Math.max(most, number), -1) + 1;
   const counts = new Float64Array(size);
   const found = [new Int32Array(size), new Int32Array(size)];
@@ -166,9 +266,7 @@ function alone(graph, numbers, nodes) {
     counts[numbers[node]] += isFirst ? 1 : APART;
     found[isFirst ? 0 : 1][numbers[node]] = node;
   }
-  const pairs = [];
-  counts.forEach((count, number) => count === APART + 1 && pairs.push([found[0][number], found[1][number]]));
-  return pairs;
+  for (let number = 0; number < size; number++) if (counts[number] === APART + 1) yield [found[0][number], found[1][number]];
 }
 
 // --- Classes of both files, split until nothing changes ---
@@ -486,18 +584,9 @@ class Matching {
 
   /** The nodes without a partner. */
   unpaired() {
-    return this.free(this.partner.keys());
-  }
-
-  /** Nodes of both files that are the only ones with their key. */
-  alone(nodes, keyOf) {
-    const groups = new Map();
-    for (const node of nodes) {
-      const key = keyOf(node);
-      if (key !== null) listOf(groups, key).push(node);
-    }
-    const isPair = (group) => group.length === 2 && this.graph.isFirst(group[0]) && !this.graph.isFirst(group[1]);
-    return [...groups.values()].filter(isPair);
+    const found = [];
+    this.partner.forEach((other, node) => other === NONE && found.push(node));
+    return found;
   }
 
   /** Pairs what can be paired. */
@@ -628,7 +717,11 @@ class Matching {
    */
   mostShared() {
     const firsts = this.unpaired().filter((node) => this.graph.isFirst(node));
-    const shares = new Map(firsts.map((node) => [node, this.shares(node)]));
+    const shares = new Map();
+    for (const node of firsts) {
+      const found = this.shares(node);
+      if (found.size > 0) shares.set(node, found);
+    }
     const turned = new Map();
     for (const [node, found] of shares) {
       for (const [other, count] of found) {
@@ -660,26 +753,30 @@ class Matching {
 
   // What is left over
 
-  /** The pairs around a node, by their nodes of the first file; null where there is none. */
+  /**
+   * The pairs around a node, by their nodes of the first file: each with its place, those that refer to the node by places below zero.
+   * Null where there is none.
+   */
   context(node, isAbove, isBelow) {
     const { graph, partner } = this;
-    const around = [];
-    if (isAbove) for (const edge of graph.referrers(node)) around.push([-1 - graph.label(edge), graph.sources[edge]]);
-    if (isBelow) {
-      const labels = graph.placesOf(node);
-      graph.refs(node).forEach((ref, at) => around.push([labels[at], ref]));
-    }
-    let count = 0;
     const found = [];
-    for (const [label, other] of around) {
-      if (partner[other] !== NONE) {
-        count++;
-        found.push([label, graph.isFirst(other) ? other : partner[other]]);
-      } else if (isBelow && label >= 0) {
-        found.push([label, NONE]);
+    let count = 0;
+    const add = (label, other) => {
+      const isPaired = partner[other] !== NONE;
+      count += Number(isPaired);
+      if (isPaired) found.push([label, graph.isFirst(other) ? other : partner[other]]);
+      else if (isBelow && label >= 0) found.push([label, NONE]);
+    };
+    if (isAbove) {
+      for (let back = graph.backStarts[node]; back < graph.backStarts[node + 1]; back++) {
+        const edge = graph.backEdges[back];
+        add(-1 - graph.label(edge), graph.sources[edge]);
       }
     }
-    return count > 0 ? risingPairs(found).join(";") : null;
+    if (isBelow) {
+      for (let edge = graph.starts[node]; edge < graph.starts[node + 1]; edge++) add(graph.label(edge), graph.targets[edge]);
+    }
+    return count > 0 ? risingPairs(found) : null;
   }
 
   /** Pairs by what is around nodes, for so many rounds. */
@@ -692,23 +789,37 @@ class Matching {
     const left = this.unpaired();
     let isFound = false;
     for (const [isShape, isAbove, isBelow] of CONTEXTS) {
-      const keyOf = (node) => {
+      const rows = new Rows();
+      const numbers = new Int32Array(this.graph.length);
+      const around = this.free(left).filter((node) => {
         const context = this.context(node, isAbove, isBelow);
-        return context && `${isShape ? this.graph.shapes[node] : this.graph.kind(node)}|${context}`;
-      };
-      for (const [node, other] of this.alone(this.free(left), keyOf)) isFound = this.pair(node, other) || isFound;
+        if (context) numbers[node] = this.numberOfContext(rows, isShape, node, context);
+        return context !== null;
+      });
+      for (const [node, other] of alone(this.graph, numbers, around)) isFound = this.pair(node, other) || isFound;
       this.spread();
       if (isFound) return true;
     }
     return isFound;
   }
 
+  /** The number of what a node says, or of its entity, together with the pairs around it. */
+  numberOfContext(rows, isShape, node, context) {
+    rows.push(isShape ? this.graph.shapes[node] : this.graph.kind(node));
+    for (const [label, other] of context) {
+      rows.pushWide(label);
+      rows.push(other);
+    }
+    return rows.close();
+  }
+
   /** Pairs what is left over and alike in the order of the files, and counts such pairs where others could be made. */
   byRank() {
-    this.byKey((node) => `${this.below[node]}|${this.context(node, true, false)}`, true);
+    const above = (node) => this.context(node, true, false)?.join(";") ?? null;
+    this.byKey((node) => `${this.below[node]}|${above(node)}`, true);
     this.byKey((node) => this.below[node], true);
-    this.byKey((node) => `${this.graph.shapes[node]}|${this.context(node, true, false)}`, false);
-    this.byKey((node) => `${this.graph.kind(node)}|${this.context(node, true, false)}`, false);
+    this.byKey((node) => `${this.graph.shapes[node]}|${above(node)}`, false);
+    this.byKey((node) => `${this.graph.kind(node)}|${above(node)}`, false);
   }
 
   /** Pairs what has equal keys in the order of the files, as far as there are any, or just where there are equally many. */
@@ -740,12 +851,11 @@ class Matching {
   /** Pairs what has one name in both files, where no fewer nodes fit their partners then: files often keep some names. */
   byNames() {
     const { graph, partner } = this;
-    const named = new Map(graph.ofSide(1).map((node) => [graph.names[node], node]));
     let left = 20 * graph.targets.length + 100_000;
     for (let round = 0; round < MOST_ROUNDS; round++) {
       let count = 0;
       for (const node of graph.ofSide(0)) {
-        const other = named.get(graph.names[node]) ?? NONE;
+        const other = graph.named(1, graph.name(node)) ?? NONE;
         if (other === NONE || partner[node] === other || graph.kind(node) !== graph.kind(other)) continue;
         if (partner[node] === NONE && partner[other] === NONE) continue;
         left -= this.visits(node) + this.visits(partner[other]);
