@@ -5,6 +5,9 @@ pub mod RoundKeys
 pub mod PartSizes
 pub mod LargestParts
 pub mod Telling
+pub mod ToldRanks
+pub mod KeyedNodes
+pub mod NextRanks
 pub mod Ranges
 pub mod Represented
 pub mod PlaceNumbers

@@ -1,25 +1,26 @@
 -- Rows that are keys compare as the keys of the definition, so their ranks are those behind a round.
-use Rattle.std.specs.Prelude.{◌≡◌, ℕ, ◌+◌, ◌<◌, Bool, true, false, List, [], ◌∷◌, ◌++◌, map, filter, length, if◌then◌else◌, refl}
+use Rattle.std.specs.Prelude.{◌≡◌, ◌≢◌, ◌⊎◌, ℕ, ◌+◌, ◌<◌, nat_eq, Bool, true, false, List, [], ◌∷◌, ◌++◌, map, filter, length, if◌then◌else◌, refl}
 use Rattle.std.specs.Cmp.Lexicographic.{slice_cmp}
 use Rattle.std.specs.List.{flat_map, range_with_len, AllByRecursion as Each}
 use Rattle.std.specs.List.Sorted.{IsSorted}
-use Rattle.std.specs.Ordering.{nat_cmp, is_lt, ordering_then}
-use Rattle.std.proofs.Common.{Ordering, Contains, inl, inr, arith, ap, sym, subst, ◌∙◌, get_or, append_assoc}
+use Rattle.std.specs.Ordering.{nat_cmp, is_lt, ordering_then, ordering_reverse}
+use Rattle.std.specs.Cmp.{nat_cmp_is}
+use Rattle.std.proofs.lemmas.Cmp.{lists_total, nat_list_cmp_total}
+use Rattle.std.proofs.Common.{Ordering, Less, Equal, Greater, Contains, inl, inr, true≢false, arith, ap, sym, subst, ◌∙◌, get_or, append_assoc}
+use Rattle.std.proofs.lemmas.Bool.{eqb-true, eq-eqb}
 use Rattle.std.proofs.lemmas.List.{append-nil, get_or-map, length-map, map-append}
 use Rattle.std.proofs.lemmas.List.Elements.{Contains-get_or, Contains-append_left, Contains-append_right, Contains-append_cases}
-use Rattle.std.proofs.lemmas.List.FromFn.{fill_by_all}
 use Rattle.std.proofs.lemmas.List.Sorted.{IsPermutation-map, IsPermutation-sym, Contains-permutation}
 use Rattle.p21_spec_basics.proofs.Members.{flat_map-same, Contains-unmapped, Contains-unfiltered, Each-member, Each-of_members}
 use Rattle.p21_spec_basics.proofs.Shuffles.{Shuffled, no_more, one_more, taken_first, taken_later, Shuffled-reflexive, Shuffled-transitive, Shuffled-joined, Shuffled-flat_map}
 use Rattle.p21_spec_file.specs.CanonicalRecord.{AreTextsRising}
 use Rattle.p21_spec_file.specs.Sorting.{is_below, sort_texts}
-use Rattle.p21_spec_laws.proofs.Sorting.{sort-permutation, sort-rising}
+use Rattle.p21_spec_laws.proofs.Sorting.{below-itself, sort-permutation, sort-rising}
 use Rattle.p21_spec_numbering.specs.Fresh.{Ranks, entry, entries, fresh_uses, fresh_key}
 use Rattle.p21_spec_numbering.specs.Graph.{Graph, how_many, rank_by}
-use Rattle.p21_spec_numbering.proofs.Lists.{count-mapped, count-agree, sort-shuffled}
+use Rattle.p21_spec_numbering.proofs.Lists.{count-agree, sort-shuffled}
 use Rattle.p21_numbering.specs.declared.adjacency.Adjacency.{Adjacency}
 use Rattle.p21_numbering.specs.Arrays.{Use, PlacedUse, placed, beside, uses_of, Represents, Entry, entry_cmp, as_entry, entries_at, numbers, IsKey, IsPlace}
-use Rattle.p21_numbering.specs.Rows.{rank_among}
 use Rattle.p21_numbering.proofs.Counts.{range-below}
 use Rattle.p21_numbering.proofs.Gathering.{used}
 use Rattle.p21_numbering.proofs.Terminated.{ends-compare, then-equal, then-then}
@@ -155,6 +156,32 @@ module _ (place : ℕ → List ℕ) (IsKnown : ℕ → Type 0) (ordered : (i j :
       ∙ ap (λ (x : List ℕ). is_below x (s.rank ∷ flat_map numbers s.entries)) (sym r.row_is)
       ∙ ap (λ (x : List ℕ). is_below row x) (sym s.row_is)
 
+-- ---- keys of nodes whose ranks differ
+
+three : (i j : ℕ) → (i < j) ⊎ ((i ≡ j) ⊎ (j < i))
+three i j = grind arith
+
+apart : (a b : ℕ) (o : Ordering) → a ≢ b → ordering_then (nat_cmp a b) o ≡ nat_cmp a b
+apart a b o differ = elim (three a b) [
+  | inl low ↦ ap (λ (r : Ordering). ordering_then r o) (sym (nat_cmp_is a b Less low)) ∙ nat_cmp_is a b Less low
+  | inr other ↦ elim other [
+    | inl same ↦ absurd (differ same)
+    | inr high ↦ ap (λ (r : Ordering). ordering_then r o) (sym (nat_cmp_is a b Greater high)) ∙ nat_cmp_is a b Greater high
+  ]
+]
+
+keys-apart : (a b : ℕ) (xs ys : List (List ℕ)) → a ≢ b → slice_cmp (slice_cmp nat_cmp) ((a ∷ []) ∷ xs) ((b ∷ []) ∷ ys) ≡ nat_cmp a b
+keys-apart a b xs ys differ =
+    ap (λ (o : Ordering). ordering_then o (slice_cmp (slice_cmp nat_cmp) xs ys)) (then-equal (nat_cmp a b)) ∙ apart a b (slice_cmp (slice_cmp nat_cmp) xs ys) differ
+
+key-itself : (key : List (List ℕ)) → is_lt (slice_cmp (slice_cmp nat_cmp) key key) ≡ false
+key-itself key = turned (slice_cmp (slice_cmp nat_cmp) key key) ((lists_total nat_list_cmp_total).antisymm key key)
+  where
+    turned : (r : Ordering) → r ≡ ordering_reverse r → is_lt r ≡ false
+    turned Less h = absurd (true≢false (ap is_lt h))
+    turned Equal h = refl
+    turned Greater h = refl
+
 module _ (g : Graph) (place : ℕ → List ℕ) (count : ℕ) (uses users : Adjacency) (stands : Represents g place count uses users) (c : Ranks) where
   abbrev IsRow : List (List ℕ) → List ℕ → Type 0
   IsRow = IsRowOf place (IsPlace uses users) stands.ordered
@@ -202,15 +229,56 @@ module _ (g : Graph) (place : ℕ → List ℕ) (count : ℕ) (uses users : Adja
       ∙ ap sort_texts (flat_map-same (λ m. onto_at n m ++ from_at n m) (λ m. if c.fresh m then entries g (c.rank m) n m else []) g.nodes (λ m among. both-at n m)) in
       record { rank = c.rank n; entries = key.entries; known = known; row_is = key.key_is; key_is = ap (λ (xs : List (List ℕ)). (c.rank n ∷ []) ∷ xs) (sym texts) }
 
-  pub ranks-told : (rows : List (List ℕ)) → length rows ≡ count → ((n : ℕ) → n < count → IsKey (c.rank n) c (uses_of uses n) (uses_of users n) (get_or rows n []))
-      → (n : ℕ) → n < count → rank_among rows (get_or rows n []) ≡ rank_by (fresh_key g c) g.nodes n
-  ranks-told rows long keys n low =
-      let at : ℕ → List ℕ = λ m. get_or rows m [] in
-      let all : rows ≡ map at (range_with_len 0 count) = fill_by_all at rows count [] long (λ k within. refl) in
-      let tests : how_many (λ m. is_below (at m) (at n)) (range_with_len 0 count) ≡ how_many (λ m. is_lt (slice_cmp (slice_cmp nat_cmp) (fresh_key g c m) (fresh_key g c n))) (range_with_len 0 count) =
+  -- ---- rows of nodes that are told by their ranks alone
+
+  -- a row that has the rank alone, which no other node has
+  pub record IsAlone (n : ℕ) (row : List ℕ) : Type 0 where
+    pub row_is : row ≡ c.rank n ∷ []
+    pub alone : (m : ℕ) → m < count → c.rank m ≡ c.rank n → m ≡ n
+
+  -- the row of the key, or one that has the rank alone
+  abbrev pub IsOwn : ℕ → List ℕ → Type 0
+  IsOwn n row = IsKey (c.rank n) c (uses_of uses n) (uses_of users n) row ⊎ IsAlone n row
+
+  pub own-alone : (n : ℕ) → ((m : ℕ) → m < count → c.rank m ≡ c.rank n → m ≡ n) → IsOwn n (c.rank n ∷ [])
+  own-alone n alone = inr (record { row_is = refl; alone = alone })
+
+  own-begins : (n : ℕ) (row : List ℕ) → IsOwn n row → (xs : List ℕ) × (row ≡ c.rank n ∷ xs)
+  own-begins n row own = elim own [ inl key ↦ (flat_map numbers key.entries, key.key_is) | inr alone ↦ ([], alone.row_is) ]
+
+  -- ranks that differ tell keys and rows apart
+  apart-compare : (m n : ℕ) (row row_ : List ℕ) → IsOwn m row → IsOwn n row_ → c.rank m ≢ c.rank n
+      → is_lt (slice_cmp (slice_cmp nat_cmp) (fresh_key g c m) (fresh_key g c n)) ≡ is_below row row_
+  apart-compare m n row row_ own own_ differ =
+      let (xs, is) = own-begins m row own in
+      let (ys, is_) = own-begins n row_ own_ in
+      ap is_lt (keys-apart (c.rank m) (c.rank n) (fresh_uses g c m) (fresh_uses g c n) differ ∙ sym (apart (c.rank m) (c.rank n) (slice_cmp nat_cmp xs ys) differ))
+      ∙ ap (λ (x : List ℕ). is_below x (c.rank n ∷ ys)) (sym is)
+      ∙ ap (is_below row) (sym is_)
+
+  -- one of them has its rank alone
+  alone-compare : (m n : ℕ) (row row_ : List ℕ) → IsOwn m row → IsOwn n row_ → (c.rank m ≡ c.rank n → m ≡ n) → (m ≡ n → row ≡ row_)
+      → is_lt (slice_cmp (slice_cmp nat_cmp) (fresh_key g c m) (fresh_key g c n)) ≡ is_below row row_
+  alone-compare m n row row_ own own_ alone same = by_test (nat_eq (c.rank m) (c.rank n)) refl
+    where
+      by_test : (b : Bool) → nat_eq (c.rank m) (c.rank n) ≡ b → is_lt (slice_cmp (slice_cmp nat_cmp) (fresh_key g c m) (fresh_key g c n)) ≡ is_below row row_
+      by_test true e =
+          let is : m ≡ n = alone (eqb-true (c.rank m) (c.rank n) e) in
+          ap (λ k. is_lt (slice_cmp (slice_cmp nat_cmp) (fresh_key g c m) (fresh_key g c k))) (sym is)
+          ∙ key-itself (fresh_key g c m)
+          ∙ sym (ap (is_below row) (sym (same is)) ∙ below-itself row)
+      by_test false e = apart-compare m n row row_ own own_ (λ h. true≢false (sym (eq-eqb (c.rank m) (c.rank n) h) ∙ e))
+
+  own-compare : (m n : ℕ) (row row_ : List ℕ) → m < count → n < count → IsOwn m row → IsOwn n row_ → (m ≡ n → row ≡ row_)
+      → is_lt (slice_cmp (slice_cmp nat_cmp) (fresh_key g c m) (fresh_key g c n)) ≡ is_below row row_
+  own-compare m n row row_ low low_ (inl key) (inl key_) same =
+      rows-compare place (IsPlace uses users) stands.ordered (fresh_key g c m) (fresh_key g c n) row row_ (key-is_row m row low key) (key-is_row n row_ low_ key_)
+  own-compare m n row row_ low low_ (inl key) (inr alone) same = alone-compare m n row row_ (inl key) (inr alone) (λ e. alone.alone m low e) same
+  own-compare m n row row_ low low_ (inr alone) own same = alone-compare m n row row_ (inr alone) own (λ e. sym (alone.alone n low_ (sym e))) same
+
+  pub ranks-told : (at : ℕ → List ℕ) → ((n : ℕ) → n < count → IsOwn n (at n))
+      → (n : ℕ) → n < count → how_many (λ m. is_below (at m) (at n)) (range_with_len 0 count) ≡ rank_by (fresh_key g c) g.nodes n
+  ranks-told at own n low =
       count-agree (λ m. is_below (at m) (at n)) (λ m. is_lt (slice_cmp (slice_cmp nat_cmp) (fresh_key g c m) (fresh_key g c n))) (range_with_len 0 count)
-      (λ m among. let within = range-below count m among in sym (rows-compare place (IsPlace uses users) stands.ordered (fresh_key g c m) (fresh_key g c n) (at m) (at n) (key-is_row m (at m) within (keys m within)) (key-is_row n (at n) low (keys n low)))) in
-      ap (λ (rs : List (List ℕ)). how_many (λ (other : List ℕ). is_below other (at n)) rs) all
-      ∙ count-mapped (λ (other : List ℕ). is_below other (at n)) at (range_with_len 0 count)
-      ∙ tests
+      (λ m among. let within = range-below count m among in sym (own-compare m n (at m) (at n) within low (own m within) (own n low) (λ same. ap at same)))
       ∙ ap (how_many (λ m. is_lt (slice_cmp (slice_cmp nat_cmp) (fresh_key g c m) (fresh_key g c n)))) (sym stands.nodes)

@@ -1,11 +1,11 @@
 -- Graphs whose nodes are the numbers from 0 on, as arrays.
-use Rattle.std.specs.Prelude.{◌≡◌, ◌<◌, ◌≤◌, ◌+◌, ◌-◌, ℕ, Bool, false, List, [], ◌∷◌, ◌++◌, map, filter, length, take, drop, slice_index_or, Contains}
+use Rattle.std.specs.Prelude.{◌≡◌, ◌<◌, ◌≤◌, ◌+◌, ◌-◌, ℕ, Bool, false, List, [], ◌∷◌, ◌++◌, map, filter, length, take, drop, slice_index_or, ltb, Contains}
 use Rattle.std.specs.Cmp.Lexicographic.{slice_cmp}
 use Rattle.std.specs.List.{flat_map, range_with_len}
 use Rattle.std.specs.List.Sorted.{IsPermutation, IsSorted}
 use Rattle.std.specs.Ordering.{nat_cmp, ordering_then}
 use Rattle.p21_spec_basics.proofs.Shuffles.{Shuffled}
-use Rattle.p21_spec_numbering.specs.Graph.{Graph}
+use Rattle.p21_spec_numbering.specs.Graph.{Graph, how_many}
 use Rattle.p21_spec_numbering.specs.Fresh.{Ranks}
 use Rattle.p21_numbering.specs.declared.adjacency.Adjacency.{Adjacency}
 use Rattle.std.specs.declared.cmp.Ordering.{Ordering}
@@ -103,11 +103,16 @@ pub record IsKey (rank : ℕ) (c : Ranks) (uses users : List Use) (key : List �
   pub entries_are : IsPermutation (entries_at 0 c.fresh c.rank uses ++ entries_at 1 c.fresh c.rank users) entries
   pub entries_rise : IsSorted entry_cmp entries
 
+-- the rank of each node is how many have a lower one
+abbrev pub AreCounted : ℕ → (ℕ → ℕ) → Type 0
+AreCounted count rank = (n : ℕ) → n < count → how_many (λ m. ltb (rank m) (rank n)) (range_with_len 0 count) ≡ rank n
+
 -- ranks of so many nodes
 pub record AreRanks (count : ℕ) (rank : List ℕ) (fresh : List Bool) : Type 0 where
   pub ranks : length rank ≡ count
   pub marks : length fresh ≡ count
   pub within : (n : ℕ) → n < count → rank_at rank n < count
+  pub counted : AreCounted count (rank_at rank)
 
 -- the same for the nodes below this number
 pub record AgreeBelow (count : ℕ) (c d : Ranks) : Type 0 where

@@ -1,4 +1,5 @@
 pub mod Rows
+pub mod Keyed
 pub mod Arrays
 pub mod Largest
 pub mod PlacedUses

@@ -3,7 +3,7 @@ ghost use Rattle.std.specs.List.{range_with_len};
 ghost use Rattle.std.specs.Prelude.{◌≡◌, ◌<◌, ◌≤◌, ℕ, List, length, nat_eq, not, IfOk};
 ghost use Rattle.p21_spec_numbering.specs.Fresh.{final_rank};
 ghost use Rattle.p21_spec_numbering.specs.Graph.{Graph, how_many, rank_by};
-ghost use Rattle.p21_numbering.specs.Arrays.{AreRanksBy, AreUses, Represents, marked, rank_at};
+ghost use Rattle.p21_numbering.specs.Arrays.{AreCounted, AreRanksBy, AreUses, Represents, marked, rank_at};
 
 use crate::adjacency::Adjacency;
 use crate::rounds::{Ranks, next_ranks};
@@ -23,6 +23,7 @@ pub fn final_ranks(
     requires uses { AreUses (length labelled.items) uses.now }
     requires users { AreUses (length labelled.items) users.now }
     requires within { (n : ℕ) → n < length labelled.items → rank_at labelled.items n < length labelled.items }
+    requires counted { AreCounted (length labelled.items) (rank_at labelled.items) }
     ensures size { IfOk result (λ rank. length rank.items ≡ length labelled.items) }
     ensures within { IfOk result (λ rank. (n : ℕ) → n < length labelled.items → rank_at rank.items n < length labelled.items) }
     ensures ended { IfOk result (λ rank. (g : Graph) (place : ℕ → List ℕ) → Represents g place (length labelled.items) uses.now users.now → AreRanksBy (rank_by g.label g.nodes) (length labelled.items) labelled.items → AreRanksBy (final_rank g) (length labelled.items) rank.items) }

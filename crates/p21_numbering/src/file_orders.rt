@@ -39,6 +39,9 @@ pub fn file_order(
     let nodes = nodes(alloc, schema, instances)?;
     let ranks = ranks(alloc, &nodes)?;
     let standings = Standings::new(alloc, &nodes, &ranks)?;
+    // Their room is wanted for what follows.
+    drop(nodes);
+    drop(ranks);
     let ranked = ranked_instances(alloc, schema, instances, &standings)?;
     order(alloc, &ranked)
 }

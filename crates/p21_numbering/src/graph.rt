@@ -43,6 +43,10 @@ pub fn ranks(alloc: Global, nodes: &[Node]) -> Result<Vec<usize>, AllocError>
     let turned = turned(alloc, &edges)?;
     let uses = Adjacency::new(alloc, nodes.len(), &edges)?;
     let users = Adjacency::new(alloc, nodes.len(), &turned)?;
+    // Their room is wanted for what follows.
+    drop(labels);
+    drop(edges);
+    drop(turned);
     final_ranks(alloc, &uses, &users, labelled)
 }
 

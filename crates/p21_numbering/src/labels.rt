@@ -18,6 +18,9 @@ use p21_values::{Canonical, NoMemory};
 use std::alloc::{AllocError, Global};
 use std::collections::BTreeMap;
 
+/// Texts that are no longer than so many bytes need no more room.
+const USUAL: usize = 120;
+
 /// The node of an instance of this name, in a section whose heading has these texts.
 ///
 /// # Errors
@@ -46,7 +49,7 @@ fn unnamed_text(alloc: Global, schema: &Schema, typed: &Typed<'_>) -> Result<Vec
     ensures { IfOk result (λ text. text.items ≡ text_of schema.now (ids_view typed.now.parts) (rows_view typed.now.values)) }
 {
     let names = BTreeMap::new(alloc);
-    let mut text = Vec::new(alloc);
+    let mut text = Vec::with_capacity(alloc, USUAL)?;
     let entities = typed.parts.items();
     let rows = typed.values.items();
     for i in 0..entities.len() {
@@ -71,6 +74,7 @@ fn append_keyword(schema: &Schema, entity: EntityId, out: &mut Vec<u8>) -> Resul
 fn label(alloc: Global, heading: &[&[char]], text: &[u8]) -> Result<Vec<u64>, AllocError>
     ensures { IfOk result (λ row. row.items ≡ row_of_texts (lent_rows heading.now ++ (text.now ∷ []))) }
 {
-    let row = with_texts(Vec::new(alloc), heading)?;
+    let room = Vec::with_capacity(alloc, text.len().saturating_add(1))?;
+    let row = with_texts(room, heading)?;
     with_text(row, text)
 }

@@ -12,11 +12,12 @@
 //! of the way, and `src/adjacency` those of each node side by side; `Represents` (`specs/Arrays`) is what ties these
 //! arrays to a graph, and `proofs/Graphs` shows it.
 //!
-//! A round (`src/rounds`) makes the key of each node as a row of numbers, ranks these rows, and finds by two passes
-//! over all nodes which are fresh. `proofs/RoundKeys` shows that such rows compare as the keys of the definition, and
-//! `proofs/Telling` that rounds over arrays are those of the definition. A round costs a sort of all rows, so r rounds
-//! over n instances cost r n log n, and a path of n equal instances has n / 2 rounds. No call above the crate ranks a
-//! file yet, so nothing was measured.
+//! A round (`src/rounds`) makes the key of each node that it may tell from others as a row of numbers: of those that share their
+//! rank, and have uses of fresh nodes or by them (`src/key_rows`). Every other node keeps its rank, so the ranks behind the round
+//! are reckoned by these keys alone (`src/told_ranks`; `proofs/ToldRanks` has why). By two passes over all nodes it finds which are
+//! fresh. `proofs/RoundKeys` shows that such rows compare as the keys of the definition, `proofs/NextRanks` joins the two, and
+//! `proofs/Telling` shows that rounds over arrays are those of the definition. All rounds together sort n log n keys at most, but each
+//! looks at all nodes, and a path of n equal instances has n / 2 rounds.
 //!
 //! By its rank an instance is made from what is known of all by their names (`src/standings`): the rank of each, and how
 //! many have it. One that shares its rank says what its record says with ranks for names (`src/said`), and hangs together
@@ -52,6 +53,7 @@ mod rows;
 mod said;
 mod standings;
 mod text_rows;
+mod told_ranks;
 mod uses;
 
 pub use file_orders::file_order;

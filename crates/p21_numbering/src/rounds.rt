@@ -6,8 +6,9 @@ ghost use Rattle.p21_numbering.specs.Arrays.{AgreeBelow, AreRanks, AreUses, Repr
 
 use crate::adjacency::Adjacency;
 use crate::key_rows::keys;
-use crate::parts::fresh_nodes;
-use crate::rows::{lent, ranks_of_rows};
+use crate::parts::{fresh_nodes, sizes};
+use crate::rows::{lent_keys, sorted_rows};
+use crate::told_ranks::told_ranks;
 use std::alloc::{AllocError, Global};
 
 /// The rank of each node, and whether it is fresh: whether its uses may tell others apart that were not told apart before.
@@ -35,9 +36,11 @@ pub fn next_ranks(
     ensures ranks { IfOk result (λ next. AreRanks (length rank.now) next.rank.items next.fresh.items) }
     ensures told { IfOk result (λ next. (g : Graph) (place : ℕ → List ℕ) → Represents g place (length rank.now) uses.now users.now → AgreeBelow (length rank.now) (ranks_of next.rank.items next.fresh.items) (tell g (ranks_of rank.now fresh.now))) }
 {
-    let keys = keys(alloc, uses, users, rank, fresh)?;
-    let rows = lent(alloc, &keys)?;
-    let parts = ranks_of_rows(alloc, &rows)?;
+    let sizes = sizes(alloc, rank)?;
+    let keys = keys(alloc, uses, users, rank, fresh, &sizes)?;
+    let rows = lent_keys(alloc, &keys)?;
+    let sorted = sorted_rows(alloc, &rows)?;
+    let parts = told_ranks(alloc, rank, &sizes, &keys, &sorted)?;
     let next = fresh_nodes(alloc, rank, &parts)?;
     Ok(Ranks {
         rank: parts,

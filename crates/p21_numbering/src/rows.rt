@@ -1,7 +1,8 @@
 //! Rows of numbers, and how many of them stand below each.
-ghost use Rattle.std.specs.Prelude.{◌≡◌, map, IfOk};
+ghost use Rattle.std.specs.Prelude.{◌≡◌, filter, map, IfOk};
 ghost use Rattle.p21_spec_file.specs.CanonicalRecord.{AreTextsRising};
 ghost use Rattle.p21_spec_file.specs.Sorting.{sort_texts};
+ghost use Rattle.p21_numbering.specs.Keyed.{is_keyed};
 ghost use Rattle.p21_numbering.specs.Rows.{held_rows, lent_rows, rank_among};
 
 use std::alloc::{AllocError, Global};
@@ -31,18 +32,20 @@ pub fn sorted_rows<'a>(alloc: Global, rows: &[&'a [u64]]) -> Result<Vec<&'a [u64
     Ok(sorted)
 }
 
-/// The rows, lent.
+/// The rows that have numbers, lent.
 ///
 /// # Errors
 ///
 /// Where memory runs out.
-pub fn lent(alloc: Global, rows: &[Vec<u64>]) -> Result<Vec<&[u64]>, AllocError>
-    ensures { IfOk result (λ lent. lent_rows lent.items ≡ held_rows rows.now) }
+pub fn lent_keys(alloc: Global, rows: &[Vec<u64>]) -> Result<Vec<&[u64]>, AllocError>
+    ensures { IfOk result (λ lent. lent_rows lent.items ≡ filter is_keyed (held_rows rows.now)) }
 {
-    let mut lent = Vec::with_capacity(alloc, rows.len())?;
+    let mut lent = Vec::new(alloc);
     for row in rows {
         let row: &Vec<u64> = row;
-        lent.push(row.as_slice())?;
+        if !row.is_empty() {
+            lent.push(row.as_slice())?;
+        }
     }
     Ok(lent)
 }

@@ -144,7 +144,7 @@ front-leads (b ∷ xs) ys s e leads =
           ∙ (sym (append_assoc g.given (lex g.next xs).given more) ∙ ap (λ (ts : List SizedToken). ts ++ more) (sym here)));
     }
 
-mean-front : (xs ys : List SizedToken) (ls : List Lexeme) → MeanAll (xs ++ ys) ls → (ms : List Lexeme) × MeanAll xs ms
+pub mean-front : (xs ys : List SizedToken) (ls : List Lexeme) → MeanAll (xs ++ ys) ls → (ms : List Lexeme) × MeanAll xs ms
 mean-front [] ys ls mean = ([], tt)
 mean-front (x ∷ xs) ys [] mean = absurd mean
 mean-front (x ∷ xs) ys (l ∷ ls) mean = let (ms, more) = mean-front xs ys ls mean.2 in (l ∷ ms, (mean.0, mean.1, more))

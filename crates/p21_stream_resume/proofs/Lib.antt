@@ -9,3 +9,4 @@ pub mod LastBytes
 pub mod Digits
 pub mod Lexed
 pub mod Standing
+pub mod Statements

@@ -1,16 +1,14 @@
 //! Where the reading of a file goes on behind a statement that is refused: the first signpost in bytes that come in pieces (`Landmark` of
 //! `p21_spec_survey`).
 //!
-//! No byte is kept, and none is read twice. A signpost that pieces cut is no text to put together: a name may have digits by the
-//! gigabyte. So a `Seeker` hands on what a reader of statements has to know of a landmark: how many digits and blanks it has, and the
-//! number that the digits stand for, as far as it is below 2^64. These two tell the digits (`Numeral::digit`), zeros in front among
-//! them, and one blank is to a reader as any other. So a reader that is set anew takes the landmark from bytes that are made again, counts
-//! and refuses as it would have, and goes on behind it with the piece. A reader that ran along from each `#` would do the same work at
-//! every `#` of the bytes that are passed over, and would have to be set anew there.
+//! No byte is read twice. Of what is passed over the bytes of the signpost that is open are kept and no others, so that a reader of
+//! statements takes a landmark that pieces cut from its own bytes. A reader that ran along from each `#` would do the same work at every `#`
+//! of the bytes that are passed over, and would have to be set anew there. The digits of a name are told as a number besides, as far as it is
+//! below 2^64 (`Numeral`).
 //!
-//! Of a refused statement the bytes are kept, and `signpost_in_string` looks through them once for the first signpost in a string: where a
-//! lexer stands says whether a string is open (`in-string`, `string-in` in `proofs/Lexed`), and a signpost at the front of bytes is read by
-//! the same steps (`proofs/Standing`).
+//! Of a refused statement the bytes are kept, and `signpost_in_string` looks through them once for the first signpost in a string
+//! (`proofs/Statements` says what that is of a whole statement): where a lexer stands says whether a string is open (`in-string`,
+//! `string-in` in `proofs/Lexed`), and a signpost at the front of bytes is read by the same steps (`proofs/Standing`).
 //!
 //! `specs/Reading` says what a whole byte list is read as, by `step` alone; `proofs/Finding` joins that to the definitions: behind bytes
 //! in which no signpost is whole the state says whether one may begin (`Runs`), there each one is read to its end (`signpost-run`), and

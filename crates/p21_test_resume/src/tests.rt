@@ -2,30 +2,55 @@
 ghost use Rattle.std.specs.Prelude.{◌<◌};
 
 use p21_stream_resume::{Numeral, Seeker, Signpost, is_opened_behind, signpost_in_string};
+use std::alloc::Global;
 
-/// The first signpost in bytes that come in pieces of this size, and how many stand in front of its last byte.
-fn first_signpost(opened: bool, bytes: &[u8], size: usize) -> Option<(usize, Signpost)>
+/// The first signpost in bytes that come in pieces of this size, and how many stand in front of its last byte. None where the bytes that are
+/// held of it aren't those that end there, or memory is refused.
+fn first_signpost(
+    alloc: Global,
+    opened: bool,
+    bytes: &[u8],
+    size: usize,
+) -> Option<(usize, Signpost)>
     requires { 0 < size }
 {
-    let mut seeker = Seeker::new(opened);
+    let mut seeker = Seeker::new(alloc, opened);
     let mut taken: usize = 0;
     for piece in bytes.chunks(size) {
-        if let Some((place, signpost)) = seeker.seek(piece) {
-            return Some((taken.saturating_add(place), signpost));
+        let Ok(found) = seeker.seek(piece) else {
+            return None;
+        };
+        if let Some((place, signpost)) = found {
+            let last = taken.saturating_add(place);
+            if !stands_there(bytes, last, seeker.signpost_bytes()) {
+                return None;
+            }
+            return Some((last, signpost));
         }
         taken = taken.saturating_add(piece.len());
     }
     None
 }
 
+/// Whether the bytes of a signpost stand in others, the last of them behind so many.
+fn stands_there(bytes: &[u8], last: usize, signpost: &[u8]) -> bool {
+    let Some(front) = bytes.get(..last.saturating_add(1)) else {
+        return false;
+    };
+    match signpost.first() {
+        Some(first) => b"#EI".contains(first) && front.ends_with(signpost),
+        None => false,
+    }
+}
+
 /// A text with a signpost, how many bytes stand in front of its last one, and the signpost.
 type Rows = &'static [(&'static str, usize, Signpost)];
 
 /// The first row of which something else is found, in pieces of some size.
-fn first_wrong(opened: bool, rows: Rows) -> Option<usize> {
+fn first_wrong(alloc: Global, opened: bool, rows: Rows) -> Option<usize> {
     for (row, (text, place, signpost)) in rows.iter().enumerate() {
         for size in 1..=text.len() {
-            if first_signpost(opened, text.as_bytes(), size) != Some((*place, *signpost)) {
+            if first_signpost(alloc, opened, text.as_bytes(), size) != Some((*place, *signpost)) {
                 return Some(row);
             }
         }
@@ -34,10 +59,10 @@ fn first_wrong(opened: bool, rows: Rows) -> Option<usize> {
 }
 
 /// The first text in which a signpost is found, in pieces of some size.
-fn first_found(opened: bool, texts: &'static [&'static str]) -> Option<usize> {
+fn first_found(alloc: Global, opened: bool, texts: &'static [&'static str]) -> Option<usize> {
     for (row, text) in texts.iter().enumerate() {
         for size in 1..=text.len() {
-            if first_signpost(opened, text.as_bytes(), size).is_some() {
+            if first_signpost(alloc, opened, text.as_bytes(), size).is_some() {
                 return Some(row);
             }
         }
@@ -331,10 +356,10 @@ const NONE_AT_THE_FRONT: &[&str] = &["", " ,#1=A", "ENDSE", "END-ISO-10303-2"];
 
 #[test]
 fn finds_signposts(rt: HostRuntime) {
-    assert_eq!(rt; first_wrong(false, SIGNPOSTS), None);
-    assert_eq!(rt; first_wrong(true, AT_THE_FRONT), None);
-    assert_eq!(rt; first_found(false, NONE), None);
-    assert_eq!(rt; first_found(true, NONE_AT_THE_FRONT), None);
+    assert_eq!(rt; first_wrong(rt.alloc(), false, SIGNPOSTS), None);
+    assert_eq!(rt; first_wrong(rt.alloc(), true, AT_THE_FRONT), None);
+    assert_eq!(rt; first_found(rt.alloc(), false, NONE), None);
+    assert_eq!(rt; first_found(rt.alloc(), true, NONE_AT_THE_FRONT), None);
 }
 
 /// Texts, whether a signpost may begin in front of them, and whether one may behind them.

@@ -3,7 +3,7 @@ use Rattle.std.proofs.Common.{arith, ap, sym, subst, ◌∙◌}
 use Rattle.std.proofs.lemmas.List.{length-map}
 use Rattle.std.proofs.lemmas.Result.{IfOk-weaker}
 use Rattle.p21_spec_basics.proofs.Members.{Contains-unmapped}
-use Rattle.p21_numbering.specs.Arrays.{Edge, Represents, other_end, rank_at, uses_of}
+use Rattle.p21_numbering.specs.Arrays.{AreCounted, Edge, Represents, other_end, rank_at, uses_of}
 use Rattle.p21_numbering.specs.Edges.{turned_edge}
 use Rattle.p21_numbering.specs.Nodes.{Node, held_node, held_nodes}
 use Rattle.p21_numbering.specs.Rows.{lent_rows, rank_among}
@@ -11,6 +11,7 @@ use Rattle.p21_spec_numbering.specs.Numbered.{graph_of}
 use Rattle.p21_numbering.proofs.FileGraphs.{file-graph}
 use Rattle.p21_numbering.proofs.Graphs.{by_position, labels-ranked, place, rank-by_name, stands}
 use Rattle.p21_numbering.proofs.Telling.{ranks-long, ranks-within}
+use Rattle.p21_numbering.proofs.ToldRanks.{rows-counted}
 use Rattle.p21_numbering.proofs.graph.ranks.Goals as goal
 
 pub new-requires-clause-within : goal.new-requires-clause-within
@@ -34,6 +35,13 @@ final_ranks-requires-clause-within c n low =
     let long = ranks-long rows c.in_ok-labelled.labelled.items c.in_ok-labelled.ensures in
     let within = ranks-within rows c.in_ok-labelled.labelled.items c.in_ok-labelled.ensures n (omega (arith, low, long)) in
     omega (arith, within, long)
+
+pub final_ranks-requires-clause-counted : goal.final_ranks-requires-clause-counted
+final_ranks-requires-clause-counted c =
+    let rows : List (List ℕ) = lent_rows c.deref.result.now in
+    let long = ranks-long rows c.in_ok-labelled.labelled.items c.in_ok-labelled.ensures in
+    let P : ℕ → Type 0 = λ k. AreCounted k (rank_at c.in_ok-labelled.labelled.items) in
+    subst P (sym long) (rows-counted rows c.in_ok-labelled.labelled.items c.in_ok-labelled.ensures)
 
 pub returns-clause-ranks : goal.returns-clause-ranks
 returns-clause-ranks c =

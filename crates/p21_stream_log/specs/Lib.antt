@@ -1,0 +1,3 @@
+pub mod Log
+pub mod Front
+pub mod Broken

@@ -1,0 +1,185 @@
+ghost use Rattle.std.specs.Prelude.{◌≡◌, ◌++◌, IfOk, List, OnOk, ℕ};
+ghost use Rattle.p21_spec_schema.specs.Schema.{Schema};
+ghost use Rattle.p21_stream_log.specs.Broken.{BreaksOff};
+ghost use Rattle.p21_stream_log.specs.Log.{BeginSo, BeginsBehind, Closes, Known, LeaveOutGives, Logs, PassGives, StepGives, TakeGives, at_start};
+ghost use Rattle.p21_stream_statements.specs.StatementReader.{TakesWithinPiece};
+
+use crate::front::front_of;
+use p21_grammar::Event;
+use p21_spec_survey::whole_laws;
+use p21_stream_resume::signpost_in_string;
+use p21_stream_statements::{Fault, StatementReader};
+use p21_transcribe::behind_separators;
+use p21_values::{Limits, NoMemory};
+use std::alloc::{AllocError, Global};
+use std::marker::Model;
+
+/// A reader of statements, with the bytes of the statement that is open.
+#[derive(Drop)]
+pub struct Log {
+    reader: StatementReader,
+    // How many bytes of the file stand in front of the buffer: those of all statements that ended, and of those that are passed over.
+    start: u64,
+    // The bytes behind them that the reader has taken.
+    buffer: Vec<u8>,
+    // Whether a `;`, a `)` or the end of a line stands in front of the buffer, blanks apart.
+    opened: bool,
+}
+
+impl Model for Log {
+    ghost use Rattle.p21_stream_log.specs.Log.{Held};
+
+    ghost Value = { Held };
+
+    ghost view = { λ log. record { reader = log.reader; start = log.start; buffer = log.buffer.items; opened = log.opened } };
+}
+
+impl Log {
+    /// A log of a file of which nothing is read. It takes no memory.
+    pub fn new(alloc: Global, limits: Limits) -> Log
+        ensures logs { (s : Schema) (known : Known) (ahead : List ℕ) → BeginSo known ahead → Logs s limits known result (at_start ahead) }
+    {
+        Log {
+            reader: StatementReader::new(alloc, limits),
+            start: 0,
+            buffer: Vec::new(alloc),
+            opened: false,
+        }
+    }
+
+    /// Takes the bytes of one token, or of the rest of a piece in which none is whole, and says how many; with the `;` of a statement, the
+    /// statement. The byte behind a token may have been looked at: it has to be offered next.
+    ///
+    /// # Errors
+    ///
+    /// The reader's, and `NoMemory`.
+    pub fn step(&mut self, piece: &[u8]) -> Result<Option<(usize, Option<Event>)>, Fault>
+        ensures takes { TakesWithinPiece piece.now result }
+        ensures gives { StepGives self.old piece.now result self.new }
+    {
+        let answer = match self.reader.step(piece) {
+            Ok(answer) => answer,
+            Err(fault) => return Err(fault),
+        };
+        let Some((count, event)) = answer else {
+            return match self.keep(piece) {
+                Ok(()) => Ok(None),
+                Err(NoMemory) => Err(Fault::NoMemory),
+            };
+        };
+        match self.keep(&piece[..count]) {
+            Ok(()) => Ok(Some((count, event))),
+            Err(NoMemory) => Err(Fault::NoMemory),
+        }
+    }
+
+    /// Passes over the bytes of a whole instance that is read elsewhere, with separators around its tokens, as if they had been taken; says
+    /// whether it did. It does between instances of a data section, where the limits allow as many bytes.
+    ///
+    /// # Errors
+    ///
+    /// `NoMemory`.
+    pub fn pass_over(&mut self, instance: &[u8]) -> Result<bool, NoMemory>
+        ensures { IfOk result (λ passed. PassGives self.old instance.now passed self.new) }
+    {
+        if !self.reader.pass_over(instance.len()) {
+            return Ok(false);
+        }
+        match self.keep(instance) {
+            Ok(()) => Ok(true),
+            Err(NoMemory) => Err(NoMemory),
+        }
+    }
+
+    /// Takes the statement that ended last. It takes no memory.
+    pub fn take(&mut self)
+        ensures { TakeGives self.old self.new }
+    {
+        whole_laws();
+        self.close();
+    }
+
+    /// Leaves out the instance that ended last, which is refused, and says where it begins: how many bytes of the file stand in front of it.
+    /// `None` where a signpost stands in a string of it: then nothing changes. It takes no memory.
+    pub fn leave_out(&mut self) -> Option<u64>
+        ensures { LeaveOutGives self.old result self.new }
+    {
+        whole_laws();
+        if let Some(_) = signpost_in_string(&self.buffer) {
+            return None;
+        }
+        let begins = self.begins();
+        self.close();
+        Some(begins)
+    }
+
+    /// The bytes behind the last statement that ended, with those of a piece behind them.
+    ///
+    /// # Errors
+    ///
+    /// `NoMemory`.
+    pub fn bytes_with(&self, alloc: Global, piece: &[u8]) -> Result<Vec<u8>, NoMemory>
+        ensures { IfOk result (λ bytes. bytes.items ≡ self.now.buffer ++ piece.now) }
+    {
+        let mut bytes = Vec::new(alloc);
+        let Ok(()) = bytes.extend_from_slice(&self.buffer) else {
+            return Err(NoMemory);
+        };
+        let Ok(()) = bytes.extend_from_slice(piece) else {
+            return Err(NoMemory);
+        };
+        Ok(bytes)
+    }
+
+    /// Of the bytes behind the last statement that ended, with those of the piece of which a step refused some, the ones that stand in front
+    /// of this place in the file: where a statement begins so, and bytes stand behind them. Else none.
+    ///
+    /// # Errors
+    ///
+    /// `NoMemory`.
+    pub fn broken_front<'a>(
+        &self,
+        alloc: Global,
+        limits: Limits,
+        bytes: &'a [u8],
+        place: u64,
+    ) -> Result<&'a [u8], NoMemory>
+        ensures { IfOk result (λ front. (piece : List ℕ) → bytes.now ≡ self.now.buffer ++ piece → BreaksOff self.now piece front.now) }
+    {
+        whole_laws();
+        match front_of(alloc, limits, bytes, place.saturating_sub(self.start)) {
+            Ok(front) => Ok(front),
+            Err(NoMemory) => Err(NoMemory),
+        }
+    }
+
+    /// How many bytes of the file stand in front of the open statement.
+    fn begins(&self) -> u64
+        ensures { BeginsBehind self.now result }
+    {
+        let statement = behind_separators(&self.buffer);
+        self.reader
+            .places()
+            .byte
+            .saturating_sub(statement.len() as u64)
+    }
+
+    /// Takes bytes behind those of the buffer.
+    fn keep(&mut self, bytes: &[u8]) -> Result<(), NoMemory>
+        ensures { OnOk result (self.new ≡ record self.old { buffer = self.old.buffer ++ bytes.now }) }
+    {
+        match self.buffer.extend_from_slice(bytes) {
+            Ok(()) => Ok(()),
+            Err(AllocError) => Err(NoMemory),
+        }
+    }
+
+    /// Has the buffer begin anew behind the statement that ended last.
+    fn close(&mut self)
+        ensures { Closes self.old self.new }
+    {
+        self.opened = true;
+        self.start = self.reader.places().byte;
+        self.buffer.clear();
+    }
+}

@@ -1,0 +1,206 @@
+//! Files whose instances of some names are left out, in pieces of any size.
+ghost use Rattle.std.specs.Prelude.{◌<◌};
+
+use p21_grammar::Event;
+use p21_stream_log::{Log, is_front};
+use p21_values::{Limits, Name, NoMemory};
+use std::alloc::Global;
+use std::process::Abort;
+
+/// What is in front of the data of each file here.
+const HEAD: &str =
+    "ISO-10303-21;HEADER;FILE_DESCRIPTION((''),'2;1');FILE_NAME('','',(''),(''),'','','');FILE_SCHEMA(('DEMO'));ENDSEC;DATA;";
+
+/// Instances, the name of the one that is left out, and how many of their bytes stand in front of it, or that a signpost stands in a string.
+type Rows = &'static [(&'static str, u64, Option<usize>)];
+
+const ROWS: Rows = &[
+    ("#1=A();#2=A($);", 2, Some(7)),
+    ("#1=A();\n  #2=A($);", 2, Some(10)),
+    ("#1=A(); /* of #2=A(); */#2=A(';');", 2, Some(24)),
+    ("#2=A('#3=A();');", 2, Some(0)),
+    ("#2=A('); #3=');", 2, None),
+    ("#2=A(');\nENDSEC ;');", 2, None),
+];
+
+/// What comes of the instance that is left out: how many bytes stand in front of it, or none where a signpost stands in a string of it.
+type Answer = Option<Option<u64>>;
+
+/// Takes each statement of a piece but the instance of this name.
+fn read(log: &mut Log, piece: &[u8], name: Name, answer: &mut Answer) -> bool {
+    let mut rest = piece;
+    // A token that waited is given without a further byte.
+    for _ in 0..=piece.len().saturating_mul(2) {
+        let Ok(answered) = log.step(rest) else {
+            return false;
+        };
+        let Some((count, event)) = answered else {
+            return true;
+        };
+        rest = &rest[count..];
+        if let Some(event) = event {
+            if is_named(&event, name) {
+                *answer = Some(log.leave_out());
+            } else {
+                log.take();
+            }
+        }
+    }
+    false
+}
+
+fn is_named(event: &Event, wanted: Name) -> bool {
+    match event {
+        Event::Instance(name, _) => name.0 == wanted.0,
+        _ => false,
+    }
+}
+
+/// What comes of the instance of this name behind the header, in pieces of a size.
+fn answer_of(alloc: Global, text: &str, name: u64, size: usize) -> Answer
+    requires { 0 < size }
+{
+    let mut log = Log::new(alloc, Limits::usual());
+    let mut answer = None;
+    if !read(&mut log, HEAD.as_bytes(), Name(name), &mut answer) {
+        return None;
+    }
+    for piece in text.as_bytes().chunks(size) {
+        if !read(&mut log, piece, Name(name), &mut answer) {
+            return None;
+        }
+    }
+    answer
+}
+
+/// The first text of which something else comes, in pieces of some size.
+fn first_wrong(alloc: Global, rows: Rows) -> &'static str {
+    for (text, name, wanted) in rows {
+        let wanted = match wanted {
+            Some(count) => Some(HEAD.len().saturating_add(*count) as u64),
+            None => None,
+        };
+        for size in 1..=text.len() {
+            if answer_of(alloc, text, *name, size) != Some(wanted) {
+                return text;
+            }
+        }
+    }
+    "none"
+}
+
+#[test]
+fn what_is_left_out_begins_there(rt: HostRuntime) {
+    assert_eq!(rt; first_wrong(rt.alloc(), ROWS), "none");
+}
+
+/// Behind the header an instance is passed over that is read elsewhere.
+fn begins_behind_passed(alloc: Global, instance: &str, text: &str) -> Result<Answer, NoMemory> {
+    let mut log = Log::new(alloc, Limits::usual());
+    let mut answer = None;
+    if !read(&mut log, HEAD.as_bytes(), Name(2), &mut answer) {
+        return Ok(None);
+    }
+    if !log.pass_over(instance.as_bytes())? {
+        return Ok(None);
+    }
+    log.take();
+    if !read(&mut log, text.as_bytes(), Name(2), &mut answer) {
+        return Ok(None);
+    }
+    Ok(answer)
+}
+
+#[test]
+fn an_instance_is_passed_over(rt: HostRuntime) {
+    let wanted = Some(Some(HEAD.len().saturating_add(7) as u64));
+    assert_eq!(rt;
+        begins_behind_passed(rt.alloc(), "#1=A();", "#2=B();"),
+        Ok(wanted)
+    );
+}
+
+/// Bytes, and whether a statement that hasn't ended begins so.
+const FRONTS: &[(&str, bool)] = &[
+    ("", true),
+    ("#1=A('x;", true),
+    ("#1=A('x';", false),
+    (" /* ; ", true),
+    ("#1=A();", false),
+    ("#1=a", false),
+];
+
+/// The first text of which the other is told.
+fn first_other(alloc: Global) -> &'static str {
+    for (text, is_so) in FRONTS {
+        if is_front(alloc, Limits::usual(), text.as_bytes()) != Ok(*is_so) {
+            return text;
+        }
+    }
+    "none"
+}
+
+#[test]
+fn tells_fronts(rt: HostRuntime) {
+    assert_eq!(rt; first_other(rt.alloc()), "none");
+}
+
+/// An instance that is refused behind the header, how many of its bytes stand in front of what is refused, and these.
+type Broken = &'static [(&'static str, usize, &'static str)];
+
+const BROKEN: Broken = &[
+    ("#1=A(nan);", 5, "#1=A("),
+    ("#1=A('x;y',nan);", 11, "#1=A('x;y',"),
+    ("#1=A($;#2=A();", 6, "#1=A($"),
+    ("#1=A(nan);", 99, ""),
+];
+
+/// The front of the statement that is refused in front of this place, in pieces of a size: none where nothing is refused, or memory is.
+fn front_behind(
+    alloc: Global,
+    text: &str,
+    place: usize,
+    size: usize,
+    wanted: &str,
+) -> Result<bool, NoMemory>
+    requires { 0 < size }
+{
+    let mut log = Log::new(alloc, Limits::usual());
+    let mut answer = None;
+    if !read(&mut log, HEAD.as_bytes(), Name(0), &mut answer) {
+        return Ok(false);
+    }
+    for piece in text.as_bytes().chunks(size) {
+        let mut rest = piece;
+        for _ in 0..=piece.len().saturating_mul(2) {
+            match log.step(rest) {
+                Ok(None) => break,
+                Ok(Some((count, _))) => rest = &rest[count..],
+                Err(_) => {
+                    let bytes = log.bytes_with(alloc, rest)?;
+                    let place = HEAD.len().saturating_add(place) as u64;
+                    let front = log.broken_front(alloc, Limits::usual(), &bytes, place)?;
+                    return Ok(front == wanted.as_bytes());
+                }
+            }
+        }
+    }
+    Ok(false)
+}
+
+/// The first text of which another front is told, in pieces of some size, or memory was refused.
+fn first_other_front(alloc: Global, rows: Broken) -> Result<&'static str, NoMemory> {
+    for (text, place, wanted) in rows {
+        for size in 1..=text.len() {
+            if !front_behind(alloc, text, *place, size, wanted)? {
+                return Ok(text);
+            }
+        }
+    }
+    Ok("none")
+}
+
+#[test]
+fn tells_what_is_broken(rt: HostRuntime) {
+    assert_eq!(rt; first_other_front(rt.alloc(), BROKEN), Ok("none"));
+}
