@@ -720,6 +720,123 @@ expect 'a first file that is not there' 3 '' "$(unopened "$here/none")"
 run same "$here/none" "$here/point" "$here/absent"
 expect 'two files by no schema' 3 '' "$(unopened "$here/none")"
 
+# Files by what their models say of their instances, whatever names these have. A cloud of a point is told apart; two clouds of the same two
+# points aren't, since nothing tells one from the other: the clouds, whose keyword comes first, are named.
+file '#7=CLOUD((#3),(),(TALLY(1)));' '#3=POINT($,1.,1.);' > "$here/told"
+file '#4=POINT($,1.0,1.0);' '#9=CLOUD((#4),(),(TALLY(1)));' > "$here/renumbered"
+file '#4=POINT($,1.0,2.0);' '#9=CLOUD((#4),(),(TALLY(1)));' > "$here/changed"
+file '#1=CLOUD((#2),(),(TALLY(1)));' '#2=POINT($,1.,1.);' > "$here/numbered"
+clouds='#1=POINT($,1.,1.);#2=POINT($,1.,1.);#3=CLOUD((#1,#2),(),(TALLY(1)));#4=CLOUD((#1,#2),(),(TALLY(1)));'
+file "$clouds" > "$here/alike"
+file "$(echo "$clouds" | sed 's/#\([1-4]\)/#1\1/g')" > "$here/renumbered_alike"
+run canon "$demo" "$here/numbered"
+cp "$here/output" "$here/numbered"
+
+for name in told renumbered numbered; do
+    run canon --names "$demo" "$here/$name"
+    expect "the numbered file of one that is $name" 0 "$(cat "$here/numbered")" ''
+    cmp -s "$here/output" "$here/numbered" || { echo "the numbered file of one that is $name: other bytes" >&2; failed=1; }
+done
+
+run canon --names "$demo" "$here/alike"
+expect 'no numbered file' 1 '' 'refused 59 Alike in #3'
+
+run canon "$demo" "$here/twice" --names
+expect 'no numbered file of one that is refused' 1 '' 'refused 40 DuplicateName in #1'
+
+run canon --names "$here/schema" "$here/told"
+expect 'no numbered file by a schema that is refused' 1 '' 'schema refused S2 Syntax'
+
+run canon --names "$demo" "$here/none"
+expect 'the numbered file of none' 3 '' "$(unopened "$here/none")"
+
+run canon --names "$demo" "$here"
+expect 'the numbered file of a folder' 3 '' "read fault
+note: $here: a folder"
+
+run canon --names --names "$demo" "$here/told"
+expect 'names twice' 2 '' '*--names*'
+
+fed "$here/told" canon --names "$demo" -
+expect 'the numbered file of standard input' 0 "$(cat "$here/numbered")" ''
+
+run same "$demo" "$here/told" "$here/renumbered"
+expect 'other names' 1 'different' ''
+
+run same --names "$demo" "$here/told" "$here/renumbered"
+expect 'the same but for names' 0 'same' ''
+
+run same --names "$demo" "$here/told" "$here/changed"
+expect 'not the same but for names' 1 'different' ''
+
+run same --names "$demo" "$here/alike" "$here/alike"
+expect 'a file beside itself, of which names are not told apart' 0 'same' ''
+
+run same --names "$demo" "$here/alike" "$here/renumbered_alike"
+expect 'two files of which names are not told apart' 1 '' 'first: refused 59 Alike in #3'
+
+run same --names "$demo" "$here/renumbered_alike" "$here/alike"
+expect 'the same two in the other order' 1 '' 'first: refused 59 Alike in #13'
+
+run same --names "$demo" "$here/alike" "$here/told"
+expect 'names told apart in one file alone' 1 'different' ''
+
+run same --names "$demo" "$here/alike" "$here/twice"
+expect 'a second file refused, whatever its names' 1 '' 'second: refused 40 DuplicateName in #1'
+
+run same --names "$demo" "$here/told" "$here/none"
+expect 'no second file, whatever its names' 3 '' "$(unopened "$here/none")"
+
+run check --names "$demo" "$here/told"
+expect 'a file whose names are told apart' 0 'accepted, instances 2, canonical bytes 201' ''
+
+run check --names "$demo" "$here/alike"
+expect 'a file whose names are not told apart' 1 '' 'refused 59 Alike in #3'
+
+run check "$demo" "$here/alike"
+expect 'the same file by its own names' 0 'accepted, instances 4, canonical bytes 256' ''
+
+run check --names "$demo" "$here/told" "$here/alike" "$here/none" "$here/twice" "$here/renumbered"
+expect 'names of several files' 3 "$here/told: accepted, instances 2, canonical bytes 201
+$here/renumbered: accepted, instances 2, canonical bytes 201" "$here/alike: refused 59 Alike in #3
+$gone
+$here/twice: refused 40 DuplicateName in #1"
+
+run check --names --all "$demo" "$here/alike"
+expect 'names behind a list of refusals' 1 '' 'refused 59 Alike in #3
+refusals 1'
+
+run check --names --all "$demo" "$here/several"
+expect 'a list of refusals in front of names' 1 '' 'refused 45 Count in #2
+*
+refusals 6'
+
+run check --names --all "$demo" "$here/told"
+expect 'names told apart, and no list of refusals' 0 'accepted, instances 2, canonical bytes 201' ''
+
+run check --names --where "$demo" "$here/alike"
+expect 'no place of names' 1 '' 'refused 59 Alike in #3'
+
+run check --names --where "$demo" "$here/twice"
+expect 'the place of a refusal, in front of names' 1 '' "refused 40 DuplicateName in #1
+$here/twice:9:1"
+
+run check --names --where --most 3 "$demo" "$here/alike" "$here/broken"
+expect 'names beside places of several files' 1 '' "$here/alike: refused 59 Alike in #3
+$here/alike: refusals 1
+$here/broken:8:14: 45 Count in #1: POINT.Y
+*"
+
+fed "$here/alike" check --names --format jsonl "$demo" -
+expect 'names as JSON' 1 '' '{"file":"-","number":59,"name":"Alike","instance":3,"alike":4}'
+
+run check --names --all --format jsonl "$demo" "$here/alike"
+expect 'names as JSON, and their end' 1 '' "{\"file\":\"$here/alike\",\"number\":59,\"name\":\"Alike\",\"instance\":3,\"alike\":4}
+{\"refusals\":1,\"extent\":\"whole\"}"
+
+run diff --names "$demo" "$here/told" "$here/renumbered"
+expect 'no names of differences' 2 '' '*--names*'
+
 run --version
 expect 'the version' 0 'p21 0.1.0 (canonical form 1)' ''
 

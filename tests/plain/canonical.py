@@ -42,34 +42,41 @@ def section_name(section):
     return scalars.spelled(("text", section.name))
 
 
-def value(meant):
-    """The text of a value: the elements of a set and of a bag rise byte by byte, one in front of what it begins."""
+def value(meant, names=None):
+    """The text of a value: the elements of a set and of a bag rise byte by byte, one in front of what it begins. Where names are
+    given, the text has those in place of the ones that it refers to."""
     match meant:
         case ("number", ratio):
             return scalars.spelled_ratio(ratio)
+        case ("name", target) if names is not None:
+            return scalars.spelled(("name", names[target]))
         case ("typed", name, within):
-            return name + joined([value(within)])
+            return name + joined([value(within, names)])
         case ("list" | "array", elements):
-            return joined(map(value, elements))
+            return joined(value(x, names) for x in elements)
         case ("set", elements):
-            return joined(sorted(map(value, elements)))
+            return joined(sorted(value(x, names) for x in elements))
         case ("bag", counted):
-            return joined(sorted(text for x, often in counted for text in [value(x)] * often))
+            return joined(sorted(text for x, often in counted for text in [value(x, names)] * often))
     return scalars.spelled(meant)
+
+
+def own_parts(schema, meaning, names=None):
+    """The parts of a record in external mapping: keywords rise, and each has the values that its entity declares itself."""
+    values = dict(meaning.values)
+    return "".join(
+        e + joined(value(values[e, attribute], names) for attribute in schema.entities[e].own)
+        for e in sorted(meaning.entities)
+    )
 
 
 def instance(schema, name, meaning):
     """The line of an instance: in internal mapping where its set has one leaf, else the parts with rising keywords."""
-    values = dict(meaning.values)
     leaves = schema.leaves(meaning.entities)
-
-    def part(entity, places):
-        return entity + joined(value(values[place]) for place in places)
-
     if len(leaves) == 1:
-        return f"#{name}={part(leaves[0], schema.places(leaves[0]))};"
-    own = [(e, [(e, attribute) for attribute in schema.entities[e].own]) for e in sorted(meaning.entities)]
-    return f"#{name}=({''.join(part(e, places) for e, places in own)});"
+        values = dict(meaning.values)
+        return f"#{name}={leaves[0]}{joined(value(values[place]) for place in schema.places(leaves[0]))};"
+    return f"#{name}=({own_parts(schema, meaning)});"
 
 
 def lines(schema, meaning):

@@ -3,6 +3,7 @@
 from . import canonical
 from .files import read_file, survey_file
 from .limits import USUAL
+from .numbering import Alike, numbered
 from .refusal import Refused, RefusedFile, RefusedSchema
 from .schema import read_schema
 from .syntax import header_lines, keyword_lines, read_alone
@@ -25,7 +26,7 @@ def of_files(command):
     def run(schema_text, *arguments):
         try:
             return command(read_schema(schema_text), *arguments)
-        except (RefusedSchema, RefusedFile) as refusal:
+        except (RefusedSchema, RefusedFile, Alike) as refusal:
             return refused(refusal)
 
     return run
@@ -77,6 +78,14 @@ def check(found, file, limits=USUAL):
 
 
 @of_files
+def check_names(found, file):
+    """The answer for a file that is accepted and has a numbered file."""
+    meaning = read_file(found, file)
+    numbered(found, meaning)
+    return accepted(found, meaning)
+
+
+@of_files
 def check_all(found, file, most=None):
     """The same; or a line for each refusal, and their count."""
     refusals, behind, meaning = survey_file(found, file, most)
@@ -92,6 +101,12 @@ def canon(found, file):
 
 
 @of_files
+def canon_names(found, file, limits=USUAL):
+    """The numbered file."""
+    return numbered(found, read_file(found, file, limits), limits), "", 0
+
+
+@of_files
 def show(found, file, name):
     """The canonical statement of an instance."""
     meaning = read_file(found, file)
@@ -100,17 +115,44 @@ def show(found, file, name):
     return answered(canonical.instance(found, name, meaning.instances[name][1]))
 
 
-@of_files
-def same(found, first, second):
-    """Whether two files mean the same: by their meanings, and not by their texts."""
+def both_read(found, first, second):
+    """What both files mean; or the refusal of the one that is refused first."""
     meanings = []
     for which, file in (("first", first), ("second", second)):
         try:
             meanings.append(read_file(found, file))
         except RefusedFile as refusal:
-            return refused(f"{which}: {refusal}")
+            return None, refused(f"{which}: {refusal}")
+    return meanings, None
+
+
+def compared(same):
+    """Whether two files are the same."""
+    return answered("same") if same else ("different\n", "", 1)
+
+
+@of_files
+def same(found, first, second):
+    """Whether two files mean the same: by their meanings, and not by their texts."""
+    meanings, refusal = both_read(found, first, second)
+    return refusal or compared(meanings[0] == meanings[1])
+
+
+@of_files
+def same_names(found, first, second):
+    """Whether two files mean the same but for names: by what they mean, and else by their numbered files. Where one has none, they
+    don't; where neither has one for the same reason, that is the answer."""
+    meanings, refusal = both_read(found, first, second)
+    if refusal:
+        return refusal
     if meanings[0] == meanings[1]:
-        return answered("same")
-    return "different\n", "", 1
-
-
+        return compared(True)
+    texts, reasons = [], []
+    for meaning in meanings:
+        try:
+            texts.append(numbered(found, meaning))
+        except (RefusedFile, Alike) as reason:
+            reasons.append(reason)
+    if len(reasons) == 2 and type(reasons[0]) is type(reasons[1]):
+        return refused(f"first: {reasons[0]}")
+    return compared(len(texts) == 2 and texts[0] == texts[1])

@@ -34,6 +34,8 @@ def arguments():
         if command == "check":
             command_line.add_argument("--all", action="store_true")
             command_line.add_argument("--most", type=int)
+        if command in ("check", "canon", "same"):
+            command_line.add_argument("--names", action="store_true")
     return parser.parse_args()
 
 
@@ -43,6 +45,8 @@ def main():
     command = given.pop("command")
     option = given.pop("name", None)
     every, most = given.pop("all", False), given.pop("most", None)
+    if given.pop("names", False):
+        command += "_names"
     if every or most is not None:
         command, option = "check_all", most
     flags = {name: given.pop(name) for name in ("header", "count") if name in given}

@@ -45,6 +45,7 @@ NAMES = {
     56: "Dangling",
     57: "WrongTarget",
     58: "OneOf",
+    59: "Alike",
 }
 
 SCHEMA_NAMES = {

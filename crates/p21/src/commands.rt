@@ -6,19 +6,22 @@ ghost use Rattle.std.specs.Prelude.{Some, IfErr, IfOk};
 ghost use Rattle.clap.specs.Words.{subcommand_name_of};
 ghost use Rattle.p21.specs.Statuses.{IsOfAnswer, IsOfCommand, IsUnopened, NamesFiles};
 
+use crate::apart::{Wishes, tell_wishes};
 use crate::differences::run_diff;
 use crate::input::{Inputs, Kept, Source};
 use crate::lines::Lines;
 use crate::notes::{Given, Wanted, note_file, note_files, note_given, note_listing};
-use crate::places::{Asked, ToldOf, asked_places, tell_place_alone, tell_places, tell_unloaded};
+use crate::places::{Asked, ToldOf, asked_places, tell_place_alone, tell_unloaded};
 use crate::progress::ProgressReader;
+use crate::recorded::Recorded;
 use crate::refusals::SECTIONS;
 use crate::several::{check_several, syntax_several};
 use clap::ArgMatches;
 use p21_command_line::LIST;
 use p21_commands::{
     Checks, CommandFault, DONE, Details, canon_command, check_all_command, check_command,
-    param_command, report, same_command, schema_command, show_command, syntax_located_command,
+    check_numbered_command, numbered_command, param_command, report, same_but_for_names_command,
+    same_command, schema_command, show_command, syntax_located_command,
 };
 use p21_stream_io::Watched;
 use p21_values::Name;
@@ -165,16 +168,16 @@ pub fn details_given(found: &ArgMatches<'_>) -> Details {
     }
 }
 
-/// `check S FILE.. [--all] [--most N] [--where] [--format FORM] [--progress]`.
+/// `check S FILE.. [--all] [--most N] [--where] [--names] [--format FORM] [--progress]`.
 fn run_check<'a>(rt: &HostRuntime, found: &ArgMatches<'a>) -> Result<u8, Stopped<'a>>
     ensures ran { IfOk result IsOfCommand }
     ensures unopened { IfErr result IsUnopened }
 {
-    let asked = asked_places(found);
+    let wishes = Wishes::of_check(found, asked_places(found));
     match found.get_strs("FILE") {
-        Some([path]) if !path.starts_with('@') => check_named(rt, found, asked, path),
-        Some(words) => check_several(rt, found, asked, words),
-        None => check_named(rt, found, asked, ""),
+        Some([path]) if !path.starts_with('@') => check_named(rt, found, wishes, path),
+        Some(words) => check_several(rt, found, wishes, words),
+        None => check_named(rt, found, wishes, ""),
     }
 }
 
@@ -182,23 +185,24 @@ fn run_check<'a>(rt: &HostRuntime, found: &ArgMatches<'a>) -> Result<u8, Stopped
 fn check_named<'a>(
     rt: &HostRuntime,
     found: &ArgMatches<'a>,
-    asked: Asked,
+    wishes: Wishes,
     path: &'a str,
 ) -> Result<u8, Stopped<'a>>
     ensures ran { IfOk result IsOfCommand }
     ensures unopened { IfErr result IsUnopened }
 {
-    match asked {
-        Asked::None => check_one(rt, found, path),
-        _ => check_with_places(rt, found, asked, path),
+    if wishes.asked == Asked::None && !wishes.is_read_again() {
+        check_one(rt, found, wishes, path)
+    } else {
+        check_with_places(rt, found, wishes, path)
     }
 }
 
-/// `check` of one file, with the place in each line.
+/// `check` of one file, with the place in each line, or with a list in front of whether its instances are told apart.
 fn check_with_places<'a>(
     rt: &HostRuntime,
     found: &ArgMatches<'a>,
-    asked: Asked,
+    wishes: Wishes,
     path: &'a str,
 ) -> Result<u8, Stopped<'a>>
     ensures ran { IfOk result IsOfCommand }
@@ -211,25 +215,27 @@ fn check_with_places<'a>(
     let mut faults = Watched::new(Kept::new(rt.stderr()));
     let (status, source) = match Checks::load(rt.alloc(), &mut schema) {
         Ok(mut checks) => {
-            let file = Watched::new(Lines::new(rt.alloc(), source, true));
+            let source = Recorded::new(rt.alloc(), source, wishes.is_read_again());
+            let has_lines = wishes.asked != Asked::None;
+            let file = Watched::new(Lines::new(rt.alloc(), source, has_lines));
             let mut output = Watched::new(rt.stdout());
             let name = ToldOf {
                 path,
                 is_named: false,
             };
-            let (status, lines) = tell_places(
+            let (status, lines) = tell_wishes(
                 rt,
                 &mut checks,
-                asked,
+                wishes,
                 name,
                 file,
                 &mut output,
                 &mut faults,
             );
-            (status, lines.into_inner())
+            (status, lines.into_inner().into_inner())
         }
         Err(unloaded) => {
-            let status = tell_unloaded(rt, asked, schema_path, &unloaded, &mut faults);
+            let status = tell_unloaded(rt, wishes.asked, schema_path, &unloaded, &mut faults);
             (status, source)
         }
     };
@@ -243,7 +249,12 @@ fn check_with_places<'a>(
 }
 
 /// `check` of one file, without its name in front of the lines.
-fn check_one<'a>(rt: &HostRuntime, found: &ArgMatches<'a>, path: &'a str) -> Result<u8, Stopped<'a>>
+fn check_one<'a>(
+    rt: &HostRuntime,
+    found: &ArgMatches<'a>,
+    wishes: Wishes,
+    path: &'a str,
+) -> Result<u8, Stopped<'a>>
     ensures ran { IfOk result IsOfCommand }
     ensures unopened { IfErr result IsUnopened }
 {
@@ -252,7 +263,7 @@ fn check_one<'a>(rt: &HostRuntime, found: &ArgMatches<'a>, path: &'a str) -> Res
     let mut schema = Watched::new(Kept::new(inputs.open(rt, schema_path)?));
     let mut file = Watched::new(with_progress(rt, found, path, inputs.open(rt, path)?));
     let mut faults = Watched::new(Kept::new(rt.stderr()));
-    let status = run_check_over(rt, most_given(found), &mut schema, &mut file, &mut faults);
+    let status = run_check_over(rt, wishes, &mut schema, &mut file, &mut faults);
     let read_schema = schema.into_inner();
     let read = file.into_inner().into_inner();
     let schema = Given::new(schema_path, Wanted::Schema, &read_schema);
@@ -262,10 +273,10 @@ fn check_one<'a>(rt: &HostRuntime, found: &ArgMatches<'a>, path: &'a str) -> Res
     Ok(status)
 }
 
-/// Checks a file, and lists its refusals where `most` says how many.
+/// Checks a file; or lists its refusals, or says whether its model tells its instances apart, where one of these is asked for.
 fn run_check_over<S: Read, R: Read, F: Write>(
     rt: &HostRuntime,
-    most: Option<u64>,
+    wishes: Wishes,
     schema: &mut Watched<S>,
     file: &mut Watched<R>,
     faults: &mut Watched<F>,
@@ -273,8 +284,11 @@ fn run_check_over<S: Read, R: Read, F: Write>(
     ensures { IsOfCommand result }
 {
     let mut output = Watched::new(rt.stdout());
-    match most {
+    match wishes.most {
         Some(most) => check_all_command(rt.alloc(), schema, file, most, &mut output, faults),
+        None if wishes.names => {
+            check_numbered_command(rt.alloc(), schema, file, &mut output, faults)
+        }
         None => check_command(rt.alloc(), schema, file, &mut output, faults),
     }
 }
@@ -288,7 +302,7 @@ pub fn most_given(found: &ArgMatches<'_>) -> Option<u64> {
     }
 }
 
-/// `canon S FILE [--progress]`.
+/// `canon S FILE [--names] [--progress]`.
 fn run_canon<'a>(rt: &HostRuntime, found: &ArgMatches<'a>) -> Result<u8, Stopped<'a>>
     ensures ran { IfOk result IsOfCommand }
     ensures unopened { IfErr result IsUnopened }
@@ -297,9 +311,9 @@ fn run_canon<'a>(rt: &HostRuntime, found: &ArgMatches<'a>) -> Result<u8, Stopped
     let (schema_path, path) = (given(found, "S"), given(found, "FILE"));
     let mut schema = Watched::new(Kept::new(inputs.open(rt, schema_path)?));
     let mut file = Watched::new(with_progress(rt, found, path, inputs.open(rt, path)?));
-    let mut output = Watched::new(rt.stdout());
     let mut faults = Watched::new(Kept::new(rt.stderr()));
-    let status = canon_command(rt.alloc(), &mut schema, &mut file, &mut output, &mut faults);
+    let is_numbered = found.get_flag("names");
+    let status = run_canon_over(rt, is_numbered, &mut schema, &mut file, &mut faults);
     let read_schema = schema.into_inner();
     let read = file.into_inner().into_inner();
     let schema = Given::new(schema_path, Wanted::Schema, &read_schema);
@@ -307,6 +321,24 @@ fn run_canon<'a>(rt: &HostRuntime, found: &ArgMatches<'a>) -> Result<u8, Stopped
     note_file(rt, status, "canon", schema, file, "");
     note_listing(rt, schema_path, faults.into_inner().front());
     Ok(status)
+}
+
+/// Writes the canonical file of a file, under the names that it has or under numbers.
+fn run_canon_over<S: Read, R: Read, F: Write>(
+    rt: &HostRuntime,
+    is_numbered: bool,
+    schema: &mut Watched<S>,
+    file: &mut Watched<R>,
+    faults: &mut Watched<F>,
+) -> u8
+    ensures { IsOfCommand result }
+{
+    let mut output = Watched::new(rt.stdout());
+    if is_numbered {
+        numbered_command(rt.alloc(), schema, file, &mut output, faults)
+    } else {
+        canon_command(rt.alloc(), schema, file, &mut output, faults)
+    }
 }
 
 /// `show S FILE --name N`.
@@ -346,7 +378,7 @@ fn name_given<'a>(found: &ArgMatches<'a>) -> Result<Name, Stopped<'a>> {
     }
 }
 
-/// `same S A B [--progress]`.
+/// `same S A B [--names] [--progress]`.
 fn run_same<'a>(rt: &HostRuntime, found: &ArgMatches<'a>) -> Result<u8, Stopped<'a>>
     ensures ran { IfOk result IsOfCommand }
     ensures unopened { IfErr result IsUnopened }
@@ -357,12 +389,13 @@ fn run_same<'a>(rt: &HostRuntime, found: &ArgMatches<'a>) -> Result<u8, Stopped<
     let mut first = Watched::new(with_progress(rt, found, a, inputs.open(rt, a)?));
     let mut second = Watched::new(with_progress(rt, found, b, inputs.open(rt, b)?));
     let mut faults = Watched::new(Kept::new(rt.stderr()));
-    let status = same_command(
-        rt.alloc(),
+    let but_for_names = found.get_flag("names");
+    let status = run_same_over(
+        rt,
+        but_for_names,
         &mut schema,
         &mut first,
         &mut second,
-        &mut Watched::new(rt.stdout()),
         &mut faults,
     );
     let read_schema = schema.into_inner();
@@ -374,6 +407,25 @@ fn run_same<'a>(rt: &HostRuntime, found: &ArgMatches<'a>) -> Result<u8, Stopped<
     note_files(rt, status, "same", schema, first, second);
     note_listing(rt, schema_path, faults.into_inner().front());
     Ok(status)
+}
+
+/// Compares two files, by the names of their instances too or but for these.
+fn run_same_over<S: Read, A: Read, B: Read, F: Write>(
+    rt: &HostRuntime,
+    but_for_names: bool,
+    schema: &mut Watched<S>,
+    first: &mut Watched<A>,
+    second: &mut Watched<B>,
+    faults: &mut Watched<F>,
+) -> u8
+    ensures { IsOfCommand result }
+{
+    let mut output = Watched::new(rt.stdout());
+    if but_for_names {
+        same_but_for_names_command(rt.alloc(), schema, first, second, &mut output, faults)
+    } else {
+        same_command(rt.alloc(), schema, first, second, &mut output, faults)
+    }
 }
 
 /// `faults [N]`.

@@ -23,6 +23,11 @@ impl<R> Lines<R> {
         }
     }
 
+    /// The reader.
+    pub fn inner(&self) -> &R {
+        &self.inner
+    }
+
     /// Where lines begin in what was read.
     pub fn starts(&self) -> &LineStarts {
         &self.starts

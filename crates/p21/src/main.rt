@@ -12,6 +12,7 @@ ghost use Rattle.clap.specs.Words.{kind_of};
 ghost use Rattle.p21.specs.Statuses.{IsOfMistake, IsOfRun, IsOfWords, IsStatus};
 ghost use Rattle.p21_commands.specs.Status.{done, usage, failed};
 
+mod apart;
 mod commands;
 mod differences;
 mod input;
@@ -20,6 +21,7 @@ mod named;
 mod notes;
 mod places;
 mod progress;
+mod recorded;
 mod refusals;
 mod several;
 mod shown;

@@ -2,7 +2,8 @@
 ghost use Rattle.std.specs.Prelude.{IfErr, IfOk};
 ghost use Rattle.p21.specs.Statuses.{IsOfCommand, IsUnopened};
 
-use crate::commands::{Stopped, details_given, given, most_given, with_progress};
+use crate::apart::{Wishes, tell_apart};
+use crate::commands::{Stopped, details_given, given, with_progress};
 use crate::input::{Inputs, Kept, Source};
 use crate::lines::Lines;
 use crate::named::Named;
@@ -10,6 +11,7 @@ use crate::notes::{
     Given, Wanted, note_given, note_listing, note_one_alone, note_one_of_several, note_unopened,
 };
 use crate::places::{Asked, ToldOf, tell_place_alone, tell_places, tell_unloaded};
+use crate::recorded::Recorded;
 use crate::shown::Shown;
 use clap::ArgMatches;
 use p21_commands::{Checks, CommandFault, SyntaxChecks, report};
@@ -46,7 +48,7 @@ struct Writers {
 struct Run<'r, 'f, 's, 'a> {
     rt: &'r HostRuntime,
     found: &'f ArgMatches<'a>,
-    asked: Asked,
+    wishes: Wishes,
     inputs: Inputs,
     task: Task<'s>,
 }
@@ -55,7 +57,7 @@ struct Run<'r, 'f, 's, 'a> {
 pub fn check_several<'a>(
     rt: &HostRuntime,
     found: &ArgMatches<'a>,
-    asked: Asked,
+    wishes: Wishes,
     words: &[&'a str],
 ) -> Result<u8, Stopped<'a>>
     ensures ran { IfOk result IsOfCommand }
@@ -65,7 +67,7 @@ pub fn check_several<'a>(
     let schema_path = given(found, "S");
     let mut schema = Watched::new(Kept::new(inputs.open(rt, schema_path)?));
     let mut faults = Watched::new(Kept::new(rt.stderr()));
-    let begun = begin(rt, asked, schema_path, &mut schema, &mut faults);
+    let begun = begin(rt, wishes.asked, schema_path, &mut schema, &mut faults);
     let schema = schema.into_inner();
     let checks = match begun {
         Ok(checks) => checks,
@@ -77,7 +79,7 @@ pub fn check_several<'a>(
     let mut run = Run {
         rt,
         found,
-        asked,
+        wishes,
         inputs,
         task: Task::Check(checks, &schema),
     };
@@ -116,7 +118,7 @@ pub fn syntax_several(rt: &HostRuntime, found: &ArgMatches<'_>, words: &[&str]) 
     let mut run = Run {
         rt,
         found,
-        asked,
+        wishes: Wishes::of_syntax(asked),
         inputs: Inputs::new(),
         task: Task::Syntax(SyntaxChecks::new()),
     };
@@ -148,11 +150,11 @@ impl Task<'_> {
         &mut self,
         rt: &HostRuntime,
         found: &ArgMatches<'_>,
-        asked: Asked,
+        wishes: Wishes,
         path: &str,
-        mut file: Watched<Lines<R>>,
+        mut file: Watched<Lines<Recorded<R>>>,
         writers: &mut Writers,
-    ) -> (u8, Lines<R>) {
+    ) -> (u8, Lines<Recorded<R>>) {
         let Writers {
             output,
             faults,
@@ -163,23 +165,32 @@ impl Task<'_> {
             is_named: true,
         };
         let status = match self {
-            Task::Check(checks, _) => match (asked, most_given(found)) {
+            Task::Check(checks, _) if wishes.is_read_again() => {
+                if wishes.has_places() {
+                    return tell_apart(rt, checks, wishes, name, file, output, plain);
+                }
+                return tell_apart(rt, checks, wishes, name, file, output, faults);
+            }
+            Task::Check(checks, _) => match (wishes.asked, wishes.most) {
                 (Asked::None, Some(most)) => {
                     checks.check_all(rt.alloc(), &mut file, most, output, faults)
                 }
+                (Asked::None, None) if wishes.names => {
+                    checks.check_numbered(rt.alloc(), &mut file, output, faults)
+                }
                 (Asked::None, None) => checks.check(rt.alloc(), &mut file, output, faults),
                 (Asked::Behind, _) => {
-                    return tell_places(rt, checks, asked, name, file, output, faults);
+                    return tell_places(rt, checks, wishes.asked, name, file, output, faults);
                 }
                 (Asked::First(_) | Asked::Each(_, _), _) => {
-                    return tell_places(rt, checks, asked, name, file, output, plain);
+                    return tell_places(rt, checks, wishes.asked, name, file, output, plain);
                 }
             },
             Task::Syntax(checks) => {
                 let details = details_given(found);
                 let told = checks.check(rt.alloc(), &mut file, details, output, faults);
                 let lines = file.into_inner();
-                if asked != Asked::None {
+                if wishes.asked != Asked::None {
                     tell_place_alone(rt, path, &told, lines.starts());
                 }
                 return (told.status, lines);
@@ -256,12 +267,14 @@ impl Run<'_, '_, '_, '_> {
             return self.tell_no_memory();
         };
         let source = with_progress(self.rt, self.found, path, file);
-        let is_kept = self.asked != Asked::None;
+        let wishes = self.wishes;
+        let source = Recorded::new(self.rt.alloc(), source, wishes.is_read_again());
+        let is_kept = wishes.asked != Asked::None;
         let file = Watched::new(Lines::new(self.rt.alloc(), source, is_kept));
         let (status, lines) = self
             .task
-            .tell(self.rt, self.found, self.asked, path, file, &mut writers);
-        let read = lines.into_inner().into_inner();
+            .tell(self.rt, self.found, wishes, path, file, &mut writers);
+        let read = lines.into_inner().into_inner().into_inner();
         let file = Given::new(path, Wanted::Exchange, &read);
         self.task.note(self.rt, self.found, status, file);
         writers.are_written()

@@ -47,6 +47,10 @@ most_rule = record (new_rule (codes "most")) {
 abbrev pub where_rule : Rule
 where_rule = record (new_rule (codes "where")) { action = Some SetTrue; long = Some (codes "where") }
 
+-- `--names`
+abbrev pub names_rule : Rule
+names_rule = record (new_rule (codes "names")) { action = Some SetTrue; long = Some (codes "names") }
+
 -- the words that may stand behind `--format`, wherever these lie
 abbrev pub AreForms : ValueParser → Type 0
 AreForms (Names names) = map (λ name. name.now) names.now ≡ codes "text" ∷ codes "jsonl" ∷ []
@@ -85,24 +89,24 @@ syntax_app = with_rule (with_rule (with_rule (with_rule (with_rule (new_app (cod
 abbrev pub file_app : Text → App
 file_app name = with_rule (with_rule (new_app name) (given_rule (codes "S"))) (given_rule (codes "FILE"))
 
--- `check S FILE.. [--all] [--most N] [--where] [--format FORM] [--progress]`
+-- `check S FILE.. [--all] [--most N] [--where] [--names] [--format FORM] [--progress]`
 abbrev pub check_app : ValueParser → App
 check_app forms =
-    with_rule (with_rule (with_rule (with_rule (with_rule (with_rule (with_rule (new_app (codes "check"))
-    (given_rule (codes "S"))) files_rule) all_rule) most_rule) where_rule) (format_rule forms)) progress_rule
+    with_rule (with_rule (with_rule (with_rule (with_rule (with_rule (with_rule (with_rule (new_app (codes "check"))
+    (given_rule (codes "S"))) files_rule) all_rule) most_rule) where_rule) names_rule) (format_rule forms)) progress_rule
 
--- `canon S FILE [--progress]`
+-- `canon S FILE [--names] [--progress]`
 abbrev pub canon_app : App
-canon_app = with_rule (file_app (codes "canon")) progress_rule
+canon_app = with_rule (with_rule (file_app (codes "canon")) names_rule) progress_rule
 
 -- `show S FILE --name N`
 abbrev pub show_app : App
 show_app = with_rule (file_app (codes "show")) name_rule
 
--- `same S A B [--progress]`
+-- `same S A B [--names] [--progress]`
 abbrev pub same_app : App
-same_app = with_rule (with_rule (with_rule (with_rule (new_app (codes "same"))
-    (given_rule (codes "S"))) (given_rule (codes "A"))) (given_rule (codes "B"))) progress_rule
+same_app = with_rule (with_rule (with_rule (with_rule (with_rule (new_app (codes "same"))
+    (given_rule (codes "S"))) (given_rule (codes "A"))) (given_rule (codes "B"))) names_rule) progress_rule
 
 -- `diff S A B [--format FORM] [--progress]`
 abbrev pub diff_app : ValueParser → App

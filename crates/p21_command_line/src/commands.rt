@@ -6,7 +6,7 @@ ghost use Rattle.std.specs.Prelude.{◌≡◌, IfOk, codes, false};
 ghost use Rattle.clap.specs.Words.{app_of, rule_of};
 ghost use Rattle.clap.specs.declared.builder.command.Command.TheViews.{out-Command as fields_of};
 ghost use Rattle.clap.specs.declared.builder.value_parser.ValueParser.{ValueParser};
-ghost use Rattle.p21_command_line.specs.CommandLine.{AreForms, Forms, HaveForms, all_rule, app_without_commands, canon_app, check_app, diff_app, faults_app, files_rule, format_rule, given_rule, most_rule, name_rule, optional_rule, param_app, progress_rule};
+ghost use Rattle.p21_command_line.specs.CommandLine.{AreForms, Forms, HaveForms, all_rule, app_without_commands, canon_app, check_app, diff_app, faults_app, files_rule, format_rule, given_rule, most_rule, name_rule, names_rule, optional_rule, param_app, progress_rule};
 ghost use Rattle.p21_command_line.specs.CommandLine.{count_rule, header_rule, program_app, same_app, schema_app, show_app, syntax_app, where_rule};
 
 use crate::{help, refusals};
@@ -86,7 +86,7 @@ fn syntax<'a>(alloc: Global) -> Result<Command<'a>, AllocError>
         .arg(progress(alloc))
 }
 
-/// `check S FILE.. [--all] [--most N] [--where] [--format FORM] [--progress]`.
+/// `check S FILE.. [--all] [--most N] [--where] [--names] [--format FORM] [--progress]`.
 fn check<'a>(alloc: Global) -> Result<Command<'a>, AllocError>
     ensures app { IfOk result (λ command. (forms : ValueParser) × AreForms forms × (app_of command ≡ check_app forms)) }
     ensures local { IfOk result (λ command. (fields_of command).has_globals ≡ false) }
@@ -99,6 +99,10 @@ fn check<'a>(alloc: Global) -> Result<Command<'a>, AllocError>
         .arg(all(alloc))?
         .arg(most(alloc))?
         .arg(place(alloc))?
+        .arg(names(
+            alloc,
+            "Says too whether the model tells the instances of each file apart",
+        ))?
         .arg(format(
             alloc,
             "With jsonl gives refusals with their places as JSON, an object a line",
@@ -106,7 +110,7 @@ fn check<'a>(alloc: Global) -> Result<Command<'a>, AllocError>
         .arg(progress(alloc))
 }
 
-/// `canon S FILE [--progress]`.
+/// `canon S FILE [--names] [--progress]`.
 fn canon<'a>(alloc: Global) -> Result<Command<'a>, AllocError>
     ensures app { IfOk result (λ command. app_of command ≡ canon_app) }
     ensures local { IfOk result (λ command. (fields_of command).has_globals ≡ false) }
@@ -116,6 +120,10 @@ fn canon<'a>(alloc: Global) -> Result<Command<'a>, AllocError>
         .after_help(help::CANON)
         .arg(schema_path(alloc))?
         .arg(file_path(alloc))?
+        .arg(names(
+            alloc,
+            "Gives instances the numbers from 1 on by which the model itself tells them apart",
+        ))?
         .arg(progress(alloc))
 }
 
@@ -132,7 +140,7 @@ fn show<'a>(alloc: Global) -> Result<Command<'a>, AllocError>
         .arg(name(alloc))
 }
 
-/// `same S A B [--progress]`.
+/// `same S A B [--names] [--progress]`.
 fn same<'a>(alloc: Global) -> Result<Command<'a>, AllocError>
     ensures app { IfOk result (λ command. app_of command ≡ same_app) }
     ensures local { IfOk result (λ command. (fields_of command).has_globals ≡ false) }
@@ -143,6 +151,10 @@ fn same<'a>(alloc: Global) -> Result<Command<'a>, AllocError>
         .arg(schema_path(alloc))?
         .arg(given(alloc, "A", "The first file"))?
         .arg(given(alloc, "B", "The second file"))?
+        .arg(names(
+            alloc,
+            "Says whether they mean the same but for the names of their instances",
+        ))?
         .arg(progress(alloc))
 }
 
@@ -254,6 +266,17 @@ fn place<'a>(alloc: Global) -> Arg<'a>
             "Says of each refusal in which line and column it stands, and of a value its attribute",
         )
         .long("where")
+        .action(ArgAction::SetTrue)
+}
+
+/// `--names`.
+fn names<'a>(alloc: Global, help: &'a str) -> Arg<'a>
+    ensures rule { rule_of result ≡ names_rule }
+    ensures local { result.global ≡ false }
+{
+    Arg::new(alloc, "names")
+        .help(help)
+        .long("names")
         .action(ArgAction::SetTrue)
 }
 

@@ -119,6 +119,10 @@ declares it, and of a part of one its entity. With --all and --most each line ha
     part.step:11:31: 45 Count in #3: PERSON.ID
 For references and parts FILE is read a second time; from standard input references have no
 place, and parts no entity.
+With --names a file is accepted only if its model tells its instances apart, whatever names
+they have; copies that may be exchanged needn't be. Else an instance is named that it doesn't
+tell from another one, behind all other refusals:
+    refused 59 Alike in #8
 With --format jsonl each refusal is a JSON object on a line, with its place, and of 20 and 30
 with what could stand there.
 With several files, or @LIST for the files that a text names, a path a line, each line has
@@ -151,6 +155,11 @@ accepted; or, on standard error, the first refusal and where it comes, or that o
 schema:
     refused 20 Unexpected at statement 7
     schema refused S5 Circular
+With --names instances have for names the numbers from 1 on that the model itself gives them.
+Two files mean the same but for the names of their instances exactly if these files are
+equal. Where the model doesn't tell two instances apart, and they are no copies that may be
+exchanged, nothing is guessed:
+    refused 59 Alike in #8
 Statuses: 0 the file; 1 refused; 2 a wrong command line; 3 out of memory, cannot open,
 read or write.
 
@@ -162,7 +171,8 @@ Slips:
     refused, with status 0; behind set -o pipefail the status is 1.
 
 Example:
-    $ p21 canon product.exp product.step > canonical.step";
+    $ p21 canon product.exp product.step > canonical.step
+    $ p21 canon --names product.exp product.step > numbered.step";
 
 /// What stands below the help of `show`.
 pub const SHOW: &str =
@@ -188,6 +198,10 @@ pub const SAME: &str =
 with first: or second: in front for the file, or that of the schema:
     second: refused 24 EndsEarly at statement 10
     schema refused S5 Circular
+With --names files are the same too that give their instances other names, as another export
+of one model mostly does. A file is the same as itself; where the models of both don't tell
+some instances apart otherwise, an instance of the first is named:
+    first: refused 59 Alike in #8
 Statuses: 0 same; 1 different or refused; 2 a wrong command line; 3 out of memory, cannot
 open, read or write.
 

@@ -52,6 +52,7 @@ Instances:
   56 Dangling          A reference names an instance that is not in the file.
   57 WrongTarget       A reference names an instance of the wrong entity.
   58 OneOf             The instance is of two entities of which it may be one.
+  59 Alike             For --names alone: the model does not tell it from another one.
 
 The machine (status 3, and the line that is printed has no number):
   90 NoMemory          out of memory: memory ran out.

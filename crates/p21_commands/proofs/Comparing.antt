@@ -80,15 +80,14 @@ answer-fails IsAnswer IsRefusal old new line fault is part same = subst (FailsBy
 
 -- ---- how the command ends
 
-module _ (IsAnswer : Bool → List ℕ → Type 0) (streams : PairStreams) where
+module _ (IsAnswer : Bool → List ℕ → Type 0) (IsRefusal : List ℕ → Type 0) (streams : PairStreams) where
   abbrev readers : List Failures
   readers = streams.schema.failures ∷ streams.first.failures ∷ streams.second.failures ∷ []
 
-  pub comparing-reported : (fault : CommandFault) (status : ℕ) → FailsBy (IsEither IsAnswer) (IsRefused (read_in streams)) streams.output.before streams.output.behind fault
-      → FailedBy readers (streams.output.failures ∷ []) fault → Reports fault status streams.faults → EndsBy IsAnswer streams status
+  pub comparing-reported : (fault : CommandFault) (status : ℕ) → FailsBy (IsEither IsAnswer) IsRefusal streams.output.before streams.output.behind fault
+      → FailedBy readers (streams.output.failures ∷ []) fault → Reports fault status streams.faults → EndsBy IsAnswer IsRefusal streams status
   comparing-reported fault status f b r =
-      let IsOne = IsEither IsAnswer in
-      let IsRefusal = IsRefused (read_in streams) in record {
+      let IsOne = IsEither IsAnswer in record {
         status = inr (reported_status streams.faults fault status r);
         answered = λ e. absurd (not_done streams.faults fault status r e);
         silent = λ e. absurd (not_done streams.faults fault status r e);
@@ -98,7 +97,7 @@ module _ (IsAnswer : Bool → List ℕ → Type 0) (streams : PairStreams) where
       }
 
   module _ (same : Bool) (writes : Writes (IsAnswer same) streams.output.before streams.output.behind) (keeps : Keeps streams.faults.before streams.faults.behind) (none : NoneFailed (readers ++ streams.output.failures ∷ streams.faults.failures ∷ [])) where
-    pub comparing-same : same ≡ true → EndsBy IsAnswer streams done
+    pub comparing-same : same ≡ true → EndsBy IsAnswer IsRefusal streams done
     comparing-same is = record {
       status = inl refl;
       answered = λ e. subst (λ (b : Bool). Writes (IsAnswer b) streams.output.before streams.output.behind) is writes;
@@ -108,7 +107,7 @@ module _ (IsAnswer : Bool → List ℕ → Type 0) (streams : PairStreams) where
       unfailed = λ e. none;
     }
 
-    pub comparing-different : same ≡ false → EndsBy IsAnswer streams refused
+    pub comparing-different : same ≡ false → EndsBy IsAnswer IsRefusal streams refused
     comparing-different is = record {
       status = inr (inl refl);
       answered = λ e. cc e;

@@ -1,5 +1,5 @@
 -- Which calls failed where a file is refused, by what a command answers to the refusal.
-use Rattle.std.proofs.Common.{◌≡◌, ◌∙◌, ℕ, List, [], ◌∷◌, Option, inl, ap, refl}
+use Rattle.std.proofs.Common.{◌≡◌, ◌≢◌, ◌∙◌, ℕ, List, [], ◌∷◌, Option, inl, ap, refl}
 use Rattle.p21_spec_basics.specs.Limits.{Limits}
 use Rattle.p21_commands.specs.Failures.{Failures, FailedBy}
 use Rattle.p21_commands.specs.declared.fault.CommandFault.{CommandFault}
@@ -34,13 +34,17 @@ rewriting-failed word reader writer refusal NoMemory is r w = ((r ∙ no-read re
 rewriting-failed word reader writer refusal Read is r w = (inl (r ∙ ap (read_failures reader.before) is, tt), (w ∙ ap (write_failures writer.before) is, tt))
 rewriting-failed word reader writer refusal Write is r w = ((r ∙ ap (read_failures reader.before) is, tt), inl (w ∙ ap (write_failures writer.before) is, tt))
 
--- a file is read
+-- a file is read, and no writer fails
+pub reader-failed : (word : List ℕ) (reader : Failures) (refusal : Refusal) (fault : CommandFault) → IsFaultOf word refusal fault → refusal.fault ≢ file.Write
+    → reader.after ≡ read_failures reader.before refusal.fault → FailedBy (reader ∷ []) [] fault
+reader-failed word reader refusal (Refused line) is unwritten r = ((r ∙ no-read reader.before refusal.fault (of-no_device refusal.fault is.0), tt), tt)
+reader-failed word reader refusal NoMemory is unwritten r = ((r ∙ no-read reader.before refusal.fault is, tt), tt)
+reader-failed word reader refusal Read is unwritten r = (inl (r ∙ ap (read_failures reader.before) is, tt), tt)
+reader-failed word reader refusal Write is unwritten r = absurd (unwritten is)
+
 pub reading-failed : (s : Schema) (limits : Limits) (old new : Option (List ℕ)) (word : List ℕ) (reader : Failures) (refusal : Refusal) (fault : CommandFault) → IsFaultOf word refusal fault → RefusesRead s limits old new refusal.fault
     → reader.after ≡ read_failures reader.before refusal.fault → FailedBy (reader ∷ []) [] fault
-reading-failed s limits old new word reader refusal (Refused line) is refuses r = ((r ∙ no-read reader.before refusal.fault (of-no_device refusal.fault is.0), tt), tt)
-reading-failed s limits old new word reader refusal NoMemory is refuses r = ((r ∙ no-read reader.before refusal.fault is, tt), tt)
-reading-failed s limits old new word reader refusal Read is refuses r = (inl (r ∙ ap (read_failures reader.before) is, tt), tt)
-reading-failed s limits old new word reader refusal Write is refuses r = absurd (not-written s limits old new refusal.fault is refuses)
+reading-failed s limits old new word reader refusal fault is refuses r = reader-failed word reader refusal fault is (λ written. not-written s limits old new refusal.fault written refuses) r
 
 -- two files are compared
 pub comparing-failed : (s : Schema) (limits : Limits) (first_old first_new second_old second_new : Option (List ℕ)) (word : List ℕ) (first second : Failures) (which : Which) (refusal : Refusal) (fault : CommandFault)

@@ -4,6 +4,7 @@ mod TransferLemmas
 pub mod Comparing
 pub mod Counting
 pub mod Differing
+pub mod Numbering
 pub mod FileFailing
 pub mod Showing
 pub mod Writing

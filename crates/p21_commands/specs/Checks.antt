@@ -8,6 +8,7 @@ use Rattle.p21_commands.specs.Failures.{FailedBy, NoneFailed}
 use Rattle.p21_commands.specs.Fault.{Reports}
 use Rattle.p21_commands.specs.Files.{IsRefusedUnder}
 use Rattle.p21_commands.specs.Load.{DeclaresRead, RefusesRead}
+use Rattle.p21_commands.specs.Numbered.{IsCheckedApart, IsUnnumberedUnder}
 use Rattle.p21_commands.specs.Status.{done, refused, failed}
 use Rattle.p21_commands.specs.Streams.{Stream, Streams}
 use Rattle.p21_commands.specs.declared.fault.CommandFault.{CommandFault}
@@ -44,6 +45,10 @@ streams_of schema file output faults = record { schema = schema; file = file; ou
 -- of a file the same is said as `check` says of it alone, whichever reader the schema came from
 abbrev pub EndsChecking : Schema → Stream → Stream → Stream → ℕ → Type 0
 EndsChecking declared file output faults status = (schema : Stream) → Declares declared schema → EndsUnder IsChecked IsRefusedUnder (streams_of schema file output faults) status
+
+-- the same as `check --names` says
+abbrev pub EndsCheckingApart : Schema → Stream → Stream → Stream → ℕ → Type 0
+EndsCheckingApart declared file output faults status = (schema : Stream) → Declares declared schema → EndsUnder IsCheckedApart IsUnnumberedUnder (streams_of schema file output faults) status
 
 -- the same as `check --all` says
 abbrev pub EndsListingOf : ℕ → Schema → Stream → Stream → Stream → ℕ → Type 0

@@ -19,6 +19,8 @@ pub mod Files
 pub mod Refusals
 pub mod Same
 pub mod Diff
+pub mod Numbered
+pub mod SameButForNames
 pub mod Show
 pub mod Syntax
 pub mod OwnTexts

@@ -75,19 +75,19 @@ IsAnswered read line = IsEither (IsCompared read) line
 
 -- the output has the answer that the files differ and the fault output is as it was; or the fault output has the line of a refusal and
 -- the output is as it was
-abbrev pub IsDifferentOrRefused : (Bool → List ℕ → Type 0) → PairStreams → Type 0
-IsDifferentOrRefused IsAnswer streams =
+abbrev pub IsDifferentOrRefused : (Bool → List ℕ → Type 0) → (List ℕ → Type 0) → PairStreams → Type 0
+IsDifferentOrRefused IsAnswer IsRefusal streams =
     (Writes (IsAnswer false) streams.output.before streams.output.behind × Keeps streams.faults.before streams.faults.behind)
-    ⊎ (Writes (IsRefused (read_in streams)) streams.faults.before streams.faults.behind × Keeps streams.output.before streams.output.behind)
+    ⊎ (Writes IsRefusal streams.faults.before streams.faults.behind × Keeps streams.output.before streams.output.behind)
 
 -- how a command ends that compares two files, by its status, as `Ends` says of others; but files that differ have the status of a refusal
-pub record EndsBy (IsAnswer : Bool → List ℕ → Type 0) (streams : PairStreams) (answer : ℕ) : Type 0 where
+pub record EndsBy (IsAnswer : Bool → List ℕ → Type 0) (IsRefusal : List ℕ → Type 0) (streams : PairStreams) (answer : ℕ) : Type 0 where
   pub status : (answer ≡ statuses.done) ⊎ (answer ≡ statuses.refused) ⊎ (answer ≡ statuses.failed)
   pub answered : answer ≡ statuses.done → Writes (IsAnswer true) streams.output.before streams.output.behind
   pub silent : answer ≡ statuses.done → Keeps streams.faults.before streams.faults.behind
-  pub refused : answer ≡ statuses.refused → IsDifferentOrRefused IsAnswer streams
-  pub failed : answer ≡ statuses.failed → Fails (IsEither IsAnswer) (IsRefused (read_in streams)) (streams.schema.failures ∷ streams.first.failures ∷ streams.second.failures ∷ []) streams.output streams.faults
+  pub refused : answer ≡ statuses.refused → IsDifferentOrRefused IsAnswer IsRefusal streams
+  pub failed : answer ≡ statuses.failed → Fails (IsEither IsAnswer) IsRefusal (streams.schema.failures ∷ streams.first.failures ∷ streams.second.failures ∷ []) streams.output streams.faults
   pub unfailed : answer ≢ statuses.failed → NoneFailed (streams.schema.failures ∷ streams.first.failures ∷ streams.second.failures ∷ streams.output.failures ∷ streams.faults.failures ∷ [])
 
 abbrev pub EndsComparing : PairStreams → ℕ → Type 0
-EndsComparing streams answer = EndsBy (IsCompared (read_in streams)) streams answer
+EndsComparing streams answer = EndsBy (IsCompared (read_in streams)) (IsRefused (read_in streams)) streams answer

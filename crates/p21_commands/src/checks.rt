@@ -1,7 +1,7 @@
 //! Checks of several files under one schema, which is read once.
 ghost use Rattle.std.specs.Prelude.{◌≡◌, ◌⊎◌, [], ◌∷◌, IfErr, IfOk, OnOk, max};
 ghost use Rattle.p21_spec_basics.specs.Limits.{usual};
-ghost use Rattle.p21_commands.specs.Checks.{EndsChecking, EndsListingOf, EndsWithout, IsOfCheck};
+ghost use Rattle.p21_commands.specs.Checks.{EndsChecking, EndsCheckingApart, EndsListingOf, EndsWithout, IsOfCheck};
 ghost use Rattle.p21_commands.specs.Failures.{FailedBy, failures_of};
 ghost use Rattle.p21_commands.specs.Fault.{Reports};
 ghost use Rattle.p21_commands.specs.Load.{DeclaresRead, RefusesRead as RefusesSchema};
@@ -15,6 +15,7 @@ ghost use Rattle.p21_stream_io.specs.Watch.{one_call_more};
 
 use crate::check::{Told, check_file, check_file_located};
 use crate::check_all::list_refusals;
+use crate::check_numbered::{check_file_numbered, tell_file_numbered};
 use crate::fault::{CommandFault, report};
 use crate::load::{Unloaded, load_located, load_schema};
 use crate::located::{write_found, write_survey};
@@ -111,6 +112,25 @@ impl Checks {
         ensures highest { self.new.highest ≡ max self.old.highest result }
     {
         let status = check_file(alloc, &self.schema, file, output, faults);
+        self.highest = self.highest.max(status);
+        status
+    }
+
+    /// Reads a file, and writes what `check_numbered_command` writes of it. Answers the status of this file.
+    pub fn check_numbered<R: Read, W: Write, F: Write>(
+        &mut self,
+        alloc: Global,
+        file: &mut Watched<R>,
+        output: &mut Watched<W>,
+        faults: &mut Watched<F>,
+    ) -> u8
+        ensures consumed { ConsumesAtMost usual (R.remaining file.old.inner) (R.remaining file.new.inner) }
+        ensures ends { EndsCheckingApart self.old.declared (stream_of R.remaining file.old file.new)
+            (stream_of W.contents output.old output.new) (stream_of F.contents faults.old faults.new) result }
+        ensures schema { self.new.declared ≡ self.old.declared }
+        ensures highest { self.new.highest ≡ max self.old.highest result }
+    {
+        let status = check_file_numbered(alloc, &self.schema, file, output, faults);
         self.highest = self.highest.max(status);
         status
     }
@@ -235,6 +255,34 @@ impl Checks {
         ensures highest { self.new.highest ≡ max self.old.highest result }
     {
         let status = write_survey(alloc, &self.schema, found, telling, output, faults);
+        self.highest = self.highest.max(status);
+        status
+    }
+
+    /// Reads a file, and writes what `check_numbered` writes of it, but for why there is no numbered file, which has the form in which
+    /// refusals are told, and how many these are behind it where `is_counted`. Answers the status of this file.
+    pub fn tell_numbered<R: Read, W: Write, F: Write>(
+        &mut self,
+        alloc: Global,
+        file: &mut Watched<R>,
+        telling: &Telling<'_>,
+        is_counted: bool,
+        output: &mut Watched<W>,
+        faults: &mut Watched<F>,
+    ) -> u8
+        ensures status { IsOfCheck result }
+        ensures schema { self.new.declared ≡ self.old.declared }
+        ensures highest { self.new.highest ≡ max self.old.highest result }
+    {
+        let status = tell_file_numbered(
+            alloc,
+            &self.schema,
+            file,
+            telling,
+            is_counted,
+            output,
+            faults,
+        );
         self.highest = self.highest.max(status);
         status
     }

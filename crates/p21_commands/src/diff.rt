@@ -45,7 +45,7 @@ pub fn diff_command<S: Read, A: Read, B: Read, W: Write, F: Write>(
       second = stream_of B.remaining second.old second.new;
       output = stream_of W.contents output.old output.new;
       faults = stream_of F.contents faults.old faults.new;
-    } in EndsBy (IsDifferenceList form (read_in streams)) streams result }
+    } in EndsBy (IsDifferenceList form (read_in streams)) (IsRefused (read_in streams)) streams result }
 {
     match write_differences(alloc, schema, first, second, form, output) {
         Ok(true) => DONE,

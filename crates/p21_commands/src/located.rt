@@ -1,5 +1,5 @@
 //! What is written of a file, with where each of its refusals stands.
-ghost use Rattle.std.specs.Prelude.{◌≡◌, ◌⊎◌, ◌++◌, IfOk, List, [], string_bytes, ℕ};
+ghost use Rattle.std.specs.Prelude.{◌≡◌, ◌⊎◌, ◌++◌, IfOk, List, OnOk, [], string_bytes, ℕ};
 ghost use Rattle.p21_commands.specs.CheckAll.{count_line};
 ghost use Rattle.p21_commands.specs.Checks.{IsOfCheck};
 ghost use Rattle.p21_commands.specs.Refusals.{IsFaultOf};
@@ -117,7 +117,7 @@ fn tell_refused<F: Write>(
 }
 
 /// Writes the line of a file that is accepted.
-fn write_accepted<W: Write, F: Write>(
+pub(crate) fn write_accepted<W: Write, F: Write>(
     alloc: Global,
     instances: u64,
     bytes: u64,
@@ -157,12 +157,25 @@ fn refused_lines(
     ensures { telling.now.form ≡ Text → IfOk result (λ lines. (front : List ℕ) × (string_bytes lines ≡ front ++ count_line count extent)) }
 {
     let mut lines = survey_lines(alloc, schema, found, telling)?;
+    push_count(alloc, count, extent, telling, &mut lines)?;
+    Ok(lines)
+}
+
+/// Appends the line that counts the refusals.
+pub(crate) fn push_count(
+    alloc: Global,
+    count: u64,
+    extent: Extent,
+    telling: &Telling<'_>,
+    lines: &mut String,
+) -> Result<(), AllocError>
+    ensures { telling.now.form ≡ Text → OnOk result ((front : List ℕ) × (string_bytes lines.new ≡ front ++ count_line count extent)) }
+{
     match telling.form {
         Form::Text => {
-            push_front(telling, &mut lines)?;
-            lines.push_str(&count_text(alloc, count, extent)?)?;
+            push_front(telling, lines)?;
+            lines.push_str(&count_text(alloc, count, extent)?)
         }
-        Form::Json => push_end(alloc, count, extent, telling, &mut lines)?,
+        Form::Json => push_end(alloc, count, extent, telling, lines),
     }
-    Ok(lines)
 }

@@ -89,7 +89,7 @@ pub(crate) fn word_of(which: Which) -> &'static str
 }
 
 /// The line of an answer.
-fn answer_line_of(same: bool) -> &'static [u8]
+pub(crate) fn answer_line_of(same: bool) -> &'static [u8]
     ensures { result.now ≡ same_answer_line same }
 {
     if same { b"same\n" } else { b"different\n" }

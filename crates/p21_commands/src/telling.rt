@@ -12,6 +12,7 @@ use p21_express_graph::Place as AttributePlace;
 use p21_express_places::SchemaPlace;
 use p21_express_tables::Schema;
 use p21_stream::{At, Extent, Fault, Located, LocatedSurvey, Place};
+use p21_stream_numbered::NumberingRefusal;
 use p21_values::Name;
 use std::alloc::{AllocError, Global};
 
@@ -138,20 +139,50 @@ fn push_object(
     push_json(alloc, telling.path, lines)?;
     let (number, name) = (refusal.number(), refusal.name());
     lines.push_str(&format!(in alloc; ",\"number\":{number},\"name\":\"{name}\"")?)?;
-    match refusal.at {
-        At::Statement(statement) => {
-            lines.push_str(&format!(in alloc; ",\"statement\":{statement}")?)?;
-        }
-        At::Instance(Name(instance)) => {
-            lines.push_str(&format!(in alloc; ",\"instance\":{instance}")?)?;
-        }
-    }
+    push_location(alloc, refusal.at, lines)?;
     push_place(alloc, telling.lines, place_of(located, met), lines)?;
     if let Some(subject) = subject_of(schema, located, met) {
         push_members(alloc, subject, lines)?;
     }
     push_expected(located, lines)?;
     lines.push_str("}\n")
+}
+
+/// Appends the member of the statement or the instance that a refusal names.
+fn push_location(alloc: Global, at: At, lines: &mut String) -> Result<(), AllocError> {
+    match at {
+        At::Statement(statement) => {
+            lines.push_str(&format!(in alloc; ",\"statement\":{statement}")?)
+        }
+        At::Instance(Name(instance)) => {
+            lines.push_str(&format!(in alloc; ",\"instance\":{instance}")?)
+        }
+    }
+}
+
+/// Appends the object of a file that has no numbered file, and a line feed.
+pub(crate) fn push_numbering(
+    alloc: Global,
+    refusal: &NumberingRefusal,
+    telling: &Telling<'_>,
+    lines: &mut String,
+) -> Result<(), AllocError> {
+    lines.push_str("{\"file\":")?;
+    push_json(alloc, telling.path, lines)?;
+    let (number, name) = (refusal.number(), refusal.name());
+    lines.push_str(&format!(in alloc; ",\"number\":{number},\"name\":\"{name}\"")?)?;
+    match refusal {
+        NumberingRefusal::Refused(refusal) => push_location(alloc, refusal.at, lines)?,
+        NumberingRefusal::Alike(one, other) => push_alike(alloc, *one, *other, lines)?,
+    }
+    lines.push_str("}\n")
+}
+
+/// Appends the members of two instances that a model doesn't tell apart.
+fn push_alike(alloc: Global, one: Name, other: Name, lines: &mut String) -> Result<(), AllocError> {
+    let Name(other) = other;
+    push_location(alloc, At::Instance(one), lines)?;
+    lines.push_str(&format!(in alloc; ",\"alike\":{other}")?)
 }
 
 /// The object of a schema text that is refused, and a line feed. The file is that of this path.

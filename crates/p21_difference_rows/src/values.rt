@@ -4,7 +4,8 @@ ghost use Rattle.p21_difference_rows.specs.Steps.{AddsRows, TellsValues};
 ghost use Rattle.p21_spec_exchange.specs.Record.{Record};
 ghost use Rattle.p21_spec_file.specs.CanonicalTexts.{IsInstanceText};
 
-use crate::row::{Style, Subject};
+use crate::keywords::push_keywords;
+use crate::row::{RowForm, Style, Subject};
 use crate::rows::{Rows, put};
 use crate::texts::push_values;
 use p21_differences::OtherValues;
@@ -35,6 +36,7 @@ pub(crate) fn list_values(
     let mut values = OtherValues::new(&first, &second);
     while let Some(found) = values.next() {
         let mut rest = Vec::new(style.alloc);
+        push_instance_keywords(style.form, line, &mut rest)?;
         push_values(
             style.alloc,
             style.form,
@@ -45,4 +47,18 @@ pub(crate) fn list_values(
         put(style, &Subject::Value(name, found.place), &rest, rows)?;
     }
     Ok(())
+}
+
+/// Appends the keywords of an instance to an object, since an attribute is named by the entity that declares it. What it appends is
+/// tested.
+fn push_instance_keywords(form: RowForm, line: &[u8], rest: &mut Vec<u8>) -> Result<(), NoMemory> {
+    match form {
+        RowForm::Text => Ok(()),
+        RowForm::Json => {
+            rest.extend_from_slice(b"\"keywords\":\"")?;
+            push_keywords(line, rest)?;
+            rest.extend_from_slice(b"\",")?;
+            Ok(())
+        }
+    }
 }

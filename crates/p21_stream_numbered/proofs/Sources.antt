@@ -1,5 +1,5 @@
 -- What is said of the canonical text of a file is said of the file.
-use Rattle.std.specs.Prelude.{◌≡◌, ℕ, Bool, List, Option, Ok, Err}
+use Rattle.std.specs.Prelude.{◌≡◌, ℕ, Bool, List, length, Option, Ok, Err}
 use Rattle.std.proofs.Common.{inl, inr, refl, sym, subst}
 use Rattle.p21_spec_basics.specs.Limits.{AreLimits, Limits}
 use Rattle.p21_spec_file.specs.Accepted.{IsAccepted, Means}
@@ -19,14 +19,16 @@ use Rattle.p21_numbered_file.specs.Comparing.{TellsTexts}
 use Rattle.p21_numbered_file.specs.Numbering.{HasNone, IsAlike, IsTooLong}
 use Rattle.p21_numbered_file.specs.declared.numbering.Unnumbered.{Unnumbered}
 use Rattle.p21_numbered_file.specs.declared.numbering.Unnumbered.TheVariants as unnumbered
+use Rattle.p21_stream.proofs.Canonicals.{only-canonical}
 use Rattle.p21_stream.specs.Answers.{FailsToCompare, IsCanonicalOfRead, IsOnlyCanonicalFile}
-use Rattle.p21_stream.specs.ReaderInput.{RefusesRead, read_failures}
+use Rattle.p21_stream.specs.ReaderInput.{IsAcceptedInput, RefusesRead, read_failures}
 use Rattle.p21_stream.specs.declared.comparing.Which.{Which}
 use Rattle.p21_stream.specs.declared.comparing.Which.TheVariants.{First, Second}
+use Rattle.p21_stream.specs.declared.counting.Counted.{Counted}
 use Rattle.p21_stream_output.specs.Output.{Output, output_text}
 use Rattle.p21_stream_statements.specs.declared.fault.Fault.{Fault}
 use Rattle.p21_stream_numbered.specs.Compared.{ComparesButForNames, FailsToTell, IsFileOf, first_numbering_failures, second_numbering_failures}
-use Rattle.p21_stream_numbered.specs.Numbered.{IsAlikeInput, IsLongInput, IsNumberedInput, IsRefusalOf, RefusesNumbers, numbering_failures}
+use Rattle.p21_stream_numbered.specs.Numbered.{IsAlikeInput, IsCountedApart, IsLongInput, IsNumberedInput, IsRefusalOf, RefusesNumbers, numbering_failures}
 use Rattle.p21_stream_numbered.specs.declared.refusal.NumberingRefusal.{NumberingRefusal}
 use Rattle.p21_stream_numbered.specs.declared.refusal.NumberingRefusal.TheVariants.{Alike, Refused}
 
@@ -107,13 +109,25 @@ module _ (s : Schema) (formed : IsWellFormed s) (limits : Limits) where
     files-untold (unnumbered.Alike j k) which refusal (x, (i, l, y)) of is =
         let P : NumberingRefusal → Type 0 = λ r. FailsToTell s limits first_old first_new second_old second_new which r in
         subst P (sym is) (of, file-alike first_old first_new one j k first x, (i, l, file-alike second_old second_new other i l second y))
-    files-untold unnumbered.TooLong which (Refused refusal) (x, y) of is = inr (is, file-long first_old first_new one first x, file-long second_old second_new other second y)
+    files-untold unnumbered.TooLong which (Refused refusal) (x, y) of is = inr (of, is, file-long first_old first_new one first x, file-long second_old second_new other second y)
     files-untold unnumbered.TooLong which (Alike j k) (x, y) of is = absurd is
     files-untold unnumbered.NoMemory which (Refused refusal) tells of is =
         let P : Fault → Type 0 = λ f. FailsToCompare s limits first_old first_new second_old second_new Second f in
         let Q : Which → Type 0 = λ w. FailsToCompare s limits first_old first_new second_old second_new w refusal.fault in
         inl (subst Q (sym of) (subst P (sym is) ((one, first), tt)))
     files-untold unnumbered.NoMemory which (Alike j k) tells of is = absurd is
+
+-- ---- counted
+
+pub counted-apart : (s : Schema) → IsWellFormed s → (limits : Limits) → AreLimits limits → (old new : Option (List ℕ)) (accepted : Output) (counted : Counted) (file : Output) → IsAcceptedInput s limits old new accepted
+    → counted.instances ≡ length accepted.kept → counted.bytes ≡ length (output_text accepted) → IsNumberedFile s limits (ranking_of s) (output_text accepted) (output_text file) → IsCountedApart s limits old new counted
+counted-apart s formed limits are old new accepted counted file is instances bytes numbered =
+    let b = both s formed limits is.bytes (output_text accepted) (only-canonical s formed limits are is.bytes (output_text accepted) is.accepted.is_canonical) in
+    record {
+      counts = record { bytes = is.bytes; read = is.read; is_counted = record { output = accepted; accepted = is.accepted; instances_are = instances; bytes_are = bytes } };
+      file = output_text file;
+      numbered = numbered-on s formed limits (output_text accepted) is.bytes b.its b.own b.its_means b.own_means (alike s formed limits is.bytes (output_text accepted) b) (output_text file) numbered;
+    }
 
 -- ---- failures
 

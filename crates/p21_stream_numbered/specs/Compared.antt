@@ -7,7 +7,7 @@ use Rattle.p21_spec_numbering.specs.Renamed.{SameButForNames}
 use Rattle.p21_spec_schema.specs.Schema.{Schema}
 use Rattle.p21_numbered_file.specs.declared.numbering.Unnumbered.{Unnumbered}
 use Rattle.p21_numbered_file.specs.declared.numbering.Unnumbered.TheVariants as unnumbered
-use Rattle.p21_stream.specs.Answers.{FailsToCompare, first_failures, second_failures}
+use Rattle.p21_stream.specs.Answers.{FailsToCompare, IsCanonicalOfRead, first_failures, second_failures}
 use Rattle.p21_stream.specs.ReaderInput.{IsReadWhole}
 use Rattle.p21_stream.specs.declared.comparing.Which.{Which}
 use Rattle.p21_stream.specs.declared.comparing.Which.TheVariants.{First, Second}
@@ -29,11 +29,15 @@ pub record ComparesButForNames (s : Schema) (limits : Limits) (first_old first_n
   pub second : IsMeantInput s limits second_old second_new
   pub if_same : IsTrue same ↔ SameButForNames first.meaning second.meaning
 
--- a file is refused as by `same_meaning`; or the numbered files of both are too long; or neither is decided
+-- the reader was read to its end, and what it gave has a canonical file: it is accepted
+abbrev pub HasCanonical : Schema → Limits → Option (List ℕ) → Option (List ℕ) → Type 0
+HasCanonical s limits old new = (text : List ℕ) × IsCanonicalOfRead s limits old new text
+
+-- a file is refused as by `same_meaning`; or the numbered files of both are too long; or neither is decided. Of both the first is named
 abbrev pub FailsToTell : Schema → Limits → Option (List ℕ) → Option (List ℕ) → Option (List ℕ) → Option (List ℕ) → Which → NumberingRefusal → Type 0
 FailsToTell s limits first_old first_new second_old second_new which (Refused refusal) =
     FailsToCompare s limits first_old first_new second_old second_new which refusal.fault
-    ⊎ ((refusal.fault ≡ CanonicalTooLong) × IsLongInput s limits first_old first_new × IsLongInput s limits second_old second_new)
+    ⊎ ((which ≡ First) × (refusal.fault ≡ CanonicalTooLong) × IsLongInput s limits first_old first_new × IsLongInput s limits second_old second_new)
 FailsToTell s limits first_old first_new second_old second_new which (Alike j k) =
     (which ≡ First) × IsAlikeInput s limits first_old first_new j k × ((i : ℕ) × (l : ℕ) × IsAlikeInput s limits second_old second_new i l)
 

@@ -7,7 +7,8 @@ use Rattle.p21_spec_schema.specs.Schema.{Schema}
 use Rattle.p21_numbered_file.specs.Numbering.{IsAlike, IsTooLong}
 use Rattle.p21_numbered_file.specs.declared.numbering.Unnumbered.{Unnumbered}
 use Rattle.p21_numbered_file.specs.declared.numbering.Unnumbered.TheVariants as unnumbered
-use Rattle.p21_stream.specs.ReaderInput.{IsReadWhole, RefusesRead, read_failures}
+use Rattle.p21_stream.specs.ReaderInput.{IsCountedInput, IsReadWhole, RefusesRead, read_failures}
+use Rattle.p21_stream.specs.declared.counting.Counted.{Counted}
 use Rattle.p21_stream_output.specs.Output.{Output, output_text}
 use Rattle.p21_stream_statements.specs.declared.fault.Fault.TheVariants.{CanonicalTooLong, NoMemory}
 use Rattle.p21_stream_numbered.specs.declared.refusal.NumberingRefusal.{NumberingRefusal}
@@ -18,6 +19,12 @@ pub record IsNumberedInput (s : Schema) (limits : Limits) (old new : Option (Lis
   pub bytes : List ℕ
   pub read : IsReadWhole old new bytes
   pub numbered : IsNumberedFile s limits (ranking_of s) bytes (output_text output)
+
+-- it was read to its end, and this is counted of the bytes that it gave, which are accepted and have a numbered file
+pub record IsCountedApart (s : Schema) (limits : Limits) (old new : Option (List ℕ)) (counted : Counted) : Type 0 where
+  pub counts : IsCountedInput s limits old new counted
+  pub file : List ℕ
+  pub numbered : IsNumberedFile s limits (ranking_of s) counts.bytes file
 
 -- it was read to its end, and what it gave has no numbered file within the limits
 pub record IsLongInput (s : Schema) (limits : Limits) (old new : Option (List ℕ)) : Type 0 where

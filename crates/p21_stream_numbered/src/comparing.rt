@@ -1,9 +1,9 @@
 //! Two files compared by what they mean but for the names of their instances.
-ghost use Rattle.std.specs.Prelude.{◌≡◌, ◌≤◌, ◌+◌, IfErr, IfOk, OnOk};
+ghost use Rattle.std.specs.Prelude.{◌≡◌, ◌⊎◌, ◌≤◌, ◌+◌, IfErr, IfOk, OnOk};
 ghost use Rattle.p21_spec_numbering.specs.Claim.{NumberingClaim};
 ghost use Rattle.p21_spec_numbering.specs.Laws.{ranking_of};
 ghost use Rattle.p21_stream.specs.ReaderInput.{ConsumesAtMost};
-ghost use Rattle.p21_stream_numbered.specs.Compared.{ComparesButForNames, FailsToTell, IsFileOf, first_numbering_failures, second_numbering_failures};
+ghost use Rattle.p21_stream_numbered.specs.Compared.{ComparesButForNames, HasCanonical, FailsToTell, IsFileOf, first_numbering_failures, second_numbering_failures};
 
 use crate::numbering::{canonical_text, numbering_headline, refused, statement_behind};
 use crate::refusal::NumberingRefusal;
@@ -31,6 +31,7 @@ pub fn same_but_for_names<R: Read, S: Read>(
         (S.remaining second.old.inner) (S.remaining second.new.inner) same) }
     ensures err { IfErr result (λ answer. FailsToTell schema.now limits (R.remaining first.old.inner) (R.remaining first.new.inner)
         (S.remaining second.old.inner) (S.remaining second.new.inner) answer.0 answer.1) }
+    ensures order { (second.new ≡ second.old) ⊎ HasCanonical schema.now limits (R.remaining first.old.inner) (R.remaining first.new.inner) }
     ensures consumed_first { ConsumesAtMost limits (R.remaining first.old.inner) (R.remaining first.new.inner) }
     ensures consumed_second { ConsumesAtMost limits (S.remaining second.old.inner) (S.remaining second.new.inner) }
     ensures claim { NumberingClaim schema.now limits (ranking_of schema.now) }

@@ -6,10 +6,12 @@
 #![tactic(auto)]
 
 mod comparing;
+mod counting;
 mod numbering;
 mod refusal;
 
 pub use comparing::same_but_for_names;
+pub use counting::count_numbered;
 pub use numbering::numbered;
-pub use p21_stream::{Accepted, At, Fault, Limits, Name, Refusal, Schema, Watched, Which};
+pub use p21_stream::{Accepted, At, Counted, Fault, Limits, Name, Refusal, Schema, Watched, Which};
 pub use refusal::NumberingRefusal;

@@ -5,6 +5,8 @@ ghost use Rattle.p21_spec_numbering.specs.Laws.{ranking_of};
 ghost use Rattle.p21_spec_schema.specs.WellFormed.{IsWellFormed};
 ghost use Rattle.p21_stream.specs.Answers.{IsCanonicalOfRead};
 ghost use Rattle.p21_stream.specs.ReaderInput.{ConsumesAtMost, RefusesRead, read_failures};
+ghost use Rattle.p21_stream_output.specs.Output.{output_text};
+ghost use Rattle.p21_stream_statements.specs.declared.fault.Fault.TheVariants as fault;
 ghost use Rattle.p21_stream_numbered.specs.Numbered.{IsNumberedInput, IsRefusalOf, RefusesNumbers, numbering_failures};
 
 use crate::refusal::NumberingRefusal;
@@ -67,10 +69,21 @@ pub(crate) fn canonical_text<R: Read>(
     ensures failed { IfErr result (λ refusal. reader.new.failures ≡ read_failures reader.old.failures refusal.fault) }
 {
     headline(schema, limits);
-    let accepted = match accept(alloc, schema, limits, reader) {
-        Ok(accepted) => accepted,
-        Err(refusal) => return Err(refusal),
-    };
+    match accept(alloc, schema, limits, reader) {
+        Ok(accepted) => whole_text(alloc, accepted),
+        Err(refusal) => Err(refusal),
+    }
+}
+
+/// The text of an accepted file, which is let go.
+///
+/// # Errors
+///
+/// `NoMemory`.
+pub(crate) fn whole_text(alloc: Global, accepted: Accepted) -> Result<Vec<u8>, Refusal>
+    ensures ok { IfOk result (λ text. text.items ≡ output_text accepted) }
+    ensures err { IfErr result (λ refusal. refusal.fault ≡ fault.NoMemory) }
+{
     match text_of(alloc, &accepted) {
         Ok(text) => Ok(text),
         Err(_) => Err(refusal_of(Fault::NoMemory, accepted.count())),

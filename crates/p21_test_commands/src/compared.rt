@@ -163,7 +163,7 @@ went #3 POINT\ncame #4 POINT\ndifferent: 3 changed, 1 came, 1 went\n",
         Diff(Json, Lines("#1=CLOUD((),((2.,1.),(3.)),(TALLY(1)));\n")),
         Lines("#1=CLOUD((),((2.,1.),(3.)),(TALLY(2)));\n"),
         Differences(
-            "{\"kind\":\"changed\",\"what\":\"instance\",\"a\":1,\"b\":1,\"entity\":\"CLOUD\",\"attribute\":\"VALUES\",\"indices\":[1],\"before\":\"TALLY(2)\",\"after\":\"TALLY(1)\"}\n\
+            "{\"kind\":\"changed\",\"what\":\"instance\",\"a\":1,\"b\":1,\"entity\":\"CLOUD\",\"attribute\":\"VALUES\",\"keywords\":\"CLOUD\",\"indices\":[1],\"before\":\"TALLY(2)\",\"after\":\"TALLY(1)\"}\n\
 {\"kind\":\"verdict\",\"verdict\":\"different\",\"changed\":1,\"came\":0,\"went\":0}\n",
         ),
     ),

@@ -17,6 +17,8 @@ mod headers;
 #[cfg(test)]
 mod large;
 #[cfg(test)]
+mod names;
+#[cfg(test)]
 mod param_texts;
 #[cfg(test)]
 mod read_faults;

@@ -2,8 +2,9 @@
 use crate::devices::{Behind, Full, SmallReader, SmallWriter};
 use crate::schemas::File;
 use p21_commands::{
-    Details, RowForm, canon_command, check_all_command, check_command, diff_command, param_command,
-    same_command, schema_command, show_command, syntax_command,
+    Details, RowForm, canon_command, check_all_command, check_command, check_numbered_command,
+    diff_command, numbered_command, param_command, same_but_for_names_command, same_command,
+    schema_command, show_command, syntax_command,
 };
 use p21_stream::Watched;
 use p21_values::Name;
@@ -255,6 +256,59 @@ fn lists(
     Run::new(status, output.into_inner(), faults.into_inner()).is(left)
 }
 
+/// Whether the numbered file of a file leaves this.
+fn numbers(alloc: Global, schema: &str, file: &str, rooms: Rooms, left: Left) -> bool {
+    let mut output = Watched::new(rooms.output(alloc));
+    let mut faults = Watched::new(rooms.faults(alloc));
+    let status = numbered_command(
+        alloc,
+        &mut Watched::new(schema.as_bytes()),
+        &mut Watched::new(file.as_bytes()),
+        &mut output,
+        &mut faults,
+    );
+    Run::new(status, output.into_inner(), faults.into_inner()).is(left)
+}
+
+/// Whether a check of whether a file has a numbered file leaves this.
+fn checks_numbers(alloc: Global, schema: &str, file: &str, rooms: Rooms, left: Left) -> bool {
+    let mut output = Watched::new(rooms.output(alloc));
+    let mut faults = Watched::new(rooms.faults(alloc));
+    let status = check_numbered_command(
+        alloc,
+        &mut Watched::new(schema.as_bytes()),
+        &mut Watched::new(file.as_bytes()),
+        &mut output,
+        &mut faults,
+    );
+    Run::new(status, output.into_inner(), faults.into_inner()).is(left)
+}
+
+/// Whether two files compared but for the names of their instances leave this.
+fn compares_but_for_names(
+    alloc: Global,
+    schema: &str,
+    first: &str,
+    second: File,
+    rooms: Rooms,
+    left: Left,
+) -> bool {
+    let Some(second) = second.text(alloc) else {
+        return false;
+    };
+    let mut output = Watched::new(rooms.output(alloc));
+    let mut faults = Watched::new(rooms.faults(alloc));
+    let status = same_but_for_names_command(
+        alloc,
+        &mut Watched::new(schema.as_bytes()),
+        &mut Watched::new(first.as_bytes()),
+        &mut Watched::new(second.as_bytes()),
+        &mut output,
+        &mut faults,
+    );
+    Run::new(status, output.into_inner(), faults.into_inner()).is(left)
+}
+
 /// A command over a text or a file, with what it takes beside that.
 #[derive(Clone, Copy)]
 pub(crate) enum Command {
@@ -271,6 +325,10 @@ pub(crate) enum Command {
     Same(File),
     /// With the form of rows and the second file.
     Diff(RowForm, File),
+    Numbered,
+    CheckNumbered,
+    /// With the second file.
+    SameButForNames(File),
 }
 
 /// Whether two files compared leave this.
@@ -317,6 +375,11 @@ pub(crate) fn leaves_of(
         Command::Show(name) => show(alloc, &mut reader, bytes, name, rooms).is(left),
         Command::Same(second) => compares(alloc, declared, text, second, rooms, left),
         Command::Diff(form, second) => { lists(alloc, declared, text, (form, second), rooms, left) }
+        Command::Numbered => numbers(alloc, declared, text, rooms, left),
+        Command::CheckNumbered => checks_numbers(alloc, declared, text, rooms, left),
+        Command::SameButForNames(second) => {
+            compares_but_for_names(alloc, declared, text, second, rooms, left)
+        }
     }
 }
 
@@ -448,7 +511,11 @@ impl Row {
     fn name(self) -> &'static str {
         match self {
             Row::Leaves(Command::Show(_), _, Left::Answer(text) | Left::Refusal(text)) => text,
-            Row::Leaves(Command::Same(file) | Command::Diff(_, file), _, _)
+            Row::Leaves(
+                Command::Same(file) | Command::Diff(_, file) | Command::SameButForNames(file),
+                _,
+                _,
+            )
             | Row::Leaves(_, file, _)
             | Row::Rewritten(file, _)
             | Row::Refused(file, _)

@@ -54,6 +54,25 @@ const COMMANDS: Taken = &[
         "progress",
         "true",
     ),
+    (
+        &["p21", "canon", "s", "f", "--names"],
+        "canon",
+        "names",
+        "true",
+    ),
+    (&["p21", "canon", "s", "f"], "canon", "names", "false"),
+    (
+        &["p21", "same", "--names", "s", "a", "b"],
+        "same",
+        "names",
+        "true",
+    ),
+    (
+        &["p21", "check", "s", "--names", "--all", "f"],
+        "check",
+        "names",
+        "true",
+    ),
     (&["p21", "check", "s", "f"], "check", "progress", "false"),
     (&["p21", "check", "--all", "s", "f"], "check", "all", "true"),
     (&["p21", "check", "s", "f"], "check", "all", "false"),
@@ -255,6 +274,14 @@ const MISTAKES: NotTaken = &[
     ),
     (
         &["p21", "canon", "s", "f", "--all"],
+        ErrorKind::UnknownArgument,
+    ),
+    (
+        &["p21", "canon", "s", "f", "--names", "--names"],
+        ErrorKind::ArgumentConflict,
+    ),
+    (
+        &["p21", "diff", "s", "a", "b", "--names"],
         ErrorKind::UnknownArgument,
     ),
     (

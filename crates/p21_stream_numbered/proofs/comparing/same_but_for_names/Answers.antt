@@ -1,4 +1,4 @@
-use Rattle.std.proofs.Common.{Err, Ok, List, ℕ, inl, subst, sym, ◌∙◌}
+use Rattle.std.proofs.Common.{Err, Ok, List, ℕ, inl, inr, subst, sym, ◌∙◌}
 use Rattle.std.proofs.KnownBytes.{Keeps-refl}
 use Rattle.p21_numbered_file.specs.Comparing.{TellsTexts}
 use Rattle.p21_stream_numbered.proofs.Sources.{files-told, files-untold, no-first_failure, no-second_failure, text-accepted}
@@ -31,6 +31,15 @@ returns-clause-err g c =
     let B : List ℕ → Type 0 = λ b. TellsTexts c.args.schema.now c.args.limits c.in-Ok.text.items b (Err c.in-Err-are_same_but_for_names.fault) in
     let tells = subst B c.deref-2.ensures.value (subst A c.deref.ensures.value c.in-Err-are_same_but_for_names.ensures) in
     files-untold c.args.schema.now c.numbering_headline.ensures.formed c.args.limits _ _ _ _ c.in-Ok.text.items c.in-Ok-canonical_text.text.items c.in-Ok.ensures.ok c.in-Ok-canonical_text.ensures.ok c.in-Err-are_same_but_for_names.fault c.file_of-which.result c.refused.result tells c.file_of-which.ensures c.refused.ensures
+
+pub returns-in-Err-canonical_text-clause-order : goal.returns-in-Err-canonical_text-clause-order
+returns-in-Err-canonical_text-clause-order g c = inr (c.in-Ok.text.items, c.in-Ok.ensures.ok)
+
+pub returns-in-Ok-are_same_but_for_names-clause-order : goal.returns-in-Ok-are_same_but_for_names-clause-order
+returns-in-Ok-are_same_but_for_names-clause-order g c = inr (c.in-Ok.text.items, c.in-Ok.ensures.ok)
+
+pub returns-clause-order : goal.returns-clause-order
+returns-clause-order g c = inr (c.in-Ok.text.items, c.in-Ok.ensures.ok)
 
 pub returns-clause-failed_first : goal.returns-clause-failed_first
 returns-clause-failed_first g c = c.in-Ok.ensures.read ∙ sym (no-first_failure c.args.first.now.failures c.file_of-which.result c.in-Err-are_same_but_for_names.fault c.refused.result c.refused.ensures)
