@@ -178,6 +178,7 @@ enum {
     P21_DANGLING = 56,
     P21_WRONG_TARGET = 57,
     P21_ONE_OF = 58,
+    P21_ALIKE = 59,
     P21_NO_MEMORY = 90
 };
 
@@ -248,6 +249,24 @@ uint8_t p21_canonical(const p21_schema *schema, const uint8_t *file, size_t leng
  */
 uint8_t p21_same(const p21_schema *schema, const uint8_t *first, size_t first_length, const uint8_t *second, size_t second_length,
                  uint8_t *same, p21_report *report);
+
+/*
+ * Hands out the numbered file of a file: its canonical file whose instances have for names the numbers 1 to n that the model itself
+ * gives them, whatever names an exporter gave (docs/CANONICAL.md). P21_DONE: the report has the counts, and the bytes are those of the
+ * numbered file. P21_REFUSED: the file isn't accepted; or P21_ALIKE, behind all other refusals: its model doesn't tell the instance from
+ * another one, and they are no copies that may be exchanged. `place` is as of the calls with `_located`. The file isn't copied, but its
+ * canonical text is made meanwhile.
+ */
+uint8_t p21_numbered(const p21_schema *schema, const uint8_t *file, size_t length, p21_text *text, p21_report *report,
+                     p21_place *place);
+
+/*
+ * Whether two files mean the same but for the names of their instances: `same` is 1 or 0. A file is the same as itself; where one of
+ * two has a numbered file and the other one hasn't, they aren't the same. P21_REFUSED: one of them isn't accepted, and `subject` says
+ * which, of which `place` is too; or P21_ALIKE in the first one, where neither has numbers.
+ */
+uint8_t p21_same_but_for_names(const p21_schema *schema, const uint8_t *first, size_t first_length, const uint8_t *second,
+                               size_t second_length, uint8_t *same, p21_report *report, p21_place *place);
 
 /* Hands out a session over a schema. It has no report: P21_FAILED where there was no memory. */
 uint8_t p21_session_new(const p21_schema *schema, p21_session *session);

@@ -334,6 +334,25 @@ public:
         return answer == 1;
     }
 
+    /* The canonical file of a file under the numbers that its model gives to its instances for names; P21_ALIKE where it gives none. */
+    text numbered(std::string_view file) const {
+        text made;
+        detail::call_located(p21_numbered, get(), detail::at(file), file.size(), made.get());
+        return made;
+    }
+    text numbered(const void *file, std::size_t length) const { return numbered(detail::view(file, length)); }
+
+    /* Whether two files mean the same but for the names of their instances; P21_ALIKE where neither model gives them numbers. */
+    bool same_but_for_names(std::string_view first, std::string_view second) const {
+        std::uint8_t answer = 0;
+        p21_report report;
+        p21_place place;
+        const std::uint8_t status = p21_same_but_for_names(get(), detail::at(first), first.size(), detail::at(second), second.size(),
+                                                           &answer, &report, &place);
+        detail::judge(status, report, report.subject == P21_SECOND ? "second: " : "first: ", place);
+        return answer == 1;
+    }
+
     /* What is refused of a file, so many refusals at most: none where it is accepted. */
     refusals survey(std::string_view file, std::uint64_t most = UINT64_MAX) const {
         refusals found;

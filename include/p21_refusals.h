@@ -96,6 +96,8 @@ static inline const char *p21_refusal_name(uint8_t number) {
         return "WrongTarget";
     case 58:
         return "OneOf";
+    case 59:
+        return "Alike";
     case 90:
         return "NoMemory";
     default:
@@ -190,6 +192,8 @@ static inline const char *p21_refusal_sentence(uint8_t number) {
         return "A reference names an instance of the wrong entity.";
     case 58:
         return "The instance is of two entities of which it may be one.";
+    case 59:
+        return "For --names alone: the model does not tell it from another one.";
     case 90:
         return "out of memory: memory ran out.";
     default:

@@ -31,7 +31,7 @@ environment variable P21_LIBRARY says, and else beside this file. ``python3 -m p
 
 from p21._diff import Differences, diff
 from p21._faults import Refused, SchemaRefused
-from p21._files import Hash, canonical, check, hash, same
+from p21._files import Hash, canonical, check, hash, numbered, same, same_but_for_names
 from p21._library import version
 from p21._model import DERIVED, Aggregate, Attribute, Bits, Entity, EntityAttribute, Enum, Instance, Model, Typed, Use, frame, read
 from p21._numbers import RefusalNumber, SchemaRefusalNumber
@@ -77,8 +77,10 @@ __all__ = [
     "diff",
     "frame",
     "hash",
+    "numbered",
     "read",
     "same",
+    "same_but_for_names",
     "survey",
     "syntax",
     "version",

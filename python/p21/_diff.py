@@ -1,13 +1,16 @@
 """What differs in two files."""
 
 import decimal
-from typing import Any, Dict, Iterator, List, Optional, Union
+import json
+import os
+import tempfile
+from typing import Any, Dict, List, Optional, Sequence, Union
 
-from p21._files import same, texts
+from p21._files import texts
 from p21._html import table
 from p21._schema import SchemaOrPath, schema_of
 from p21._source import Source
-from p21._tools import modules
+from p21._tools import no_answer, run, tool
 
 
 class Differences(List[Dict[str, Any]]):
@@ -18,12 +21,17 @@ class Differences(List[Dict[str, Any]]):
         """The last object: whether the files are the same, and how much differs."""
         return self[-1]
 
+    @property
+    def listed(self) -> List[Dict[str, Any]]:
+        """What differs and isn't left out."""
+        return [found for found in self[:-1] if found["kind"] != "left out"]
+
     def __repr__(self) -> str:
-        return f"<p21.Differences: {self.verdict['verdict']}, {len(self) - 1} listed>"
+        return f"<p21.Differences: {self.verdict['verdict']}, {len(self.listed)} listed>"
 
     def _repr_html_(self) -> str:
         head = ("kind", "instance", "entity", "attribute", "before", "after")
-        rows = [(it["kind"], it.get("a") or it.get("b"), it.get("entity"), it.get("attribute"), it.get("before"), it.get("after")) for it in self[:-1]]
+        rows = [(it["kind"], it.get("a") or it.get("b"), it.get("entity"), it.get("attribute"), it.get("before"), it.get("after")) for it in self.listed]
         return table(head, [*rows, (self.verdict["verdict"],)])
 
 
@@ -34,17 +42,22 @@ def diff(
     *,
     names: bool = False,
     data: bool = False,
+    ignore: Sequence[str] = (),
     tolerance: Optional[Union[str, float, decimal.Decimal]] = None,
 ) -> Differences:
-    """What differs in two files: a list of the objects that ``p21-diff --format json`` prints, the verdict last. It is unproved
-    Python over canonical files.
+    """What differs in two files: a list of the objects that ``p21-diff --format json`` prints, the verdict last. By names the program
+    lists it; up to names, and with a tolerance, it is unproved Python over canonical files.
 
     Args:
         names: compare up to the names of instances.
-        data: compare the data without the header.
+        data: leave out the header.
+        ignore: leave out these attributes, each named as ``ENTITY.ATTRIBUTE``.
         tolerance: leave out reals that are within it, absolute or relative.
 
-    Raises: as ``same``; ``ValueError`` where the tolerance isn't a number of 0 or more.
+    Where something is left out the first object says what, and the files are never called the same where something was.
+
+    Raises: as ``same``; ``ValueError`` where the tolerance isn't a number of 0 or more, or an attribute isn't there; ``OSError``
+    where the program or ``p21-diff`` isn't here, or ends without an answer.
 
     >>> found = p21.diff(schema, point, moved)
     >>> found
@@ -55,17 +68,19 @@ def diff(
     near = None if tolerance is None else decimal.Decimal(str(tolerance))
     if near is not None and (not near.is_finite() or near < 0):
         raise ValueError("p21: a tolerance is a number of 0 or more")
-    differences, schemas, sets_module = modules()
+    words = [*(["--names"] if names else []), *(["--data"] if data else []), *(f"--ignore={each}" for each in ignore)]
+    words += [] if near is None else [f"--tolerance={near}"]
     read = schema_of(schema)
-    outline = schemas.Outline(read.text)
-    sets = sets_module.Sets(outline)
-    both = texts(read, first, second)
-
-    def is_second(pieces: Iterator[bytes]) -> bool:
-        return same(read, b"".join(pieces), both[1])
-
-    rules = differences.Rules(schemas.AttributeNames(outline), sets if names else None, near, True)
-    files = differences.Files(rules, both, data, is_second, lambda: sets)
-    found = Differences(difference.object() for difference in files.counted())
-    found.append(files.object(files.verdict()))
+    with tempfile.TemporaryDirectory(prefix="p21-") as folder:
+        paths = [os.path.join(folder, name) for name in ("schema.exp", "first.step", "second.step")]
+        for path, text in zip(paths, (read.text, *texts(read, first, second))):
+            with open(path, "wb") as file:
+                file.write(text)
+        done = run([*tool("diff"), "--format", "json", *words, "--", *paths])
+    error = done.stderr.decode("utf-8", "replace")
+    if "--ignore" in error:
+        raise ValueError(f"p21: {error.strip()}")
+    found = Differences(map(json.loads, done.stdout.decode("utf-8").splitlines()))
+    if not found or found.verdict["kind"] != "verdict":
+        raise no_answer(error, done.returncode)
     return found

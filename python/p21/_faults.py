@@ -16,7 +16,7 @@ class Refused(Exception):
         name: its name, as ``NotDistinct`` or ``LeftOut(Scope)``.
         statement: the number of the statement where it is refused, counted from 1, if a statement is named.
         instance: the name of the instance in which it is refused, if an instance is named.
-        which: for ``same`` and ``diff``, whether the ``first`` or the ``second`` file is refused.
+        which: for ``same``, ``same_but_for_names`` and ``diff``, whether the ``first`` or the ``second`` file is refused.
         place: where in the file it stands, a ``RefusalPlace``: byte, line and column, and of a value of a record the attribute and the
             element. None where nothing of it is known.
         sentence: what that means, in a sentence.

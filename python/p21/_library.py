@@ -132,6 +132,8 @@ def _declared() -> Any:
         "p21_check_located": ([handle] + text + [report, place], ctypes.c_uint8),
         "p21_canonical_located": ([handle] + text + [handle, report, place], ctypes.c_uint8),
         "p21_same_located": ([handle] + text + text + [ctypes.POINTER(ctypes.c_uint8), report, place], ctypes.c_uint8),
+        "p21_numbered": ([handle] + text + [handle, report, place], ctypes.c_uint8),
+        "p21_same_but_for_names": ([handle] + text + text + [ctypes.POINTER(ctypes.c_uint8), report, place], ctypes.c_uint8),
         "p21_syntax": (text + [handle, handle, handle, report, place], ctypes.c_uint8),
         "p21_session_new": ([handle, handle], ctypes.c_uint8),
         "p21_session_feed": ([handle] + text + [report], ctypes.c_uint8),

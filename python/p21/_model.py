@@ -301,6 +301,13 @@ class Instance:
         return self.line
 
 
+def _number(name: int) -> int:
+    """The name of an instance, which is a number."""
+    if not isinstance(name, int):
+        raise TypeError(f"p21: the name of an instance is a number, as 12 for #12, and not {name!r}")
+    return name
+
+
 class Model:
     """The instances of an accepted file. ``model[12]`` is the one of a name, and an iteration gives all by rising names.
 
@@ -335,9 +342,9 @@ class Model:
         return self._found(LIBRARY.p21_instance, name)
 
     def __getitem__(self, name: int) -> Instance:
-        found = self.get(name)
+        found = self.get(_number(name))
         if found is None:
-            raise KeyError(name)
+            raise KeyError(f"p21: the file has no #{name}")
         return found
 
     def __contains__(self, name: object) -> bool:
@@ -378,6 +385,8 @@ class Model:
 
     def users(self, name: int) -> List[Use]:
         """The instances that refer to the one of this name, by rising names, each as often as it has an attribute that does."""
+        if not 0 <= _number(name) < 2**64:
+            return []
         with self._lock:
             if not self._users.inside:
                 with self.accepted._lock:

@@ -54,6 +54,7 @@ class RefusalNumber(enum.IntEnum):
     DANGLING = 56
     WRONG_TARGET = 57
     ONE_OF = 58
+    ALIKE = 59
     NO_MEMORY = 90
 
     __str__ = int.__repr__

@@ -222,6 +222,11 @@ FILES: Dict[int, Words] = {
         "The instance is of two entities of which it may be one.",
         "The schema says ONEOF of two entities that this instance both is. Leave one part out.",
     ),
+    59: Words(
+        "Alike",
+        "For --names alone: the model does not tell it from another one.",
+        "With `--names`: `refused 59 Alike in #1`\n\nOnly where `--names` asks for it, and behind all other refusals: the model doesn't tell the instance from another one, here `#1` from `#2`; `p21 check --names --format jsonl` has the other one as `alike`. Neither their values nor what refers to them tells them apart, and so on from instance to instance; and they are no copies that may be exchanged, as those are of which whatever refers to one has a copy itself, or refers to all of them in one SET. Any numbers would be a guess then, so there are none. It says nothing against the file, which `p21 check`, `canon` and `same` take without `--names`.\n\n`p21 same --names` refuses two files so where neither is told apart, unless they are the same name by name; where one is and the other isn't, they are `different`. To get numbers, give one of the two instances a value that the other one hasn't, or leave one of them out.",
+    ),
     90: Words(
         "NoMemory",
         "out of memory: memory ran out.",

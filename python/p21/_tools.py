@@ -2,7 +2,6 @@
 
 import contextlib
 import errno
-import importlib
 import os
 import pathlib
 import shutil
@@ -10,7 +9,6 @@ import subprocess
 import sys
 import sysconfig
 import tempfile
-from types import ModuleType
 from typing import Iterator, List, Optional, Sequence, Tuple, cast
 
 from p21._schema import SchemaOrPath, schema_of
@@ -25,17 +23,6 @@ TOOLS = ("where", "diff", "renumber", "table", "adapt")
 
 def _is_clone() -> bool:
     return (_CLONE / "crates.txt").is_file()
-
-
-def modules() -> Tuple[ModuleType, ModuleType, ModuleType]:
-    """The modules of the tools that tell what differs in two files."""
-    sys.path.insert(0, str(_TOOLS))
-    try:
-        names = ("p21_differences", "p21_schemas", "p21_sets")
-        differences, schemas, sets = map(importlib.import_module, names)
-    finally:
-        sys.path.remove(str(_TOOLS))
-    return differences, schemas, sets
 
 
 def _folders() -> Iterator[pathlib.Path]:

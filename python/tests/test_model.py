@@ -150,8 +150,12 @@ def test_names():
     model = p21.read(EXAMPLES / "product.exp", EXAMPLES / "product.step")
     assert 15 in model and 999 not in model and "15" not in model and -1 not in model and 2**64 not in model
     assert model.get(999) is None
-    with pytest.raises(KeyError):
+    with pytest.raises(KeyError, match="p21: the file has no #999"):
         model[999]
+    for asked in (lambda: model["15"], lambda: model["#15"], lambda: model.users("#15"), lambda: model.users(None)):
+        with pytest.raises(TypeError, match="p21: the name of an instance is a number, as 12 for #12, and not"):
+            asked()
+    assert [model.users(name) for name in (999, -1, 2**64, 2**64 + 15)] == [[]] * 4
     again = p21.read(EXAMPLES / "product.exp", EXAMPLES / "product-other.step")
     assert all(instance == again[instance.name] for instance in model) and len({*model, *again}) == len(model)
     changed = p21.read(EXAMPLES / "product.exp", EXAMPLES / "product-changed.step")

@@ -242,6 +242,54 @@ def test_files_that_differ(schemas):
     assert not p21.same(schemas["DEMO"], unnamed, unnamed.replace(b"DATA;", b"DATA('',('DEMO'));"))
 
 
+NODES = p21.Schema("SCHEMA net; ENTITY node; label : OPTIONAL STRING; next : OPTIONAL node; END_ENTITY; END_SCHEMA;")
+# Examples of docs/CANONICAL.md: a chain, the same with other names, their numbered file, and two circles.
+CHAIN = file_of("#7=NODE($,#3);#3=NODE($,#12);#12=NODE($,$);#5=NODE($,#7);#9=NODE($,#5);", "NET")
+RENAMED = file_of("#1=NODE($,$);#3=NODE($,#2);#2=NODE($,#4);#4=NODE($,#5);#5=NODE($,#1);", "NET")
+NUMBERS = file_of("#1=NODE($,#3);\n#2=NODE($,#4);\n#3=NODE($,#2);\n#4=NODE($,#5);\n#5=NODE($,$);", "NET")
+CIRCLE = file_of("#1=NODE($,#2);#2=NODE($,#1);", "NET")
+OTHER_CIRCLE = file_of("#3=NODE($,#4);#4=NODE($,#3);", "NET")
+
+
+def test_numbered(tmp_path):
+    path = tmp_path / "chain.step"
+    path.write_bytes(CHAIN)
+    with open(path, "rb") as chain:
+        for source in (CHAIN, RENAMED, NUMBERS, path, chain, memoryview(CHAIN)):
+            assert p21.numbered(NODES, source) == NUMBERS == p21.canonical(NODES, NUMBERS)
+    path.write_bytes(CIRCLE)
+    for source in (CIRCLE, path):
+        with pytest.raises(p21.Refused) as found:
+            p21.numbered(NODES, source)
+        assert str(found.value) == "refused 59 Alike in #1" and found.value.number == p21.RefusalNumber.ALIKE
+    path.write_bytes(file_of("#8=NODE($);", "NET"))
+    for source in (path, path.read_bytes()):
+        with pytest.raises(p21.Refused, match="^refused 45 Count in #8$") as found:
+            p21.numbered(NODES, source)
+        assert found.value.place is not None and found.value.place.line == 8
+
+
+def test_same_but_for_names(tmp_path):
+    path = tmp_path / "renamed.step"
+    path.write_bytes(RENAMED)
+    for other in (RENAMED, path):
+        assert not p21.same(NODES, CHAIN, other)
+        assert p21.same_but_for_names(NODES, CHAIN, other)
+        assert p21.same_but_for_names(NODES, other, CHAIN)
+    changed = RENAMED.replace(b"#1=NODE($", b"#1=NODE('a'")
+    for one, other, same in ((CHAIN, changed, False), (CIRCLE, CIRCLE, True), (CIRCLE, CHAIN, False), (CHAIN, CIRCLE, False)):
+        assert p21.same_but_for_names(NODES, one, other) == same
+    for one, other, refusal in (
+        (OTHER_CIRCLE, CIRCLE, "first: refused 59 Alike in #3"),
+        (CHAIN, file_of("#8=NODE($);", "NET"), "second: refused 45 Count in #8"),
+        (file_of("#8=NODE($);", "NET"), CHAIN, "first: refused 45 Count in #8"),
+    ):
+        with pytest.raises(p21.Refused) as found:
+            p21.same_but_for_names(NODES, one, other)
+        assert str(found.value) == refusal
+    assert p21.hash(NODES, CHAIN, names=True) == p21.hash(NODES, path, names=True) != p21.hash(NODES, CHAIN)
+
+
 def test_sizes(schemas):
     assert p21.check(schemas["DEMO"], file_of("")) == (0, 152)
     assert p21.check(schemas["DEMO"], file_of("#2 = POINT($, 1.0, 10.E-1);")) == (1, 171)
@@ -422,12 +470,19 @@ def test_readme(tmp_path):
 def test_diff(product, tmp_path):
     files = [EXAMPLES / name for name in ("product.step", "product-changed.step", "product-other.step")]
     change = {"kind": "changed", "what": "instance", "a": 24, "b": 24, "entity": "CARTESIAN_POINT", "attribute": "COORDINATES"}
-    change.update(before="(8.E1,5.E1,1.25E1)", after="(8.E1,5.E1,1.225E1)")
+    change.update(keywords="CARTESIAN_POINT", indices=[3], before="1.25E1", after="1.225E1")
+    whole = {**change, "before": "(8.E1,5.E1,1.25E1)", "after": "(8.E1,5.E1,1.225E1)"}
+    del whole["indices"]
     counts = {"kind": "verdict", "verdict": "different", "changed": 1, "came": 0, "went": 0}
     assert p21.diff(product, files[0], files[1]) == [change, counts]
-    assert p21.diff(product, files[0], files[1], names=True) == [change, {**counts, "pairs": 128, "ambiguous": 0}]
+    assert p21.diff(product, files[0], files[1], names=True) == [whole, {**counts, "pairs": 128, "ambiguous": 0}]
     near = {**counts, "changed": 0, "tolerance": "0.5", "near": 1}
-    assert p21.diff(product, files[0], files[1], tolerance=0.5) == [near]
+    assert p21.diff(product, files[0], files[1], tolerance=0.5) == [{"kind": "left out", "tolerance": "0.5"}, near]
+    ignored = {**counts, "changed": 0, "ignored": 1}
+    said = {"kind": "left out", "ignore": ["CARTESIAN_POINT.COORDINATES"]}
+    assert p21.diff(product, files[0], files[1], ignore=said["ignore"]) == [said, ignored]
+    with pytest.raises(ValueError):
+        p21.diff(product, files[0], files[1], ignore=["NONE.X"])
     # The names of all instances, and of what they refer to, are a hundred greater.
     plain = p21.canonical(product, files[2]).decode()
     text = re.sub(r"'(?:[^']|'')*'|#(\d+)", lambda word: f"#{int(word[1]) + 100}" if word[1] else word[0], plain)

@@ -257,6 +257,11 @@ static void test_others(void) {
     judge(p21_canonical_located(&schema, refused.at, refused.length, &text, &report, &place) == P21_REFUSED, "a file isn't written, at a place");
     judge(p21_same_located(&schema, product.at, product.length, refused.at, refused.length, &same, &report, &place) == P21_REFUSED,
           "the second is refused at a place");
+    judge(p21_numbered(&schema, refused.at, refused.length, &text, &report, &place) == P21_REFUSED, "a refused file gets no numbers");
+    judge(p21_same_but_for_names(&schema, product.at, product.length, other.at, other.length, &same, &report, &place) == P21_DONE,
+          "files are compared but for names");
+    judge(p21_same_but_for_names(&schema, product.at, product.length, refused.at, refused.length, &same, &report, &place) == P21_REFUSED,
+          "the second is refused, whatever its names");
     judge(p21_syntax(product.at, product.length / 2, &text, &words[0], &words[1], &report, &place) == P21_REFUSED, "a file isn't well formed");
     judge(p21_place_name(&schema, UINT32_MAX, 0, &text) == P21_REFUSED, "there is no such attribute");
     judge(counting_live() == with_schema, "a call that hands nothing out leaves no block");

@@ -172,6 +172,68 @@ static void test_files(p21_schema *schema, bytes product, bytes other, bytes cha
     p21_text_free(&text);
 }
 
+/* Files of nodes that lead to one another: docs/CANONICAL.md has their numbers. */
+#define NODES "SCHEMA net; ENTITY node; label : OPTIONAL STRING; next : OPTIONAL node; END_ENTITY; END_SCHEMA;"
+#define OF_NODES(data) "ISO-10303-21;\nHEADER;\nFILE_DESCRIPTION((''),'2;1');\nFILE_NAME('','',(''),(''),'','','');\n" \
+                       "FILE_SCHEMA(('NET'));\nENDSEC;\nDATA;\n" data "ENDSEC;\nEND-ISO-10303-21;\n"
+
+static bytes bytes_of(const char *text) {
+    bytes found = {(uint8_t *)(uintptr_t)text, strlen(text)};
+    return found;
+}
+
+static uint8_t numbered(const p21_schema *schema, bytes file, p21_text *text, p21_report *report) {
+    p21_place place;
+    return p21_numbered(schema, file.at, file.length, text, report, &place);
+}
+
+static uint8_t same_but_for_names(const p21_schema *schema, bytes first, bytes second, uint8_t *same, p21_report *report) {
+    p21_place place;
+    return p21_same_but_for_names(schema, first.at, first.length, second.at, second.length, same, report, &place);
+}
+
+/* Where names of instances don't count. */
+static void test_numbers(void) {
+    const bytes chain = bytes_of(OF_NODES("#7=NODE($,#3);#3=NODE($,#12);#12=NODE($,$);#5=NODE($,#7);#9=NODE($,#5);"));
+    const bytes renamed = bytes_of(OF_NODES("#1=NODE($,$);#3=NODE($,#2);#2=NODE($,#4);#4=NODE($,#5);#5=NODE($,#1);"));
+    const bytes shorter = bytes_of(OF_NODES("#1=NODE($,$);#3=NODE($,#2);#2=NODE($,#4);#4=NODE($,#5);#5=NODE($,$);"));
+    const bytes numbers = bytes_of(OF_NODES("#1=NODE($,#3);\n#2=NODE($,#4);\n#3=NODE($,#2);\n#4=NODE($,#5);\n#5=NODE($,$);\n"));
+    const bytes circle = bytes_of(OF_NODES("#1=NODE($,#2);#2=NODE($,#1);"));
+    const bytes other_circle = bytes_of(OF_NODES("#3=NODE($,#4);#4=NODE($,#3);"));
+    const bytes refused = bytes_of(OF_NODES("#8=NODE($);"));
+    p21_schema schema = P21_EMPTY;
+    p21_text text = P21_EMPTY;
+    p21_report report;
+    uint8_t same = 7;
+    judge(p21_schema_new((const uint8_t *)NODES, sizeof NODES - 1, &schema, &report) == P21_DONE, "a schema of nodes");
+    judge(numbered(&schema, chain, &text, &report) == P21_DONE && is_text(&text, numbers.at, numbers.length) &&
+              has_counts(&report, 5, numbers.length),
+          "the numbered file of a chain");
+    judge(numbered(&schema, renamed, &text, &report) == P21_DONE && is_text(&text, numbers.at, numbers.length), "that of the same chain");
+    judge(numbered(&schema, numbers, &text, &report) == P21_DONE && is_text(&text, numbers.at, numbers.length), "a numbered file is its own");
+    judge(numbered(&schema, circle, &text, &report) == P21_REFUSED && is_text(&text, numbers.at, numbers.length) &&
+              report.subject == P21_FILE && report.number == P21_ALIKE && report.place == P21_INSTANCE && report.at == 1,
+          "a circle has no numbers, and the text is as it was");
+    judge(numbered(&schema, refused, &text, &report) == P21_REFUSED && report.number == P21_COUNT && report.at == 8, "a file that is refused");
+    judge(same_but_for_names(&schema, chain, renamed, &same, &report) == P21_DONE && same == 1 && is_quiet(&report), "the same but for names");
+    judge(same_but_for_names(&schema, chain, shorter, &same, &report) == P21_DONE && same == 0 && is_quiet(&report), "not the same but for names");
+    judge(same_but_for_names(&schema, circle, circle, &same, &report) == P21_DONE && same == 1, "a circle is the same as itself");
+    judge(same_but_for_names(&schema, circle, chain, &same, &report) == P21_DONE && same == 0, "a circle and a chain");
+    same = 7;
+    judge(same_but_for_names(&schema, other_circle, circle, &same, &report) == P21_REFUSED && same == 7 && report.subject == P21_FILE &&
+              report.number == P21_ALIKE && report.place == P21_INSTANCE && report.at == 3,
+          "nothing is said of two circles");
+    judge(same_but_for_names(&schema, chain, refused, &same, &report) == P21_REFUSED && same == 7 && report.subject == P21_SECOND &&
+              report.number == P21_COUNT,
+          "the second is refused, whatever its names");
+    judge(same_but_for_names(&schema, refused, chain, &same, &report) == P21_REFUSED && same == 7 && report.subject == P21_FILE,
+          "the first is refused, whatever its names");
+    p21_text_free(&text);
+    p21_schema_free(&schema);
+    judge(numbered(&schema, chain, &text, &report) == P21_MISUSED && text.inside == NULL && is_quiet(&report), "no schema to number by");
+    judge(same_but_for_names(&schema, chain, chain, &same, &report) == P21_MISUSED && same == 7, "no schema to compare by but for names");
+}
+
 /* A file in pieces of a size, and what becomes of the session. */
 static void test_session(p21_schema *schema, bytes file, size_t size) {
     p21_session session = P21_EMPTY;
@@ -661,6 +723,7 @@ int main(int count, char **words) {
     test_words();
     test_refusals(words[1], &schema);
     test_files(&schema, product, other, changed, refused);
+    test_numbers();
     test_session(&schema, product, 1);
     test_session(&schema, other, 4096);
     test_reading(&schema, product, 1);

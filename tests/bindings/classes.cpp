@@ -91,6 +91,30 @@ static void test_files(const p21::schema &schema, const std::string &folder) {
     }
 }
 
+/* Where names of instances don't count: examples of docs/CANONICAL.md. */
+static void test_numbers() {
+    const p21::schema schema("SCHEMA net; ENTITY node; label : OPTIONAL STRING; next : OPTIONAL node; END_ENTITY; END_SCHEMA;");
+    const auto file_of = [](const std::string &data) {
+        return "ISO-10303-21;\nHEADER;\nFILE_DESCRIPTION((''),'2;1');\nFILE_NAME('','',(''),(''),'','','');\nFILE_SCHEMA(('NET'));\n"
+               "ENDSEC;\nDATA;\n" + data + "ENDSEC;\nEND-ISO-10303-21;\n";
+    };
+    const std::string chain = file_of("#7=NODE($,#3);#3=NODE($,#12);#12=NODE($,$);#5=NODE($,#7);#9=NODE($,#5);");
+    const std::string numbers = file_of("#1=NODE($,#3);\n#2=NODE($,#4);\n#3=NODE($,#2);\n#4=NODE($,#5);\n#5=NODE($,$);\n");
+    const std::string circle = file_of("#1=NODE($,#2);#2=NODE($,#1);"), other = file_of("#3=NODE($,#4);#4=NODE($,#3);");
+    judge(schema.numbered(chain).view() == numbers, "a numbered file");
+    judge(schema.numbered(numbers.data(), numbers.size()).view() == numbers, "a numbered file is its own");
+    judge(schema.same_but_for_names(chain, numbers) && !schema.same(chain, numbers), "the same but for names");
+    judge(!schema.same_but_for_names(chain, circle) && schema.same_but_for_names(circle, circle), "others, and itself");
+    judge(line_of([&] { schema.numbered(circle); }) == "refused 59 Alike in #1", "no numbers");
+    judge(line_of([&] { schema.same_but_for_names(other, circle); }) == "first: refused 59 Alike in #3", "neither has numbers");
+    judge(line_of([&] { schema.same_but_for_names(chain, file_of("#8=NODE($);")); }) == "second: refused 45 Count in #8", "the second is refused");
+    try {
+        schema.numbered(file_of("#8=NODE($);"));
+    } catch (const p21::refused &refusal) {
+        judge(refusal.byte() == 134, "where it is refused");
+    }
+}
+
 /* All refusals of a file, and what one says of itself. */
 static void test_readings(const p21::schema &schema, const std::string &folder) {
     const std::string product = text_of(folder + "/product.step"), refused = text_of(folder + "/refused/Count.step");
@@ -279,6 +303,7 @@ int main(int count, char **words) {
     const std::string product = text_of(folder + "/product.step"), other = text_of(folder + "/product-other.step");
     const p21::schema schema(text_of(folder + "/product.exp"));
     test_files(schema, folder);
+    test_numbers();
     test_readings(schema, folder);
     test_schemas(schema, product);
     test_sessions(schema, product);

@@ -14,6 +14,7 @@ import io
 import os
 import pathlib
 import re
+import shlex
 import shutil
 import socket
 import struct
@@ -34,10 +35,17 @@ EXAMPLES = ROOT / "examples"
 SCHEMA = EXAMPLES / "product.exp"
 BLOCK = "5d11fa2abae65fa2bff1265d357ae88c5adf85242cd77e53a1c8b9877eff411c"
 CHANGED = "2c7249104ea26fc6fa7c66495f8df8c2bf8f9ed06ab1ca0553e38d142f7e1c20"
+ASSEMBLY = ROOT / "tests" / "bindings" / "assembly"
 COUNT = "The record has another number of values than the entity."
 ENDINGS = {"python": "py", "c": "c", "cpp": "cpp"}
 # Where C and C++ answer by a status that there is no answer, Python raises, which ends a program with this one.
 NO_ANSWER = {"python": 1, "c": 3, "cpp": 3}
+
+
+def part_of(title):
+    """What docs/LIBRARY.md has below the title of a task."""
+    page = (ROOT / "docs" / "LIBRARY.md").read_text()
+    return page.split(f"\n#### {title}\n")[1].split("\n#### ")[0].split("\n## ")[0]
 
 
 class Tasks:
@@ -57,8 +65,7 @@ class Tasks:
 
     def words(self, title):
         """The words that run the program below a title, which is compiled first."""
-        page = (ROOT / "docs" / "LIBRARY.md").read_text()
-        part = page.split(f"\n#### {title}\n")[1].split("\n#### ")[0].split("\n## ")[0]
+        part = part_of(title)
         source = self.here / f"{re.sub('[^a-z]+', '_', title.lower())}.{ENDINGS[self.language]}"
         source.write_text(re.search(rf"^```{self.language}\n(.*?)^```$", part, re.M | re.S)[1])
         if self.language == "python":
@@ -79,6 +86,34 @@ class Tasks:
         else:
             self.failed += 1
             print(f"{self.language}, {name}:\n  wanted {wanted}\n  found  {found}")
+
+    def shown(self, title, words):
+        """One row: the example below a title prints what stands behind it, in any order where four processes print it."""
+        lines = re.search(r"^```console\n(.*?)^```$", part_of(title), re.M | re.S)[1].splitlines()
+        here = self.here / "shown"
+        shutil.rmtree(here, ignore_errors=True)
+        here.mkdir()
+        for name in ("examples", "tests"):
+            (here / name).symlink_to(ROOT / name)
+        run = here / "program"
+        run.write_text(f'#!/bin/sh\nexec {shlex.join(words)} "$@"\n')
+        run.chmod(0o755)
+        script = "".join(f"{line[2:]}\n" for line in lines if line.startswith("$ "))
+        environment = dict(self.environment, PATH=f"{here}:{self.environment['PATH']}")
+        done = subprocess.run(["sh", "-c", script], capture_output=True, check=False, timeout=300, env=environment, cwd=here, text=True)
+        wanted, found = [line for line in lines if not line.startswith("$ ")], done.stdout.splitlines()
+        if title.startswith("Hash"):
+            found.sort(key=lambda line: line.partition("  ")[2])
+        self.judge(f"{title}, as it is shown", (wanted, ""), (found, done.stderr))
+
+    def mistaken(self, title, words, *given):
+        """Rows about a schema that is refused, one that isn't there, and words that are too few."""
+        output, error, status = self.run(words, EXAMPLES / "product.step", *given)
+        self.judge(f"{title}, a schema that is refused", (True, 1), ("schema refused S2 Syntax" in output.decode() + error, status))
+        self.unanswered(f"{title}, a schema that isn't there", *self.run(words, self.here / "none.exp", *given))
+        if self.language != "python":
+            output, error, status = self.run(words)
+            self.judge(f"{title}, no words", (b"", True, 2), (output, error.startswith("usage: program "), status))
 
     def unanswered(self, name, output, error, status):
         """One row: the program has no answer, and says none."""
@@ -103,6 +138,9 @@ def catch(tasks):
     wanted = ["schema refused S2 Syntax", "No declaration goes on so."]
     tasks.judge("a schema that is none", (wanted, 1), (output.decode().splitlines(), status))
     tasks.unanswered("a folder", *tasks.run(words, SCHEMA, EXAMPLES))
+    tasks.unanswered("a file that isn't there", *tasks.run(words, SCHEMA, tasks.here / "none.step"))
+    tasks.shown("Catch a refusal with its place", words)
+    tasks.mistaken("a refusal", words, EXAMPLES / "product.step")
 
 
 def syntax(tasks):
@@ -117,6 +155,8 @@ def syntax(tasks):
     output, error, status = tasks.run(words, path)
     tasks.judge("not well formed", (["refused 24 EndsEarly at statement 10", f"{path}:11:24"], "", 1), (output.decode().splitlines(), error, status))
     tasks.unanswered("a folder", *tasks.run(words, EXAMPLES))
+    tasks.unanswered("a file that isn't there", *tasks.run(words, tasks.here / "none.step"))
+    tasks.shown("Say what a file is, without a schema", words)
 
 
 def canonical(tasks):
@@ -129,15 +169,18 @@ def canonical(tasks):
     _, error, status = tasks.run(words, SCHEMA, EXAMPLES / "refused" / "Count.step", none)
     tasks.judge("refused", (True, 1, False), ("refused 45" in error, status, none.exists()))
     tasks.unanswered("a full disk", *tasks.run(words, SCHEMA, EXAMPLES / "product.step", "/dev/full"))
+    tasks.unanswered("a folder", *tasks.run(words, SCHEMA, EXAMPLES, none))
+    tasks.shown("Write the canonical file", words)
+    tasks.mistaken("canonical", words, EXAMPLES / "product.step", none)
 
 
 def compare(tasks):
-    """Two files are the same, the same up to names, or different."""
+    """Two files are the same, the same but for names, or different."""
     words = tasks.words("Compare, but for numbering")
     renumbered = tasks.here / "renumbered.step"
     renumbered.write_text(re.sub("#0*", "#7", (EXAMPLES / "product-other.step").read_text()))
-    rows = [("product-other.step", b"same\n"), (renumbered, b"same up to names\n"), ("product-changed.step", b"different\n")]
-    for second, wanted in rows if tasks.has_program else rows[:1]:
+    rows = [("product-other.step", b"same\n"), (renumbered, b"same but for names\n"), ("product-changed.step", b"different\n")]
+    for second, wanted in rows:
         tasks.judge(f"compared with {second}", (wanted, 0), tasks.run(words, SCHEMA, EXAMPLES / "product.step", EXAMPLES / second)[::2])
     output, error, status = tasks.run(words, SCHEMA, EXAMPLES / "product.step", EXAMPLES / "refused" / "Count.step")
     tasks.judge("the second is refused", (True, 1), ("second: refused 45" in output.decode() + error, status))
@@ -175,6 +218,9 @@ def receive(tasks):
         tasks.judge(f"received, {name}", (b"", True, 1), (output, number in error, status))
     output, error, status = tasks.run(words, SCHEMA, "127.0.0.1", sent(text[:3000], "broken"))
     tasks.unanswered("a connection that breaks", output + error.encode(), error, status)
+    with socket.create_server(("127.0.0.1", 0)) as server:
+        closed = str(server.getsockname()[1])
+    tasks.unanswered("no connection", *tasks.run(words, SCHEMA, "127.0.0.1", closed))
 
 
 def hashes(tasks):
@@ -200,6 +246,8 @@ def hashes(tasks):
     tasks.judge("a file that isn't there", NO_ANSWER[tasks.language], status)
     lines = [line for line in output.decode().splitlines() if "dangling" in line]
     tasks.judge("its line", [], [line for line in lines if not line.startswith("no answer")])
+    tasks.shown("Hash a folder in four processes", words)
+    tasks.mistaken("hashes", words, folder)
 
 
 def table(tasks):
@@ -239,16 +287,38 @@ def table(tasks):
         tasks.judge("a file that isn't there", ([str(folder / "none.step"), "no answer", ""], 3), (rows[2], status))
 
 
+# A trolley of two axles, on each of which two wheels are, as the file says it by its remarks; and one that stands in itself.
+TROLLEY = ["TR-1 Trolley", *["  AX-2 Axle", "    WH-3 Wheel, Ø 80", "    WH-3 Wheel, Ø 80"] * 2, "  BX-4 Box"]
+RING = ["TR-1 Trolley", "  AX-2 Axle", "    BX-4 Box", "      AX-2 Axle"]
+
+
+def assembly(tasks):
+    """Assemblies with their parts."""
+    title = "Walk an assembly"
+    words = tasks.words(title)
+    schema, file = f"{ASSEMBLY}.exp", pathlib.Path(f"{ASSEMBLY}.step")
+    tasks.judge(title, ("\n".join([*TROLLEY, ""]), "", 0), answered(tasks.run(words, schema, file)))
+    front, _, rest = file.read_text().partition("#31=")
+    uses = [("21", "22"), ("22", "24"), ("24", "22")]
+    ring = tasks.here / "ring.step"
+    ring.write_text(front + "".join(f"#3{at}=NEXT_ASSEMBLY_USAGE_OCCURRENCE('','',$,#{a},#{b},$);\n" for at, (a, b) in enumerate(uses)) + rest[rest.index("ENDSEC;") :])
+    tasks.judge(f"{title}, one that stands in itself", ("\n".join([*RING, ""]), "", 0), answered(tasks.run(words, schema, ring)))
+    none = tasks.here / "parts.step"
+    none.write_text(front + rest[rest.index("ENDSEC;") :])
+    tasks.judge(f"{title}, parts alone", ("", "", 0), answered(tasks.run(words, schema, none)))
+    tasks.unanswered(f"{title}, a folder", *tasks.run(words, schema, EXAMPLES))
+    tasks.shown(title, words)
+    tasks.mistaken(title, words, file)
+
+
 def model(tasks):
     """What the instances of a file say, as the plain reading finds it."""
     schema = read_schema(SCHEMA.read_bytes())
     meaning = read_file(schema, (EXAMPLES / "product.step").read_bytes())
     told = {name: meant for name, (_, meant) in sorted(meaning.instances.items())}
     values = {name: dict(meant.values) for name, meant in told.items()}
-    # Python writes the characters of a text, and C its canonical spelling.
-    written = (lambda value: str(value[1])) if tasks.language == "python" else canonical_form.value
     products = [
-        f"#{name} {' '.join(written(values[name]['PRODUCT', attribute]) for attribute in ('ID', 'NAME'))}"
+        f"#{name} {' '.join(str(values[name]['PRODUCT', attribute][1]) for attribute in ('ID', 'NAME'))}"
         for name in told
         if "PRODUCT" in told[name].entities
     ]
@@ -275,11 +345,14 @@ def model(tasks):
         ("Count by type", [], [f"{many} {entity}" for many, entity in counts if many > 0]),
         ("Find who refers to an instance", ["15"], uses),
         ("Find who refers to an instance", ["999"], []),
-        ("Walk an assembly", ["15"], list(walked(15, 0, set()))),
-        ("Walk an assembly", ["999"], []),
+        ("Follow the references of an instance", ["15"], list(walked(15, 0, set()))),
+        ("Follow the references of an instance", ["999"], []),
     ]
     for title, given, wanted in rows:
         words = tasks.words(title)
+        if given != ["999"]:
+            tasks.shown(title, words)
+            tasks.mistaken(title, words, EXAMPLES / "product.step", *given)
         tasks.judge(f"{title} {given}", ("\n".join([*wanted, ""]) if wanted else "", "", 0), answered(tasks.run(words, SCHEMA, EXAMPLES / "product.step", *given)))
         _, _, status = tasks.run(words, SCHEMA, EXAMPLES / "refused" / "Count.step", *given)
         tasks.judge(f"{title}, refused", 1, status)
@@ -294,7 +367,7 @@ def answered(ran):
 def main():
     language, library, *command = sys.argv[1:]
     tasks = Tasks(language, library, command)
-    for task in (catch, syntax, canonical, compare, receive, hashes, table, model):
+    for task in (catch, syntax, canonical, compare, receive, hashes, table, assembly, model):
         task(tasks)
     if not tasks.has_program:
         tasks.left_out.append("what asks the program")

@@ -91,10 +91,12 @@ static void *work(void *given) {
         p21_session session = P21_EMPTY;
         p21_text text = P21_EMPTY;
         p21_list list = P21_EMPTY;
+        p21_place place;
         uint8_t same = 9;
         its->right += p21_check(its->schema, product.at, product.length, &report) == P21_DONE && report.instances == 128;
         its->right += p21_check(its->schema, refused.at, refused.length, &report) == P21_REFUSED && report.number == P21_COUNT;
         its->right += p21_same(its->schema, product.at, product.length, other.at, other.length, &same, &report) == P21_DONE && same == 1;
+        its->right += p21_numbered(its->schema, other.at, other.length, &text, &report, &place) == P21_DONE && report.instances == 128;
         its->right += p21_canonical(its->schema, other.at, other.length, &text, &report) == P21_DONE && report.bytes == 4872;
         its->right += p21_schema_share(its->schema, &shared) == P21_DONE;
         its->right += p21_session_new(round == 0 ? its->schema : &shared, &session) == P21_DONE;
@@ -151,7 +153,7 @@ int main(int count, char **words) {
     p21_session_free(&accepted);
     p21_list_free(&list);
     for (int i = 0; i < THREADS; i++) {
-        right += workers[i].right == 11 * ROUNDS && workers[i].own.inside == NULL;
+        right += workers[i].right == 12 * ROUNDS && workers[i].own.inside == NULL;
     }
     bool is_right = right == 5 + 4 * THREADS;
     puts(is_right ? "each thread finds what it must" : "wrong: a call finds something else");

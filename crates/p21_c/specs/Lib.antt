@@ -3,6 +3,7 @@ pub mod Answers
 pub mod Contents
 pub mod Filled
 pub mod Models
+pub mod Numbered
 pub mod Owned
 pub mod Places
 pub mod Reports

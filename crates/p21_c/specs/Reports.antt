@@ -115,6 +115,10 @@ counted_answer instances = record { status = done; report = record { subject = n
 abbrev pub refused_answer : ℕ → Refusal → Answer
 refused_answer subject refusal = record { status = status_of refusal.fault; report = record { subject = subject; number = fault_number refusal.fault; absent = absent_of refusal.fault; place = location_of refusal.at; at = location_number_of refusal.at; instances = 0; bytes = 0 } }
 
+-- one of two instances that the model doesn't tell apart is named
+abbrev pub alike_answer : ℕ → Answer
+alike_answer name = record { status = refused; report = record { subject = file_subject; number = 59; absent = 0; place = 2; at = name; instances = 0; bytes = 0 } }
+
 abbrev pub schema_refused_answer : SchemaFault → Answer
 schema_refused_answer fault = record { status = schema_status_of fault; report = record { subject = schema_subject; number = schema_fault.fault_number fault; absent = 0; place = 0; at = 0; instances = 0; bytes = 0 } }
 

@@ -1,6 +1,6 @@
 //! What a call answers: a status, and a report.
 ghost use Rattle.std.specs.Prelude.{◌≡◌, cond};
-ghost use Rattle.p21_c.specs.Reports.{absent_form_of, absent_number_of, absent_of, absent_token_of, accepted_answer, counted_answer, done_answer, misused_answer, no_memory_answer, location_of, location_number_of, quiet_answer, refused_answer, schema_refused_answer, schema_status_of, status_of};
+ghost use Rattle.p21_c.specs.Reports.{absent_form_of, absent_number_of, absent_of, absent_token_of, accepted_answer, alike_answer, counted_answer, done_answer, misused_answer, no_memory_answer, location_of, location_number_of, quiet_answer, refused_answer, schema_refused_answer, schema_status_of, status_of};
 
 use p21_express_outline::SchemaFault;
 use p21_grammar::GrammarFault;
@@ -30,6 +30,8 @@ pub const STATEMENT: u8 = 1;
 /// In an instance.
 pub const INSTANCE: u8 = 2;
 
+/// The number of the refusal where the model doesn't tell two instances apart.
+pub const ALIKE: u8 = 59;
 /// The number of the refusal where there is no memory.
 pub const NO_MEMORY: u8 = 90;
 
@@ -137,6 +139,18 @@ pub fn refused(subject: u8, refusal: Refusal) -> Answer
             bytes: 0,
         },
     }
+}
+
+/// A file, or the first of two, that isn't decided, by one of two instances that its model doesn't tell apart.
+pub fn alike(name: u64) -> Answer
+    ensures { result ≡ alike_answer name }
+{
+    let mut answer = quiet(REFUSED);
+    answer.report.subject = FILE;
+    answer.report.number = ALIKE;
+    answer.report.place = INSTANCE;
+    answer.report.at = name;
+    answer
 }
 
 /// A refused schema.

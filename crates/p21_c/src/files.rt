@@ -240,7 +240,7 @@ fn compare_under(
 }
 
 /// Tells an answer, if there is one.
-fn tell(answer: Option<bool>, place: &mut u8)
+pub(crate) fn tell(answer: Option<bool>, place: &mut u8)
     ensures { place.new ≡ told_answer answer place.old }
 {
     match answer {

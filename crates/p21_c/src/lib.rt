@@ -1,5 +1,5 @@
-//! The library for C: checks, canonical files and comparisons of files in memory, all refusals of one and what one says of itself
-//! without a schema, and sessions that are kept between calls.
+//! The library for C: checks, canonical files and comparisons of files in memory, the same where names of instances don't count, all
+//! refusals of one and what one says of itself without a schema, and sessions that are kept between calls.
 //! `p21.h` beside the sources declares the calls.
 //!
 //! In `p21_c` the calls of C stand over functions that know no handle; the statuses and reports that both answer are
@@ -29,6 +29,7 @@ mod model_types;
 mod model_users;
 mod model_values;
 mod names;
+mod numbered;
 mod places;
 mod schemas;
 mod sessions;
