@@ -2,7 +2,8 @@
 
 complete -c p21-diff -s h -l help -d 'Print help'
 complete -c p21-diff -l schemas -r -F -d 'a folder of schemas, each found by what a file names; in place of S. P21_SCHEMAS names one too'
-complete -c p21-diff -l data -d 'compare the data without the header'
+complete -c p21-diff -l data -d 'leave out the header'
+complete -c p21-diff -l ignore -x -d 'leave out an attribute, which is named by the entity that declares it or by that of the instance; may be given several times'
 complete -c p21-diff -l full -d 'print long texts whole'
 complete -c p21-diff -l names -d 'compare up to the names of instances'
 complete -c p21-diff -l pairing -r -F -d 'with --names: write the pairs of names to a file'

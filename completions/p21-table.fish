@@ -3,7 +3,7 @@
 complete -c p21-table -s h -l help -d 'Print help'
 complete -c p21-table -l schemas -r -F -d 'a folder of schemas, each found by what a file names; in place of S. P21_SCHEMAS names one too'
 complete -c p21-table -l data -d 'hash the data without the header'
-complete -c p21-table -l names -d 'hash the model without the names of its instances'
+complete -c p21-table -l names -d 'hash the file under the numbers that its model gives its instances'
 complete -c p21-table -l schema -r -F -d 'a further schema, for files that name another one; may be given several times'
 complete -c p21-table -l manifest -r -F -d 'write a manifest of the files there too'
 complete -c p21-table -l resume -d 'go on with a manifest whose run was interrupted'

@@ -173,7 +173,7 @@ def examples(page):
                     page.judge_file("pair", file, schema, file["name"], places=False)
                 page.judge_pair(f"{first} and {second}", shown, schema, *names)
     shown = page.dropped("product.step", "product-changed.step", schema)
-    page.tests.judge("values as people write them", [["(80, 50, 12.5) mm", "(80, 50, 12.25) mm"]], [both for both in shown["plain"] if both])
+    page.tests.judge("values as people write them", [["12.5 mm", "12.25 mm"]], [both for both in shown["plain"] if both])
 
 
 def chance(page):
@@ -281,17 +281,35 @@ def up_to_names(page):
 
 
 def large_up_to_names(page):
-    """Files that aren't compared up to names before that is asked for."""
+    """Larger files: those that are numbered otherwise are told by what they say unasked, others by their names; and where both have
+    more than 32 MiB, what may be had by asking is said."""
     rows = "\n".join(f"#{number}=POINT($,{number}.,1.);" for number in range(1, 40001))
     text = file_of(rows, [("PRODUCT_MODEL", "DEMO")])
+    half = "\n".join(f"#{number}=POINT($,{number}.,{1 + (number > 20000)}.);" for number in range(1, 40001))
     page.tests.make("points.step", text)
+    page.tests.make("half.step", file_of(half, [("PRODUCT_MODEL", "DEMO")]))
     page.tests.make("renumbered.step", shuffled(text.encode(), 1)[0])
+    way = "document.querySelector('[name=way]:checked').value"
+    known = "document.querySelector('.known')?.textContent ?? null"
     shown = page.dropped("demo.exp", "points.step", "renumbered.step")
-    page.tests.judge("it isn't said unasked", True, re.fullmatch("Different[\\d,]+ differences.", shown["verdict"]) is not None)
+    same = "same up to names: 40000 pairs, checked one by one"
+    page.tests.judge("it is said unasked", True, shown["verdict"].startswith("DifferentThe same but for numbering."))
+    page.tests.judge("and instances are told by what they say", ("shapes", same), (page.browser.ask(way), page.browser.ask(known)))
+    shown = page.dropped("demo.exp", "points.step", "half.step")
+    page.tests.judge("half of them are as they were", "Different20,000 differences.", shown["verdict"])
+    page.tests.judge("and are told by their names", "names", page.browser.ask(way))
+    long = [f"#{number}=POINT('{'p' * 60000}',{number}.,1.);" for number in range(1, 301)]
+    for name, first in (("long.step", 0), ("later.step", 1000)):
+        rows = "\n".join(row.replace(f"#{number}=", f"#{first + number}=") for number, row in enumerate(long, 1))
+        page.tests.make(name, file_of(rows, [("PRODUCT_MODEL", "DEMO")]))
+    hint = "document.querySelector('.differences > .hint')?.textContent ?? null"
+    shown = page.dropped("demo.exp", "long.step", "later.step")
+    page.tests.judge("it isn't said unasked of larger ones", "Different600 differences.", shown["verdict"])
+    said = page.browser.ask(hint)
+    page.tests.judge("but that it may be asked", True, said is not None and said.startswith("Fewer than half of the instances say the same under one name."))
     page.browser.ask("document.querySelector('[name=way][value=shapes]').click()")
-    shown = page.browser.wait(f"document.querySelector('.known') !== null && {ANSWER}", 120)
-    known = page.browser.ask("document.querySelector('.known').textContent")
-    page.tests.judge("it is said where it is asked for", "same up to names: 40000 pairs, checked one by one", known)
+    page.browser.wait(f"document.querySelector('.known') !== null && {ANSWER}", 120)
+    page.tests.judge("it is said where it is asked for", ("same up to names: 300 pairs, checked one by one", None), (page.browser.ask(known), page.browser.ask(hint)))
 
 
 def asked_otherwise(page):
@@ -331,14 +349,15 @@ def asked_otherwise_in(page, name):
             elif field:
                 ask("document.getElementById('with-header').click()")
             shown = wait(ANSWER)
-            known = ask("document.querySelector('.known')?.textContent ?? null")
+            left_out, known = (ask(f"document.querySelector('.{part}')?.textContent ?? null") for part in ("left-out", "known"))
             lines = page.tool("p21-diff", *words, *more, *paths)
-            judge(f"{file}, {words + more} in {name}", lines, [*shown["differences"], *([known] if known else [])])
+            lines[0] = f"{lines[0][0].upper()}{lines[0][1:]}." if more else lines[0]
+            judge(f"{file}, {words + more} in {name}", lines, [*filter(None, [left_out]), *shown["differences"], *filter(None, [known])])
             if field:
                 judge(f"the focus stays on {field} in {name}", field, ask("document.activeElement.id"))
             table = page.tool("p21-diff", "--stat", *words, *more, *paths)
             rows = "[...document.querySelectorAll('.by-entity tbody tr')].map((row) => [...row.children].map((cell) => cell.textContent || '0').join(' '))"
-            judge(f"by entity, {words + more} in {name}", [" ".join(line.split()) for line in table[1 : table.index("") - 1]], ask(rows))
+            judge(f"by entity, {words + more} in {name}", [" ".join(line.split()) for line in table[1 + bool(more) : table.index("") - 1]], ask(rows))
             ask("[...document.querySelectorAll('.differences button')].find((found) => found.textContent === 'Save as report').click()")
             report = subprocess.run(
                 [ROOT / "tools" / "p21-diff", *words, *more, "--format", "html", *paths], cwd=page.folder, capture_output=True, text=True, check=False

@@ -202,7 +202,9 @@ def differences(tests, node):
         for found, names in zip(both, ([], ["--names"]), strict=True):
             options = [*names, *words, "--stat"]
             output, _, _ = tests.run([*options, *paths])
-            table, _, lines = output.partition("\n\n")
+            left_out, _, rest = output.partition("\n") if words else ("", "", output)
+            tests.judge(f"what is left out by {options}", left_out, found["leftOut"])
+            table, _, lines = rest.partition("\n\n")
             tests.judge(" ".join([*options, *paths]), lines.splitlines(), [*found["lines"], found["verdict"]])
             rows = [[row[0], *map(int, row[1:])] for row in map(str.split, table.splitlines()[1:-1])]
             tests.judge(f"the table of {' '.join([*options, *paths])}", rows, found["table"])

@@ -27,7 +27,21 @@ ROWS = [
         file_of(POINT),
         file_of(POINT, [("0.,0.,0.", "0.,0.,7.5")]),
         [],
-        ["changed #1 CARTESIAN_POINT.COORDINATES: (0.,0.,0.) -> (0.,0.,7.5)"],
+        ["changed #1 CARTESIAN_POINT.COORDINATES[3]: 0. -> 7.5"],
+    ),
+    (
+        "two elements of a value",
+        file_of(POINT),
+        file_of(POINT, [("0.,0.,0.", "1.,0.,7.5")]),
+        [],
+        ["changed #1 CARTESIAN_POINT.COORDINATES: (0.,0.,0.) -> (1.,0.,7.5)"],
+    ),
+    (
+        "an element that came, and one that went",
+        file_of("#1=CARTESIAN_POINT('',(0.,1.));\n#2=PERSON('a',$,$,('t','u'));"),
+        file_of("#1=CARTESIAN_POINT('',(0.,1.,2.));\n#2=PERSON('a',$,$,('u'));"),
+        [],
+        ["changed #1 CARTESIAN_POINT.COORDINATES[3]: - -> 2.", "changed #2 PERSON.TITLES[1]: 't' -> -"],
     ),
     (
         "two values of one instance",
@@ -48,7 +62,7 @@ ROWS = [
         file_of("#1=DIRECTION('',(0.,0.,1.));"),
         file_of(POINT),
         [],
-        ["changed #1: #1=DIRECTION('',(0.,0.,1.)); -> #1=CARTESIAN_POINT('',(0.,0.,0.));"],
+        ["changed #1, its entities: DIRECTION -> CARTESIAN_POINT"],
     ),
     (
         "instances of one file alone, told by numbers",
@@ -73,14 +87,75 @@ ROWS = [
         file_of(POINT, [("FILE_NAME('',''", "FILE_NAME('','2024-03-15'")]),
         file_of(POINT, [("FILE_NAME('',''", "FILE_NAME('','2024-03-16'")]),
         [],
-        ["changed header FILE_NAME.time_stamp: '2024-03-15' -> '2024-03-16'"],
+        ["changed header FILE_NAME.TIME_STAMP: '2024-03-15' -> '2024-03-16'"],
     ),
     (
         "the time stamp, without the header",
         file_of(POINT, [("FILE_NAME('',''", "FILE_NAME('','2024-03-15'")]),
         file_of(POINT),
         ["--data"],
-        [],
+        ["left out: the header", "the same but for the header: 0 changed, 0 came, 0 went; 1 difference in the header not listed"],
+    ),
+    (
+        "a value, without the header",
+        file_of(POINT, [("FILE_NAME('',''", "FILE_NAME('','2024-03-15'")]),
+        file_of(POINT, [("0.,0.,0.", "0.,0.,7.5")]),
+        ["--data"],
+        [
+            "left out: the header",
+            "changed #1 CARTESIAN_POINT.COORDINATES[3]: 0. -> 7.5",
+            "different: 1 changed, 0 came, 0 went; 1 difference in the header not listed",
+        ],
+    ),
+    ("the same text, without the header", file_of(POINT), file_of(POINT), ["--data"], ["left out: the header", "same"]),
+    (
+        "two attributes, of which one is ignored",
+        file_of(PERSON),
+        file_of("#2=PERSON('jo',$,'Jo',$);"),
+        ["--ignore", "person.id"],
+        [
+            "left out: PERSON.ID",
+            "changed #2 PERSON.FIRST_NAME: $ -> 'Jo'",
+            "different: 1 changed, 0 came, 0 went; 1 difference at ignored attributes not listed",
+        ],
+    ),
+    (
+        "all that differs is ignored",
+        file_of(PERSON),
+        file_of("#2=PERSON('jo',$,'Jo',$);", [("FILE_NAME('',''", "FILE_NAME('','2024-03-15'")]),
+        ["--ignore", "PERSON.ID", "--ignore", "PERSON.FIRST_NAME", "--ignore", "FILE_NAME.TIME_STAMP"],
+        [
+            "left out: FILE_NAME.TIME_STAMP, PERSON.FIRST_NAME, PERSON.ID",
+            "different: 0 changed, 0 came, 0 went; 3 differences at ignored attributes not listed",
+        ],
+    ),
+    (
+        "an attribute that a supertype declares, ignored by the entity of the instance",
+        file_of(f"{POINT}\n#2=DIRECTION('a',(0.,0.,1.));"),
+        file_of("#1=CARTESIAN_POINT('b',(0.,0.,0.));\n#2=DIRECTION('b',(0.,0.,1.));"),
+        ["--ignore", "DIRECTION.NAME"],
+        [
+            "left out: DIRECTION.NAME",
+            "changed #1 REPRESENTATION_ITEM.NAME of CARTESIAN_POINT: '' -> 'b'",
+            "different: 1 changed, 0 came, 0 went; 1 difference at ignored attributes not listed",
+        ],
+    ),
+    (
+        "an attribute that a supertype declares, ignored by that",
+        file_of(f"{POINT}\n#2=DIRECTION('a',(0.,0.,1.));"),
+        file_of("#1=CARTESIAN_POINT('b',(0.,0.,0.));\n#2=DIRECTION('b',(0.,0.,1.));"),
+        ["--ignore", "REPRESENTATION_ITEM.NAME"],
+        [
+            "left out: REPRESENTATION_ITEM.NAME",
+            "different: 0 changed, 0 came, 0 went; 2 differences at ignored attributes not listed",
+        ],
+    ),
+    (
+        "an ignored attribute up to names",
+        file_of(PERSON),
+        file_of("#7=PERSON('jo',$,$,$);"),
+        ["--names", "--ignore", "PERSON.ID"],
+        ["left out: PERSON.ID", "different: 0 changed, 0 came, 0 went; 1 difference at ignored attributes not listed"],
     ),
     (
         "a further header record",
@@ -94,7 +169,7 @@ ROWS = [
         file_of(POINT, [("MODEL'));", "MODEL'));\n!MY_RECORD(1);")]),
         file_of(POINT, [("MODEL'));", "MODEL'));\n!MY_RECORD(1.);")]),
         [],
-        ["changed header !MY_RECORD.?: 1 -> 1."],
+        ["changed header !MY_RECORD.1: 1 -> 1."],
     ),
     (
         "sections",
@@ -161,7 +236,7 @@ FORMS = [
             "CARTESIAN_POINT          1          0          0",
             "total                    1          0          0",
             "",
-            "changed #24 CARTESIAN_POINT.COORDINATES: (8.E1,5.E1,1.25E1) -> (8.E1,5.E1,1.225E1)",
+            "changed #24 CARTESIAN_POINT.COORDINATES[3]: 1.25E1 -> 1.225E1",
             "different: 1 changed, 0 came, 0 went",
         ],
     ),
@@ -171,7 +246,7 @@ FORMS = [
         [
             '{"kind": "stat", "entity": "CARTESIAN_POINT", "changed": 1, "came": 0, "went": 0}',
             '{"kind": "changed", "what": "instance", "a": 24, "b": 24, "entity": "CARTESIAN_POINT", "attribute": "COORDINATES", '
-            '"before": "(8.E1,5.E1,1.25E1)", "after": "(8.E1,5.E1,1.225E1)"}',
+            '"keywords": "CARTESIAN_POINT", "indices": [3], "before": "1.25E1", "after": "1.225E1"}',
             '{"kind": "verdict", "verdict": "different", "changed": 1, "came": 0, "went": 0}',
         ],
     ),
@@ -179,14 +254,24 @@ FORMS = [
         "a tolerance that is too small",
         ["--tolerance", "0.0199"],
         [
-            "changed #24 CARTESIAN_POINT.COORDINATES: (8.E1,5.E1,1.25E1) -> (8.E1,5.E1,1.225E1)",
+            "left out: reals within the tolerance 0.0199",
+            "changed #24 CARTESIAN_POINT.COORDINATES[3]: 1.25E1 -> 1.225E1",
             "different: 1 changed, 0 came, 0 went; 0 values within the tolerance 0.0199 not listed",
         ],
     ),
     (
         "a relative tolerance",
         ["--tolerance", "0.02"],
-        ["different: 0 changed, 0 came, 0 went; 1 value within the tolerance 0.02 not listed"],
+        ["left out: reals within the tolerance 0.02", "different: 0 changed, 0 came, 0 went; 1 value within the tolerance 0.02 not listed"],
+    ),
+    (
+        "what is left out, in objects",
+        ["--format", "json", "--data", "--tolerance", "0.02", "--ignore", "PERSON.ID"],
+        [
+            '{"kind": "left out", "header": true, "ignore": ["PERSON.ID"], "tolerance": "0.02"}',
+            '{"kind": "verdict", "verdict": "different", "changed": 0, "came": 0, "went": 0, '
+            '"in_header": 0, "ignored": 0, "tolerance": "0.02", "near": 1}',
+        ],
     ),
 ]
 
@@ -233,32 +318,6 @@ def but_for(tests):
         tests.judge(f"but for {name}, a page", heading, page.partition("<h1>")[2].partition("</h1>")[0])
 
 
-# A schema each of whose entities has all attributes of the first, so that its listing is far longer than it is.
-WIDE = 200
-
-
-def wide(tests):
-    """A listing that is longer than is read of one: it isn't waited for, and what differs is told by the schema itself; up to names it
-    isn't asked for."""
-    attributes = " ".join(f"a{number} : REAL;" for number in range(WIDE))
-    entities = " ".join(f"ENTITY b{number} SUBTYPE OF (a); END_ENTITY;" for number in range(WIDE))
-    schema = tests.make("wide.exp", f"SCHEMA wide; ENTITY a; {attributes} END_ENTITY; {entities} END_SCHEMA;")
-    texts = [file_of(f"#1=B7({'0.,' * (WIDE - 1)}{last});", [("PRODUCT_MODEL", "WIDE")]) for last in ("0.", "1.")]
-    paths = [tests.make(f"{number}.step", text) for number, text in enumerate(texts)]
-    line = f"changed #1 B7.A{WIDE - 1}: 0. -> 1."
-    for name, options, lines in (
-        ("as it is", [], ""),
-        ("with an endless listing", [], "{ echo 'SCHEMA WIDE'; head -c 40000000 /dev/zero | tr '\\0' x; sleep 100; exit 3; }"),
-        ("without a listing", ["--names"], "{ echo 'out of memory' >&2; exit 3; }"),
-    ):
-        program = tests.rigged("listing", f'[ "$1" = schema ] && {lines}' if lines else "")
-        begun = time.monotonic()
-        output, error, status = tests.run([*options, schema, *paths], program=program)
-        took = time.monotonic() - begun
-        tests.judge(f"a wide schema, {name}", (line, "", 1), (output.split("\n")[0], error, status))
-        tests.judge(f"a wide schema, {name}: {took:.1f} s", True, took < 60)
-
-
 # Each row: a real, another one, a tolerance, and whether they are within it.
 NEAR = [
     ("1.", "1.001", "0.001", True),
@@ -273,6 +332,13 @@ NEAR = [
 ]
 
 
+# Attributes that the schema hasn't, and what is said of them.
+UNKNOWN = [
+    ("PERSONS.ID", "the schema has no entity PERSONS"),
+    ("PERSON.NAMES", "PERSON has no attribute NAMES of which files have values"),
+]
+
+
 def forms(tests):
     """The forms of the output, and tolerances."""
     files = ["examples/product.step", "examples/product-changed.step"]
@@ -284,8 +350,11 @@ def forms(tests):
         paths = [tests.make(f"{at}.step", file_of(POINT, [("0.,0.,0.", f"0.,0.,{real}")])) for at, real in enumerate((one, other))]
         _, error, status = tests.run(["--tolerance", tolerance, SCHEMA, *paths])
         tests.judge(f"{one[:20]} and {other[:20]} within {tolerance}", ("", int(not is_near)), (error, status))
-    _, _, status = tests.run(["--tolerance", "-1", SCHEMA, *files])
-    tests.judge("a tolerance below 0", 2, status)
+    for words in (["--tolerance", "-1"], ["--ignore", "PERSON"], ["--ignore", "PERSON.ID.X"]):
+        output, error, status = tests.run([*words, SCHEMA, *files])
+        tests.judge(f"a wrong word, {words}", ("", "usage: p21-diff", 2), (output, error[:15], status))
+    for word, said in UNKNOWN:
+        tests.expect(f"an attribute that isn't there, {word}", ["--ignore", word, SCHEMA, *files], 2, [], f"p21-diff: --ignore {word}: {said}")
 
 
 def strange(tests):
@@ -316,7 +385,7 @@ def strange(tests):
 
 
 def memory(tests):
-    """What a comparison takes where one record is as large as the file: at most four times the file beside what it always takes."""
+    """What a comparison takes where one record is as large as the file: at most six times the file beside what it always takes."""
     titles = ",".join(["'t'"] * 1_000_000)
     rows = [
         ("a list", *(file_of(f"#1=PERSON('a',$,$,({titles},'{last}'));") for last in "xy")),
@@ -327,7 +396,7 @@ def memory(tests):
     least = peak(tests, [tests.make("a.step", file_of(POINT)), tests.make("b.step", file_of(POINT, [("0.,0.,0.", "0.,0.,1.")]))])
     for name, one, other in rows:
         found = peak(tests, [tests.make("a.step", one), tests.make("b.step", other)])
-        tests.judge(f"{name}, {len(one)} bytes: {found - least} bytes more", True, found - least <= 4 * len(one))
+        tests.judge(f"{name}, {len(one)} bytes: {found - least} bytes more", True, found - least <= 6 * len(one))
 
 
 def peak(tests, paths):
@@ -346,7 +415,7 @@ def peak(tests, paths):
 def main():
     tests = Tests("p21-diff")
     product = "examples/product.step"
-    changed = ["changed #24 CARTESIAN_POINT.COORDINATES: (8.E1,5.E1,1.25E1) -> (8.E1,5.E1,1.225E1)"]
+    changed = ["changed #24 CARTESIAN_POINT.COORDINATES[3]: 1.25E1 -> 1.225E1"]
     tests.expect("the example and its other form", [SCHEMA, product, "examples/product-other.step"], 0, [])
     tests.expect("the example and its change", [SCHEMA, product, "examples/product-changed.step"], 1, changed)
     for name, place in (("the schema", 0), ("a file", 2)):
@@ -356,12 +425,12 @@ def main():
         tests.judge(f"{name} from a pipe", (changed[0] + "\n", "", 1), tests.run(given, text))
     for name, first, second, options, lines in ROWS:
         paths = [tests.make("a.step", first), tests.make("b.step", second)]
-        tests.expect(name, [*options, SCHEMA, *paths], int(lines != []), lines)
+        is_listed = any(line.startswith(("changed ", "only in ")) for line in lines)
+        tests.expect(name, [*options, SCHEMA, *paths], int(is_listed), lines)
     for name, given, line in TROUBLE:
         tests.expect(name, given, 2, [], f"p21-diff: {line}")
     forms(tests)
     but_for(tests)
-    wide(tests)
     strange(tests)
     memory(tests)
     tests.end()

@@ -2,25 +2,19 @@
 """Compares files up to the names of their instances: generated files of which the right answer is known from how they were
 made, through tools/p21-diff --names, tools/p21-renumber and tools/p21-table --names. P21 names another program than ./p21.
 
-    tests/tools_names.py [PAIRS]     so many pairs for the hash that doesn't depend on names; 10,000 without a number
+That the hash doesn't depend on names, and tells whatever else differs, tests/numbering.py tries.
 """
 
-import itertools
+import hashlib
 import json
 import os
 import random
 import re
 import subprocess
-import sys
 
 import exchange
 from tooling import ROOT, Tests
 from renaming import shuffled
-
-sys.path.insert(0, str(ROOT / "tools"))
-import p21_hashes  # pylint: disable=wrong-import-position
-import p21_schemas  # pylint: disable=wrong-import-position
-import p21_sets  # pylint: disable=wrong-import-position
 
 SCHEMA = "tests/naming.exp"
 
@@ -251,11 +245,12 @@ def changes(tests):
         objects, found, status = verdict(tests, [], file_of(records), other)
         wanted = {
             "kind": "changed", "what": "instance", "a": name, "b": names[name], "entity": "LEAF", "attribute": "X",
-            "before": "1.", "after": "2.5",
+            "keywords": "LEAF", "before": "1.", "after": "2.5",
         }  # fmt: skip
         tests.judge(f"one value, {seed}", ([wanted], "different", 1), (objects, found["verdict"], status))
         objects, found, status = verdict(tests, ["--tolerance", "0.6"], file_of(records), other)
-        tests.judge(f"one value within the tolerance, {seed}", ([], "different", 1, 0), (objects, found["verdict"], found["near"], status))
+        said = [{"kind": "left out", "tolerance": "0.6"}]
+        tests.judge(f"one value within the tolerance, {seed}", (said, "different", 1, 0), (objects, found["verdict"], found["near"], status))
 
 
 def gone(tests):
@@ -402,119 +397,39 @@ def renumbering(tests):
     tests.tool = "p21-diff"
 
 
-# --- The hash ---
-
-
-def hashed(sets, text):
-    """The hash of a canonical file without names."""
-    return p21_hashes.name_free(text, sets, False)
-
-
 def canonical(tests, text):
     """The canonical file of a file."""
     return subprocess.run([tests.program, "canon", SCHEMA, tests.make("c.step", text)], capture_output=True, check=True).stdout
 
 
-def hashes(tests, count):
-    """Shuffled files have equal hashes; of so many pairs that differ in one value none has."""
-    with open(SCHEMA, "rb") as file:
-        sets = p21_sets.Sets(p21_schemas.Outline(file.read()))
-    equal = 0
-    for seed in range(count):
-        records = by_chance(seed, 5 + seed % 40, cyclic=seed % 3 == 0)
-        leaves = [name for name, record in records.items() if record.startswith("LEAF")]
-        if not leaves:
-            records[len(records) + 1] = "LEAF('z',1.)"
-            leaves = [len(records)]
-        text = file_of(records)
-        changed = dict(records)
-        name = leaves[seed % len(leaves)]
-        changed[name] = "LEAF('changed',1.)" if seed % 2 else records[name].split(",")[0] + ",77.)"
-        equal += hashed(sets, text).sha256 == hashed(sets, file_of(changed)).sha256
-        if seed % 100 == 0:
-            other = canonical(tests, shuffled(text, seed)[0])
-            tests.judge(f"canonical as it is made, {seed}", text, canonical(tests, text))
-            tests.judge(f"the hash of a shuffled file, {seed}", hashed(sets, text), hashed(sets, other))
-    tests.judge(f"equal hashes of {count} pairs that differ in a value", 0, equal)
-
-
-def decided(tests):
-    """Whether a hash says that equal ones mean the same."""
-    with open(SCHEMA, "rb") as file:
-        sets = p21_sets.Sets(p21_schemas.Outline(file.read()))
-    rows = [
-        ("empty", {}, True), ("equal", EQUAL, True), ("parts", PARTS, True), ("copied", COPIED, True),
-        ("a circle", rings(6), False), ("circles", rings(3, 3), False), ("a rook's fields", rook(), False),
-        ("other fields", shrikhande(), False),
-    ]  # fmt: skip
-    for name, records, wanted in rows:
-        found = hashed(sets, file_of(records)) if name != "a rook's fields" else hashed(sets, canonical(tests, file_of(records)))
-        tests.judge(f"decided, {name}", wanted, found.is_decided)
-    two, others = hashed(sets, file_of(USED_BY_TWO)), hashed(sets, file_of(USED_BY_OTHERS))
-    tests.judge("hashes of what is used by two and by others", True, two.sha256 != others.sha256)
-    itself, other = ({1: "LINK(#1,$)", 2: "LINK(#2,$)"}, {1: "LINK(#2,$)", 2: "LINK(#1,$)"})
-    are_apart = hashed(sets, file_of(itself)).sha256 != hashed(sets, file_of(other)).sha256
-    tests.judge("two that refer to themselves, and to one another", True, are_apart)
-    same = hashed(sets, file_of(rings(6))).sha256 == hashed(sets, file_of(rings(3, 3))).sha256
-    tests.judge("circles that digests can't tell apart have equal hashes", True, same)
-
-
-def link_text(targets):
-    """A link to two instances by their names, of which 0 is none."""
-    return f"LINK({','.join(f'#{target}' if target else '$' for target in targets)})"
-
-
-def class_of(graph):
-    """What two graphs of links have in common exactly if one is the other but for names: the least of all namings."""
-    found = []
-    for order in itertools.permutations(range(1, len(graph) + 1)):
-        names = (0, *order)
-        found.append(tuple(sorted((names[at], *(names[target] for target in targets)) for at, targets in enumerate(graph, 1))))
-    return min(found)
-
-
-def small_graphs(count):
-    """All graphs of one or two links, and so many of three to five by chance."""
-    for size in (1, 2):
-        yield from itertools.product(itertools.product(range(size + 1), repeat=2), repeat=size)
-    chance = random.Random("graphs")
-    for _ in range(count):
-        size = chance.choice((3, 3, 3, 4, 5))
-        empty = chance.choice((0, 0.1, 0.3))
-        yield tuple(tuple(0 if chance.random() < empty else chance.randint(1, size) for _ in range(2)) for _ in range(size))
-
-
-def graphs(tests, count=5000):
-    """Of small graphs, each pair: files that are the same but for names have one answer, and files with equal hashes that are decided
-    are the same but for names."""
-    with open(SCHEMA, "rb") as file:
-        sets = p21_sets.Sets(p21_schemas.Outline(file.read()))
-    answers, same, decided_ones = {}, {}, 0
-    for graph in small_graphs(count):
-        found, like = hashed(sets, file_of({name: link_text(targets) for name, targets in enumerate(graph, 1)})), class_of(graph)
-        tests.judge(f"the answer on {graph}", answers.setdefault(like, found), found)
-        if found.is_decided:
-            decided_ones += 1
-            tests.judge(f"the hash of {graph}", same.setdefault(found.sha256, like), like)
-    tests.judge("most graphs are decided", True, decided_ones > count * 0.9)
+# --- The hash ---
 
 
 def table(tests):
-    """The rows of p21-table --names."""
+    """The rows of p21-table --names: the hash is that of the numbered file, and where there is none the row has none."""
     records = by_chance(4, 30, cyclic=False)
+    leaf = next(name for name, record in records.items() if record.startswith("LEAF"))
+    changed = {**records, leaf: "LEAF('changed',1.)"}
     files = [tests.make("one.step", file_of(records)), tests.make("two.step", shuffled(file_of(records), 4)[0])]
-    files += [tests.make("circle.step", file_of(rings(6))), tests.make("circles.step", file_of(rings(3, 3)))]
-    command = ["tools/p21-table", "--names", "--format", "json", SCHEMA, *files]
-    done = subprocess.run(command, capture_output=True, check=False, text=True)
-    rows = [json.loads(line) for line in done.stdout.splitlines()]
-    tests.judge("rows", [True, True, False, False], [row["decided"] for row in rows])
-    tests.judge("hashes in rows", (2, 2), (len({row["sha256"] for row in rows}), len({row["sha256"] for row in rows[:2]}) + 1))
-    tests.judge("which are the same", f"4 files, 4 accepted, 0 not\nthe same up to names: {files[0]} {files[1]}\n", done.stderr)
+    files += [tests.make("other.step", file_of(changed)), tests.make("circle.step", file_of(rings(6)))]
+    numbered = [
+        subprocess.run([tests.program, "canon", "--names", SCHEMA, file], capture_output=True, check=False).stdout for file in files[:3]
+    ]
+    for of_data in (False, True):
+        command = ["tools/p21-table", "--names", *(["--data"] if of_data else []), "--format", "json", SCHEMA, *files]
+        done = subprocess.run(command, capture_output=True, check=False, text=True)
+        rows = [json.loads(line) for line in done.stdout.splitlines()]
+        texts = [text.partition(b"\nENDSEC;\n")[2] if of_data else text for text in numbered]
+        wanted = [hashlib.sha256(text).hexdigest() for text in texts]
+        found = [row["sha256"] for row in rows]
+        tests.judge(f"hashes in rows, {of_data}", ([*wanted, None], True, True), (found, found[0] == found[1], found[0] != found[2]))
+        tests.judge(f"answers in rows, {of_data}", (["accepted"] * 3, 59, 1), ([row["answer"] for row in rows[:3]], rows[3]["number"], done.returncode))
+        same = f"the same{' data' if of_data else ''} but for names: {files[0]} {files[1]}"
+        tests.judge(f"which are the same, {of_data}", ["4 files, 3 accepted, 1 not", "     1 refused 59 Alike", same], done.stderr.splitlines())
 
 
 def main():
     tests = Tests("p21-diff")
-    count = int(sys.argv[1]) if len(sys.argv) > 1 else 10_000
     known(tests)
     pairings(tests)
     changes(tests)
@@ -523,10 +438,7 @@ def main():
     shown(tests)
     crossed(tests)
     renumbering(tests)
-    decided(tests)
-    graphs(tests)
     table(tests)
-    hashes(tests, count)
     tests.end()
 
 

@@ -121,7 +121,7 @@ const owners = ([schema, file]) => {{
   for (let side = 0; side < 2; side++) graph.add(bytesOf(file), () => {{}});
   graph.close();
   const found = new Owners({{ graph, partner: (node) => node + graph.sides[0].end }}, outline, attributes);
-  const said = (node) => [graph.names[node], found.owner(node)];
+  const said = (node) => [graph.name(node), found.owner(node)];
   return Object.fromEntries(graph.ofSide(0).map(said).map(([name, {{ products, parts }}]) => [name, [products, parts]]));
 }};
 console.log(JSON.stringify(JSON.parse(text).map(owners)));

@@ -74,19 +74,17 @@ OF_IFC = """SCHEMA s; TYPE IfcLengthMeasure = REAL; END_TYPE; TYPE IfcPositiveLe
 ENTITY e; depth : OPTIONAL IfcPositiveLengthMeasure; name : STRING; END_ENTITY;
 ENTITY f SUBTYPE OF (e); all : SET [1:?] OF LIST [3:3] OF UNIQUE IfcLengthMeasure; ratio : REAL; END_ENTITY; END_SCHEMA;"""
 PRODUCT = (ROOT / "examples" / "product.exp").read_text()
-# A schema, the keywords of an instance, one of them, an attribute, and whether that is a length.
+# A schema, the entity that declares an attribute, the attribute, and whether that is a length.
 ATTRIBUTES = [
-    (PRODUCT, ["CARTESIAN_POINT"], "CARTESIAN_POINT", "COORDINATES", True),
-    (PRODUCT, ["CARTESIAN_POINT"], "CARTESIAN_POINT", "NAME", False),
-    (PRODUCT, ["DIRECTION"], "DIRECTION", "DIRECTION_RATIOS", False),
-    (PRODUCT, ["VECTOR"], "VECTOR", "MAGNITUDE", True),
-    (OF_IFC, ["E"], "E", "DEPTH", True),
-    (OF_IFC, ["F"], "F", "DEPTH", True),
-    (OF_IFC, ["F"], "F", "ALL", True),
-    (OF_IFC, ["F"], "F", "RATIO", False),
-    (OF_IFC, ["E", "F"], "F", "ALL", True),
-    (OF_IFC, ["E", "F"], "F", "DEPTH", False),
-    (OF_IFC, ["E", "F"], "E", "DEPTH", True),
+    (PRODUCT, "CARTESIAN_POINT", "COORDINATES", True),
+    (PRODUCT, "REPRESENTATION_ITEM", "NAME", False),
+    (PRODUCT, "DIRECTION", "DIRECTION_RATIOS", False),
+    (PRODUCT, "VECTOR", "MAGNITUDE", True),
+    (PRODUCT, "FILE_NAME", "NAME", False),
+    (OF_IFC, "E", "DEPTH", True),
+    (OF_IFC, "F", "DEPTH", False),
+    (OF_IFC, "F", "ALL", True),
+    (OF_IFC, "F", "RATIO", False),
 ]
 PIECES = ["'", "''", "\\\\", "1.", "5.25E1", "-2.E-3", "E", "A1", ".T.", ",", "(", ")", "#4", '"0A"', "\\X2\\00FC\\X0\\", "x"]
 # What the page's scripts say, of values, files, lengths and attributes.

@@ -6,10 +6,11 @@ Without that package the part is skipped. P21 names another program than ./p21.
 """
 
 import json
+import re
 import sys
 
 import needs
-from tooling import SCHEMA, Tests
+from tooling import ROOT, SCHEMA, Tests
 
 try:
     import sarif_om
@@ -79,6 +80,12 @@ def main():
     tests.judge("ten refusals, each with a place", (10, True), (len(regions), all(at.start_line > 0 and at.start_column > 0 for at in regions)))
     rules = run.tool.driver.rules
     tests.judge("their rules", [result.rule_id for result in run.results], [rules[result.rule_index].id for result in run.results])
+    # The titles of docs/FAULTS.md name each refusal.
+    titles = re.findall(r"^### (S?\d+) (\w+)$", (ROOT / "docs" / "FAULTS.md").read_text(), re.M)
+    known = {number: f"{number} {name}" for number, name in titles}
+    tests.judge("rules without a help in both forms", [], [rule.id for rule in rules if not (rule.help.text and rule.help.markdown)])
+    tests.judge("counts by rule", {known[rule.id]: 1 for rule in rules}, run.properties["refusals"]["byRule"])
+    tests.judge("counts", (10, 10, True), tuple(run.properties["refusals"][key] for key in ("found", "listed", "allLookedFor")))
     told = run.invocations[0].tool_execution_notifications[0].message.text
     tests.judge("what can't be read", f"cannot open {tests.here}/none: there is no such file", told)
     wrong = json.loads(output)

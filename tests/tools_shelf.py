@@ -106,7 +106,7 @@ def differences(tests, folder):
     """p21-diff finds the schema that the first file names."""
     tests.tool = "p21-diff"
     first, second = "examples/product.step", "examples/product-changed.step"
-    line = "changed #24 CARTESIAN_POINT.COORDINATES: (8.E1,5.E1,1.25E1) -> (8.E1,5.E1,1.225E1)"
+    line = "changed #24 CARTESIAN_POINT.COORDINATES[3]: 1.25E1 -> 1.225E1"
     tests.expect("by the folder", ["--schemas", folder, first, second], 1, [line])
     demo = [tests.make(f"{name}.step", file_of(f"#1=POINT($,1.,{name}.);", [("PRODUCT_MODEL", "DEMO")])) for name in "12"]
     tests.expect("by another listing", [*demo, "--schemas", folder], 1, ["changed #1 POINT.Y: 1. -> 2."])

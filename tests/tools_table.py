@@ -16,7 +16,6 @@ import sys
 from tooling import AS_OTHERS, MOST_SECONDS, ROOT, RUN_BY, SCHEMA, Tests, file_of
 
 sys.path.insert(0, str(ROOT / "tools"))
-import p21_plainly as plainly  # noqa: E402  pylint: disable=wrong-import-position
 
 try:
     import pandas
@@ -326,23 +325,39 @@ SPELLED = [
     (b"'Caf\\S\\i','\\X4\\0001F600\\X0\\'", "Caf\u00e9", "\U0001f600"),
     (b"'\\X2\\D83DDE00\\X0\\','Caf\xc3\xa9\n'", "\U0001f600", "Caf\u00e9"),
     (b"$,'x'", None, "x"),
-    # These are refused: another page, half of a pair, no directive, no UTF-8, and no text.
-    (b"'\\PE\\\\S\\0','\\X2\\D83D\\X0\\'", "\u0410", "\ufffd"),
-    (b"'C:\\parts','M\xfcller'", "C:\\parts", "M\udcfcller"),
+    # A character that isn't shown is told by its directive, and a text that looks like a line of the answer is a text.
+    (b"'a\\X\\0Aschema: B','originating system: c'", "a\\X2\\000A\\X0\\schema: B", "originating system: c"),
+    # These are refused: another page, half of a pair, no directive, no UTF-8, and no text. What isn't refused is told.
+    (b"'\\PE\\\\S\\0','\\X2\\D83D\\X0\\'", None, None),
+    (b"'C:\\parts','M\xfcller'", None, None),
+    (b"'C:\\parts','CAD 7'", None, "CAD 7"),
+    (b"'written by hand','M\xfcller'", "written by hand", None),
     (b"5,('x')", None, None),
+    (b"'a','b','c'", "a", "b"),
 ]
+ACCEPTED = 8
 NO_HEADERS = [
     (b"", None, None),
     (b"no STEP file; 'FILE_SCHEMA(''A'')'; \x00\xff", None, None),
-    (b"ISO-10303-21;HEADER;FILE_SCHEMA(('A','B'));FILE_NAME('','',(''),(''),'p');", "A, B", "p"),
+    (b"ISO-10303-21;HEADER;FILE_SCHEMA(('A','B'));FILE_NAME('','',(''),(''),'p');", None, "p"),
     (b"ISO-10303-21;HEADER;FILE_SCHEMA(());FILE_NAME(('p'", None, None),
     (b"ISO-10303-21;HEADER;ENDSEC;DATA;FILE_SCHEMA(('A'));", None, None),
     (b"\xef\xbb\xbfISO-10303-21;HEADER;FILE_SCHEMA(('a\\X\\5F1'));FILE_NAME('','',(''),(''),'\\", "a_1", None),
+    (b"ISO-10303-21;HEADER;FILE_DESCRIPTION((''),'2;1');FILE_NAME('C:\\a','',(''),(''),'p','','');FILE_SCHEMA(('A'));ENDSEC;", "A", "p"),
 ]
+LABELS = ("schema", "preprocessor version", "originating system")
+
+
+def by_syntax(tests, path):
+    """What `p21 syntax --header` says of a file, by its lines."""
+    done = subprocess.run([tests.program, "syntax", "--header", path], capture_output=True, check=True)
+    lines = [line.partition(":") for line in done.stdout.decode().split("\n")]
+    texts = {word: behind[1:] for word, _, behind in lines}
+    return [texts.get(word) for word in LABELS]
 
 
 def of_headers(tests):
-    """What a row says of the header, accepted or not; and the strings of which the program says that they mean the same."""
+    """What a row says of the header, accepted or not: what `p21 syntax --header` does, where it answers."""
     frame = file_of("").encode()
     first, last = frame.split(b"(''),'','','');")
     paths = []
@@ -352,17 +367,26 @@ def of_headers(tests):
         paths.append(tests.make(f"none{number}.step", text))
     output, _, status = tests.run(["--format", "json", SCHEMA, *paths])
     rows = [json.loads(line) for line in output.splitlines()]
-    wanted = [("PRODUCT_MODEL", *texts) for _, *texts in SPELLED] + [(schema, program, None) for _, schema, program in NO_HEADERS]
-    tests.judge("what headers say", (wanted, 1), ([tuple(row[name] for name in BEHIND[1:4]) for row in rows], status))
+    wanted = [["PRODUCT_MODEL", *texts] for _, *texts in SPELLED]
+    wanted += [[schema, program, "" if number == 6 else None] for number, (_, schema, program) in enumerate(NO_HEADERS)]
+    tests.judge("what headers say", (wanted, 1), ([[row[name] for name in BEHIND[1:4]] for row in rows], status))
     accepted = [row["answer"] == "accepted" for row in rows]
-    tests.judge("which of them are accepted", [True] * 7 + [False] * 9, accepted)
-    for text, *texts in SPELLED[:7]:
-        for spelled, meant in zip(re.findall(rb"'(?:[^']|'')*'", re.sub(rb"/\*.*?\*/", b"", text)), filter(lambda it: it is not None, texts)):
-            done = subprocess.run([tests.program, "param", tests.make("param", spelled)], capture_output=True, check=False, text=True)
-            tests.judge(f"{spelled} by the program", meant, plainly.unescaped(done.stdout.rstrip("\n")[1:-1]))
+    tests.judge("which of them are accepted", [True] * ACCEPTED + [False] * (len(rows) - ACCEPTED), accepted)
+    for path, texts in zip(paths[:ACCEPTED], wanted):
+        tests.judge(f"{path} by itself", texts, by_syntax(tests, path))
     long = tests.make("long.step", first + b"(''),'" + b"p" * 200_000 + b"','','');" + last)
     row = json.loads(tests.run(["--format", "json", SCHEMA, long])[0])
     tests.judge("a long header", ("p" * 200_000, "PRODUCT_MODEL"), (row["preprocessor_version"], row["file_schema"]))
+    asked = tests.here / "asked"
+    program = tests.rigged("rigged", f'case "$1" in syntax) [ -e {asked} ] || {{ touch {asked}; kill -9 $$; }} ;; esac')
+    for name, options, wanted in [
+        ("the header has no answer", [], ("ended by signal 9", None, 3)),
+        ("the header has one when it is tried again", ["--retry", "1"], ("accepted", "written by hand", 0)),
+    ]:
+        asked.unlink(missing_ok=True)
+        output, _, status = tests.run(["--format", "json", *options, SCHEMA, "examples/product.step"], program=program)
+        row = json.loads(output)
+        tests.judge(name, wanted, (row["answer"], row["preprocessor_version"], status))
 
 
 # Names of any bytes: no UTF-8, what isn't shown, and what means something in a table.
@@ -458,27 +482,6 @@ def again(tests):
     for number in ("x", "-1", "", "99999"):
         _, _, status = tests.run([f"--retry={number}", SCHEMA, str(folder)])
         tests.judge(f"--retry={number}", 2, status)
-
-
-def lost_processes(tests):
-    """With --names a process of the tool that is ended has the others begin again, and the file that ends it once more has no
-    answer."""
-    folder = tests.here / "lost"
-    folder.mkdir()
-    for name in "abcde":
-        shutil.copy(ROOT / "examples" / "product.step", folder / f"{name}.step")
-    ends = 'case "$1 $*" in canon*/c.step*) '
-    rows = [
-        ("a process that is ended each time", f"{ends} kill -9 $PPID; sleep 1 ;; esac", "the process that looked at it was ended", 3),
-        ("a process that is ended once", f"{ends} [ -e {folder}/ended ] || {{ touch {folder}/ended; kill -9 $PPID; sleep 1; }} ;; esac", "accepted", 0),
-    ]
-    for name, lines, answer, wanted in rows:
-        program = tests.rigged("rigged", lines)
-        output, _, status = tests.run(["--names", "-j", "2", "--format", "json", SCHEMA, str(folder)], program=program)
-        found = [json.loads(line) for line in output.splitlines()]
-        answers = ["accepted", "accepted", answer, "accepted", "accepted"]
-        tests.judge(name, (answers, wanted), ([row["answer"] for row in found], status))
-        tests.judge(f"{name}: hashes", [word == "accepted" for word in answers], [row["sha256"] is not None for row in found])
 
 
 def without_listings(tests):
@@ -725,7 +728,6 @@ def main():
     of_headers(tests)
     left_out = any_names(tests)
     again(tests)
-    lost_processes(tests)
     without_listings(tests)
     databases(tests)
     wrong_databases(tests)

@@ -1,62 +1,181 @@
-"""What differs in two files, a difference for each header parameter, section, instance or attribute."""
+"""What differs in two files: by the names of instances as the program lists it, and up to their names by a pairing."""
 
+import concurrent.futures
+import contextlib
 import decimal
-import heapq
-import itertools
+import functools
+import io
+import json
+import mmap
+import os
 import re
-from typing import Any, Callable, Dict, Iterable, Iterator, List, Mapping, NamedTuple, Optional, Sequence, Tuple
+import tempfile
+from typing import Any, Callable, Dict, FrozenSet, Iterable, Iterator, List, Mapping, NamedTuple, Optional, Sequence, Tuple
 
+import p21_canon
 import p21_models as models
 import p21_pairing
+import p21_reading as reading
 import p21_sets
+import p21_system as system
 from p21_models import Stretch, key_of, parts_of, record_of, stretch_of, values_of
+from p21_schemas import Outline
 
-HEADER_NAMES = {
-    "FILE_DESCRIPTION": ["description", "implementation_level"],
-    "FILE_NAME": [
-        "name",
-        "time_stamp",
-        "author",
-        "organization",
-        "preprocessor_version",
-        "originating_system",
-        "authorization",
-    ],
-    "FILE_SCHEMA": ["schema_identifiers"],
-}
 CHANGED, CAME, WENT = "changed", "came", "went"
 NO_NAME = 1 << 64
 # A word of a canonical text as a whole; the group has a number.
 WORD = re.compile(rb"'[^']*'|\"[^\"]*\"|\.[A-Z][A-Z0-9_]*\.|[A-Z_][A-Z0-9_]*|#\d+|(-?\d+(?:\.\d*(?:E-?\d+)?)?)")
 EXTRA_DIGITS = 40
+# What is said of a program that lists something and doesn't say how much.
+NOT_WHOLE = "the list of what differs isn't whole"
 
 
 class Difference(NamedTuple):
-    """A difference: what happened, to what, and the texts of the first and of the second file, where there are any."""
+    """A difference: what happened, to what, its names in both files, the entity that declares an attribute and the attribute, or the
+    entity of an instance or header record alone; of a value the keywords of its instance, and the indices of the element that differs;
+    and the texts of the first and of the second file, where there are any."""
 
     kind: str
     what: str
-    first: Optional[int]
-    second: Optional[int]
-    entity: Optional[str]
-    attribute: Optional[str]
-    before: Optional[str]
-    after: Optional[str]
+    first: Optional[int] = None
+    second: Optional[int] = None
+    entity: Optional[str] = None
+    attribute: Optional[str] = None
+    keywords: Optional[str] = None
+    indices: Optional[Sequence[int]] = None
+    before: Optional[str] = None
+    after: Optional[str] = None
 
     def object(self) -> Dict[str, Any]:
         """What is written as JSON: the fields that there are."""
-        fields = zip(("kind", "what", "a", "b", "entity", "attribute", "before", "after"), self)
-        return {name: field for name, field in fields if field is not None}
+        return {name: field for name, field in zip(FIELDS, self) if field is not None}
+
+    def keywords_of_instance(self) -> Optional[str]:
+        """The keywords of an instance: those of the first file, where it has others in the second."""
+        return self.keywords or self.entity or (self.before if self.what == "instance" else None)
 
 
-def shortened(stretch: Stretch, at: int, width: int = 100) -> str:
-    """The text around a place; `..` stands for what is left out."""
-    size = stretch.end - stretch.start
-    if size <= width:
-        return stretch.text().decode("ascii", "backslashreplace")
-    start = min(max(at - width // 2, 0), size - width)
-    text = bytes(stretch.data[stretch.start + start : stretch.start + start + width]).decode("ascii", "backslashreplace")
-    return (".. " if start > 0 else "") + text + (" .." if start + width < size else "")
+FIELDS = ("kind", "what", "a", "b", "entity", "attribute", "keywords", "indices", "before", "after")
+
+
+def difference_of(row: Mapping[str, Any]) -> Difference:
+    """A row of the program."""
+    fields: Dict[str, Any] = {field: row.get(name) for field, name in zip(Difference._fields, FIELDS)}
+    return Difference(**fields)
+
+
+# --- By names ---
+
+
+class Listing:
+    """What `p21 diff` lists of two files that it reads; behind the last row, whether they are the same. `named` are the names under
+    which the schema and both files are shown."""
+
+    BESIDE = ("schema ", "first: ", "second: ")
+
+    def __init__(self, program: str, paths: Tuple[str, str, str], named: Tuple[str, str, str]) -> None:
+        self.program = program
+        self.paths = paths
+        self.named = named
+        self.is_same = False
+
+    def __iter__(self) -> Iterator[Difference]:
+        last: Dict[str, Any] = {}
+        with tempfile.TemporaryFile() as errors:
+            with reading.started(self.program, "diff", *self.paths, options=("--format", "jsonl"), errors=errors) as listed:
+                assert isinstance(listed.stdout, io.RawIOBase)
+                for line in io.TextIOWrapper(io.BufferedReader(listed.stdout, reading.PIECE), encoding="ascii"):
+                    last = json.loads(line)
+                    if last["kind"] != "verdict":
+                        yield difference_of(last)
+            errors.seek(0)
+            status = system.status_of(listed.returncode)
+            error = reading.line_of(errors.read(), status)
+        self.is_same = last.get("verdict") == "same"
+        if last.get("kind") != "verdict" or status != int(not self.is_same):
+            raise reading.Trouble(self.told(error) if error else NOT_WHOLE)
+
+    def told(self, error: str) -> str:
+        """Why there is no list, behind the name of what the program couldn't read."""
+        is_unread = error.startswith(("cannot open ", "read fault"))
+        for word, name in zip(self.BESIDE, self.named):
+            if error.startswith(word) or (is_unread and reading.why_not(name)):
+                answer = error[len(word) :] if error.startswith(self.BESIDE[1:]) else error
+                return f"{reading.shown(name)}: {reading.shown(reading.with_reason(answer, name))}"
+        return reading.shown(error)
+
+
+# --- What is left out ---
+
+
+class LeftOut:
+    """What isn't listed where the command line says so: the header, some attributes, each as ENTITY.ATTRIBUTE, and reals that are
+    within a tolerance. It counts how many differences these are."""
+
+    def __init__(
+        self, header: bool = False, attributes: Iterable[str] = (), tolerance: Optional[decimal.Decimal] = None
+    ) -> None:
+        self.header = header
+        self.attributes: FrozenSet[str] = frozenset(attributes)
+        self.tolerance = tolerance
+        self.in_header = 0
+        self.ignored = 0
+        self.near = 0
+
+    def takes(self, found: Difference) -> bool:
+        """Is a difference left out?"""
+        if self.header and found.what == "header":
+            self.in_header += 1
+        elif self.attributes and self.is_ignored(found):
+            self.ignored += 1
+        else:
+            return False
+        return True
+
+    def is_ignored(self, found: Difference) -> bool:
+        """Is a difference that of an attribute which is left out, under the entity that declares it or that of the instance?"""
+        if found.attribute is None:
+            return False
+        entities = {found.entity, *(found.keywords or "").split("+")}
+        return any(f"{entity}.{found.attribute}" in self.attributes for entity in entities)
+
+    def takes_near(self, first: bytes, second: bytes) -> bool:
+        """Are two values that differ left out, since they are within the tolerance?"""
+        is_near = self.tolerance is not None and are_near(first, second, self.tolerance)
+        self.near += is_near
+        return is_near
+
+    def words(self) -> str:
+        """What is left out, in words; nothing where all is listed."""
+        parts = ["the header"] if self.header else []
+        parts += sorted(self.attributes)
+        parts += [] if self.tolerance is None else [f"reals within the tolerance {self.tolerance}"]
+        return f"left out: {', '.join(parts)}" if parts else ""
+
+    def object(self) -> Dict[str, Any]:
+        """What is left out, as it is written as JSON."""
+        ignored = sorted(self.attributes)
+        tolerance = {} if self.tolerance is None else {"tolerance": str(self.tolerance)}
+        return {"kind": "left out", **({"header": True} if self.header else {}), **({"ignore": ignored} if ignored else {}), **tolerance}
+
+    def counts(self) -> Dict[str, Any]:
+        """How many differences were left out, as it is written as JSON."""
+        header = {"in_header": self.in_header} if self.header else {}
+        ignored = {"ignored": self.ignored} if self.attributes else {}
+        near = {} if self.tolerance is None else {"tolerance": str(self.tolerance), "near": self.near}
+        return {**header, **ignored, **near}
+
+    def counts_in_words(self) -> List[str]:
+        """How many differences were left out, in words."""
+        header = [f"{many(self.in_header, 'difference')} in the header not listed"] if self.in_header else []
+        ignored = [f"{many(self.ignored, 'difference')} at ignored attributes not listed"] if self.ignored else []
+        near = [] if self.tolerance is None else [f"{many(self.near, 'value')} within the tolerance {self.tolerance} not listed"]
+        return [*header, *ignored, *near]
+
+
+def many(count: int, word: str) -> str:
+    """So many of something, in words."""
+    return f"{count} {word}{'' if count == 1 else 's'}"
 
 
 # --- Values ---
@@ -114,120 +233,61 @@ def sorted_text(sets: p21_sets.Sets, elements: List[models.Element], nesting: Op
     return b",".join(sorted(texts) if nesting is not None and nesting.is_set else texts)
 
 
-# --- Two files ---
-
-
-class Rules(NamedTuple):
-    """What counts in a comparison: the names of attributes by entity, the sets of the schema where names don't count, the
-    tolerance; and whether texts are kept whole."""
-
-    attributes: Mapping[str, Sequence[str]]
-    sets: Optional[p21_sets.Sets]
-    tolerance: Optional[decimal.Decimal]
-    is_full: bool
-
+# --- Up to names ---
 
 # How the names of instances are shown in a text of the first and of the second file.
 Told = Tuple[Mapping[bytes, bytes], Mapping[bytes, bytes]]
 
 
 class Pair(NamedTuple):
-    """Two records with what they are and their names; `mapped` is the first one with the names of the second file, where
-    it has others, and `told` says how names are shown then."""
+    """Two instances of the same keywords with their names and records; `mapped` is the first one with the names of the second file,
+    and `told` says how names are shown."""
 
-    what: str
-    name: Optional[int]
-    other_name: Optional[int]
+    name: int
+    other_name: int
     first: Stretch
     second: Stretch
-    mapped: Optional[Stretch]
-    told: Optional[Told] = None
+    mapped: Stretch
+    told: Told
+
+
+def ascii_text(stretch: Stretch) -> str:
+    """A stretch of a canonical text as it is shown."""
+    return stretch.text().decode("ascii", "backslashreplace")
+
+
+def keywords_of(line: Stretch) -> str:
+    """The keywords of an instance."""
+    return "+".join(map(key_of, parts_of(record_of(line))))
 
 
 class Comparison:
-    """The differences of two files. While they are gone through, those that are within the tolerance are counted."""
+    """The differences of instances that are paired, by the sets of their schema. Those that are within the tolerance are left out."""
 
-    def __init__(self, rules: Rules) -> None:
-        self.rules = rules
-        self.near = 0
+    def __init__(self, sets: p21_sets.Sets, left_out: LeftOut) -> None:
+        self.sets = sets
+        self.left_out = left_out
 
-    def texts(self, first: Optional[Stretch], second: Optional[Stretch]) -> Tuple[Optional[str], Optional[str]]:
-        """The texts of either file, from about the first byte on that isn't the same where they are long."""
-        if self.rules.is_full:
-            found = [text and text.text().decode("ascii", "backslashreplace") for text in (first, second)]
-        else:
-            at = first.common(second) if first and second else 0
-            found = [text and shortened(text, at) for text in (first, second)]
-        return found[0], found[1]
-
-    def change(self, pair: Pair, entity: Optional[str], attribute: Optional[str], *stretches: Stretch) -> Difference:
-        """What changed in a pair."""
-        if pair.told:
-            stretches = tuple(stretch_of(named(each.text(), names)) for each, names in zip(stretches, pair.told))
-        return Difference(CHANGED, pair.what, pair.name, pair.other_name, entity, attribute, *self.texts(*stretches))
-
-    def either(self, what: str, names: Tuple[Optional[int], Optional[int]], lines: Tuple[Any, Any]) -> Difference:
-        """A line that stands in one of the files alone."""
-        line = lines[0] or lines[1]
-        entity = "+".join(map(key_of, parts_of(record_of(line)))) if what == "instance" else None
-        return Difference(CAME if lines[0] is None else WENT, what, *names, entity, None, *self.texts(*lines))
-
-    def headers(self, first: List[Stretch], second: List[Stretch]) -> Iterator[Difference]:
-        """The records of two headers, one beside the other."""
-        beside: Iterable[Tuple[Optional[Stretch], Optional[Stretch]]] = itertools.zip_longest(first, second)
-        for one, other in beside:
-            if one is None or other is None:
-                yield self.either("header", (None, None), (one, other))
-            elif not one.is_text(other):
-                whole = Stretch(one.data, one.start, one.end - 1), Stretch(other.data, other.start, other.end - 1)
-                yield from self.records(Pair("header", None, None, *whole, None), HEADER_NAMES, (one, other))
-
-    def sections(self, first: Iterable[bytes], second: Iterable[bytes]) -> Iterator[Difference]:
-        """The lines that begin data sections."""
-        headings = set(first), set(second)
-        for heading in sorted(headings[0] ^ headings[1]):
-            line = stretch_of(heading)
-            yield self.either("section", (None, None), (line, None) if heading in headings[0] else (None, line))
-
-    def records(
-        self, pair: Pair, attributes: Mapping[str, Sequence[str]], lines: Tuple[Stretch, Stretch]
-    ) -> Iterator[Difference]:
-        """Two records: each value that differs where they have the same keywords, else the whole."""
-        parts = parts_of(pair.first), parts_of(pair.second), parts_of(pair.mapped or pair.first)
-        keys = [tuple(map(key_of, of_one)) for of_one in parts]
-        counts = [[sum(1 for _ in values_of(part)) for part in of_one] for of_one in parts]
-        if keys[0] != keys[1] or counts[0] != counts[1]:
-            yield self.change(pair, "+".join(keys[0]), None, *lines)
-            return
-        for key, count, *of_key in zip(keys[0], counts[0], *parts):
-            names = attributes.get(key, [])
-            names = names if len(keys[0]) == 1 else names[max(len(names) - count, 0) :]
-            nestings = self.nestings(key, keys[0])
+    def records(self, pair: Pair) -> Iterator[Difference]:
+        """Each value that differs."""
+        parts = parts_of(pair.first), parts_of(pair.second), parts_of(pair.mapped)
+        keys = tuple(map(key_of, parts[0]))
+        for key, *of_key in zip(keys, *parts):
+            places = self.sets.places_of(key, keys)
+            nestings = self.sets.of_part(key, keys)
             for at, (one, other, mapped) in enumerate(zip(*(values_of(part) for part in of_key))):
-                if not mapped.is_text(other) and not self.is_equal(mapped, other, nestings[at] if at < len(nestings) else None):
-                    yield self.change(pair, key, names[at] if at < len(names) else "?", one, other)
-
-    def nestings(self, key: str, keys: Tuple[str, ...]) -> Tuple[Optional[p21_sets.Nesting], ...]:
-        """What stands at the values behind a keyword, where names count for nothing."""
-        return self.rules.sets.of_part(key, keys) if self.rules.sets and key in self.rules.attributes else ()
+                if not mapped.is_text(other) and not self.is_equal(mapped, other, nestings[at]):
+                    texts = (ascii_text(stretch_of(named(each.text(), names))) for each, names in zip((one, other), pair.told))
+                    yield Difference(CHANGED, "instance", pair.name, pair.other_name, *places[at], "+".join(keys), None, *texts)
 
     def is_equal(self, first: Stretch, second: Stretch, nesting: Optional[p21_sets.Nesting]) -> bool:
         """Are two values the same, in sets of any order, or within the tolerance?"""
-        if self.rules.sets is None and self.rules.tolerance is None:
-            return False
         texts = [first.text(), second.text()]
-        if self.rules.sets is not None and b"#" in texts[0] and b"#" in texts[1]:
+        if b"#" in texts[0] and b"#" in texts[1]:
             around = p21_sets.Nesting(False, nesting)
-            texts = [sorted_text(self.rules.sets, models.elements_of(text), around) for text in texts]
-        if texts[0] == texts[1]:
-            return True
-        if self.rules.tolerance is not None and are_near(texts[0], texts[1], self.rules.tolerance):
-            self.near += 1
-            return True
-        return False
+            texts = [sorted_text(self.sets, models.elements_of(text), around) for text in texts]
+        return texts[0] == texts[1] or self.left_out.takes_near(texts[0], texts[1])
 
-
-# --- Up to names ---
 
 
 class UpToNames:
@@ -235,7 +295,7 @@ class UpToNames:
 
     def __init__(self, comparison: Comparison, first: models.Text, second: models.Text) -> None:
         self.comparison = comparison
-        self.graph = models.Graph(comparison.rules.sets)
+        self.graph = models.Graph(comparison.sets)
         self.graph.add(first)
         self.graph.add(second)
         self.graph.close()
@@ -261,12 +321,14 @@ class UpToNames:
         graph, partner = self.graph, self.pairing.partner
         for node in self.nodes(0):
             if partner[node] == p21_pairing.NONE:
-                yield self.comparison.either("instance", (graph.names[node], None), (self.line(node), None))
+                line = self.line(node)
+                yield Difference(WENT, "instance", graph.names[node], entity=keywords_of(line), before=ascii_text(line))
             elif not p21_pairing.fits_whole(graph, partner, node):
                 yield from self.changed(node, partner[node])
         for node in self.nodes(1):
             if partner[node] == p21_pairing.NONE:
-                yield self.comparison.either("instance", (None, graph.names[node]), (None, self.line(node)))
+                line = self.line(node)
+                yield Difference(CAME, "instance", second=graph.names[node], entity=keywords_of(line), after=ascii_text(line))
 
     def line(self, node: int) -> Stretch:
         """The line of an instance."""
@@ -283,14 +345,12 @@ class UpToNames:
     def changed(self, node: int, other: int) -> Iterator[Difference]:
         """What differs in a pair."""
         names = self.graph.names[node], self.graph.names[other]
-        lines = self.line(node), self.line(other)
-        sections = stretch_of(self.section(node)), stretch_of(self.section(other))
-        first, second = map(record_of, lines)
+        sections = [self.section(each).decode("ascii") for each in (node, other)]
+        if sections[0] != sections[1]:
+            yield Difference(CHANGED, "section of", *names, before=sections[0], after=sections[1])
+        first, second = record_of(self.line(node)), record_of(self.line(other))
         told = self.told(node), self.told(other)
-        pair = Pair("instance", *names, first, second, self.renamed(node, first.text()), told)
-        if not sections[0].is_text(sections[1]):
-            yield self.comparison.change(pair._replace(what="section of"), None, None, *sections)
-        yield from self.comparison.records(pair, self.comparison.rules.attributes, lines)
+        yield from self.comparison.records(Pair(*names, first, second, self.renamed(node, first.text()), told))
 
     def renamed(self, node: int, text: bytes) -> Stretch:
         """The text of an instance of the first file, with the names of the second where there is a partner. One without a
@@ -333,63 +393,13 @@ class UpToNames:
                 waiting += self.graph.refs(ref)
 
 
-# --- By names ---
-
-
-class Instance(NamedTuple):
-    """An instance of a canonical file: its name, the line that begins its section, and its own line."""
-
-    name: int
-    section: bytes
-    line: Stretch
-
-
-def instances_of(data: models.Text) -> Iterator[Instance]:
-    """The instances of all sections by rising names."""
-
-    def of_section(heading: bytes, place: int) -> Iterator[Instance]:
-        for start, end in models.lines_of(data, place):
-            yield Instance(int(data[start + 1 : data.find(b"=", start)]), heading, Stretch(data, start, end))
-
-    sections = [of_section(heading, place) for heading, place in models.sections_of(data)]
-    return iter(heapq.merge(*sections, key=lambda each: each.name))
-
-
-def by_names(first: Iterator[Instance], second: Iterator[Instance]) -> Iterator[Tuple[Optional[Instance], Optional[Instance]]]:
-    """Each name with its instance in the one file and in the other, None where it isn't there."""
-    one, other = next(first, None), next(second, None)
-    while one or other:
-        if other is None or (one and one.name < other.name):
-            yield one, None
-            one = next(first, None)
-        elif one is None or other.name < one.name:
-            yield None, other
-            other = next(second, None)
-        else:
-            yield one, other
-            one, other = next(first, None), next(second, None)
-
-
-def differences_by_names(comparison: Comparison, first: models.Text, second: models.Text) -> Iterator[Difference]:
-    """What differs in instances of equal names, and those of names that one file alone has."""
-    for one, other in by_names(instances_of(first), instances_of(second)):
-        if one is None or other is None:
-            names = one and one.name, other and other.name
-            yield comparison.either("instance", names, (one and one.line, other and other.line))
-            continue
-        pair = Pair("instance", one.name, other.name, record_of(one.line), record_of(other.line), None)
-        if one.section != other.section:
-            stretches = stretch_of(one.section), stretch_of(other.section)
-            yield comparison.change(pair._replace(what="section of"), None, None, *stretches)
-        if not one.line.is_text(other.line):
-            yield from comparison.records(pair, comparison.rules.attributes, (one.line, other.line))
-
+# --- Both ---
 
 NUMBERING, HEADER = "numbering", "the header"
-# Two canonical files of so many bytes together, which are told apart by names, are compared up to names besides: what is the same
-# but for its numbering is said to be.
+# Two files of so many bytes together, which are told apart by names, are compared up to names besides: what is the same but for its
+# numbering is said to be.
 SMALL_ENOUGH = 1 << 21
-# Of two of so many bytes together, which are told apart by names, it is said which product owns what differs.
+# Of two canonical files of so many bytes together, which are told apart by names, it is said which product owns what differs.
 MOST_AS_GRAPH = 1 << 25
 
 
@@ -403,52 +413,107 @@ class Verdict(NamedTuple):
     but_for: Tuple[str, ...] = ()
 
 
-class Files:
-    """Two canonical files that are compared. `is_same` says of the first one with the names and the front of the second,
-    which comes in pieces, whether it means the same as the second, and `sets` gives the sets of the schema."""
+class Given:
+    """A schema and two files, by their paths and the names under which they are shown, with the program that reads them."""
 
-    def __init__(
-        self,
-        rules: Rules,
-        data: Tuple[models.Text, models.Text],
-        is_data_alone: bool,
-        is_same: Callable[[Iterator[bytes]], bool],
-        sets: Callable[[], p21_sets.Sets],
-    ) -> None:
-        self.comparison = Comparison(rules)
-        self.data = data
-        self.is_data_alone = is_data_alone
-        self.is_same = is_same
-        self.sets = sets
+    def __init__(self, program: str, paths: Tuple[str, str, str], named: Tuple[str, str, str]) -> None:
+        self.program = program
+        self.paths = paths
+        self.named = named
+
+    def listing(self) -> Listing:
+        """What differs in both files, by the names of instances."""
+        return Listing(self.program, self.paths, self.named)
+
+    @functools.cached_property
+    def data(self) -> Tuple[mmap.mmap, mmap.mmap]:
+        """Both canonical files."""
+        schema = self.paths[0]
+        with concurrent.futures.ThreadPoolExecutor() as pool:
+            first, second = pool.map(lambda at: p21_canon.canonical(self.program, schema, self.paths[at], self.named[at]), (1, 2))
+        return first, second
+
+    @functools.cached_property
+    def outline(self) -> Outline:
+        """The declarations of the schema."""
+        reading.read_schema(self.program, self.paths[0], reading.shown(self.named[0]))
+        return Outline(reading.text_of(self.paths[0]))
+
+    @functools.cached_property
+    def sets(self) -> p21_sets.Sets:
+        """The sets of the schema."""
+        return p21_sets.Sets(self.outline)
+
+    def between_outlines(self) -> Iterator[Difference]:
+        """What differs in the headers of both files and in what begins their data sections: the program compares them without their
+        instances."""
+        with as_files([models.outline_of(data)] for data in self.data) as paths:
+            yield from Listing(self.program, (self.paths[0], *paths), self.named)
+
+    def is_second(self, pieces: Iterable[bytes]) -> bool:
+        """Does the program say of a file that it is the same as the second one?"""
+        data = self.data[1]
+        with as_files([pieces, (data[start : start + reading.PIECE] for start in range(0, len(data), reading.PIECE))]) as paths:
+            answer = reading.answered(reading.run(self.program, "same", self.paths[0], *paths))
+            return bool(answer.output == b"same\n")
+
+
+@contextlib.contextmanager
+def as_files(texts: Iterable[Iterable[bytes]]) -> Iterator[Tuple[str, str]]:
+    """The paths of two files with these texts, for as long as a `with` block runs."""
+    with tempfile.TemporaryDirectory() as folder:
+        first, second = (os.path.join(folder, name) for name in ("first.step", "second.step"))
+        for path, pieces in zip((first, second), texts):
+            with open(path, "wb") as file:
+                file.writelines(pieces)
+        yield first, second
+
+
+class Files:
+    """Two files that are compared, by the names of their instances or up to them."""
+
+    def __init__(self, given: Given, left_out: LeftOut, is_up_to_names: bool) -> None:
+        self.given = given
+        self.left_out = left_out
         self.counts = Counts()
-        self.up_to_names = UpToNames(self.comparison, *data) if rules.sets else None
+        self.listing = given.listing()
+        # How many differences there are, whether they are listed or left out, and how many of these stand in the header.
+        self.found = 0
+        self.found_in_header = 0
+        self.up_to_names = UpToNames(Comparison(given.sets, left_out), *given.data) if is_up_to_names else None
 
     def all(self) -> Iterator[Difference]:
         """What differs."""
-        if not self.is_data_alone:
-            yield from self.comparison.headers(*map(models.header, self.data))
-        yield from self.comparison.sections(*self.headings())
-        if self.up_to_names:
-            yield from self.up_to_names.differences()
+        if self.up_to_names is None:
+            yield from self.listing
         else:
-            yield from differences_by_names(self.comparison, *self.data)
+            yield from self.given.between_outlines()
+            yield from self.up_to_names.differences()
 
     def counted(self) -> Iterator[Difference]:
-        """What differs, counted on the way."""
+        """What differs and isn't left out, counted on the way."""
         for found in self.all():
-            self.counts.add(found)
-            yield found
+            self.found += 1
+            self.found_in_header += found.what == "header"
+            if not self.left_out.takes(found) and not (self.up_to_names is None and self.is_near(found)):
+                self.counts.add(found)
+                yield found
+
+    def is_near(self, found: Difference) -> bool:
+        """Are the values of an attribute by names within the tolerance?"""
+        texts = found.before, found.after
+        return None not in (found.attribute, *texts) and self.left_out.takes_near(*(text.encode() for text in texts if text))
 
     def graph(self) -> Optional[Tuple[models.Graph, Callable[[int], int]]]:
         """The instances of both files as a graph, with what gives the node of the second file for that of the first, or -1. None
         where it would have to be made for large files."""
         if self.up_to_names is not None:
             return self.up_to_names.graph, self.up_to_names.pairing.partner.__getitem__
-        if sum(map(len, self.data)) > MOST_AS_GRAPH:
+        if sum(map(len, self.given.data)) > MOST_AS_GRAPH:
             return None
-        graph = models.Graph(self.sets())
-        graph.add(self.data[0])
-        graph.add(self.data[1])
+        graph = models.Graph(self.given.sets)
+        graph.add(self.given.data[0])
+        graph.add(self.given.data[1])
         graph.close()
         named = {graph.names[node]: node for node in graph.of_side(1)}
         return graph, lambda node: named.get(graph.names[node], -1)
@@ -459,17 +524,18 @@ class Files:
 
     def verdict(self) -> Verdict:
         """What is known, behind the last difference."""
-        is_equal = self.counts.listed == 0 and self.comparison.near == 0
-        has_equal_data = self.counts.listed == self.counts.in_header and self.comparison.near == 0
-        header = (HEADER,) if self.counts.in_header else ()
+        header = (HEADER,) if self.found_in_header else ()
+        has_equal_data = self.found == self.found_in_header
         if self.up_to_names is None:
-            but_for = header if has_equal_data else self.but_for_numbering(header)
-            return Verdict(p21_pairing.SAME if is_equal else p21_pairing.DIFFERENT, 0, 0, but_for)
+            if self.listing.is_same:
+                return Verdict(p21_pairing.SAME, 0, 0)
+            return Verdict(p21_pairing.DIFFERENT, 0, 0, header if has_equal_data else self.but_for_numbering(header))
         found = self.up_to_names.pairing
-        word, but_for = found.verdict, ()
-        if word == p21_pairing.SAME and not has_equal_data:
+        word = found.verdict
+        but_for: Tuple[str, ...] = ()
+        if word == p21_pairing.SAME and not (has_equal_data and self.left_out.near == 0):
             word = p21_pairing.DIFFERENT
-        if word == p21_pairing.SAME and not self.is_same(self.renamed(self.up_to_names)):
+        if word == p21_pairing.SAME and not self.is_same_renamed(self.up_to_names):
             word = p21_pairing.UNDECIDED
         if word == p21_pairing.SAME and header:
             is_renumbered = any(first != second for first, second in self.pairs())
@@ -479,17 +545,17 @@ class Files:
     def but_for_numbering(self, header: Tuple[str, ...]) -> Tuple[str, ...]:
         """In what alone two small files differ, whose instances of one name differ: in their numbering and maybe the header, or
         nothing where it is more."""
-        if sum(map(len, self.data)) > SMALL_ENOUGH:
+        if sum(map(os.path.getsize, self.given.paths[1:])) > SMALL_ENOUGH:
             return ()
-        comparison = Comparison(self.comparison.rules._replace(sets=self.sets(), tolerance=None))
-        up_to_names = UpToNames(comparison, *self.data)
-        is_same = up_to_names.pairing.verdict == p21_pairing.SAME and not any(comparison.sections(*self.headings()))
-        is_same = is_same and not any(up_to_names.differences()) and self.is_same(self.renamed(up_to_names))
-        return (NUMBERING, *header) if is_same else ()
+        up_to_names = UpToNames(Comparison(self.given.sets, LeftOut()), *self.given.data)
+        is_same = up_to_names.pairing.verdict == p21_pairing.SAME and not any(up_to_names.differences())
+        return (NUMBERING, *header) if is_same and self.is_same_renamed(up_to_names) else ()
 
-    def headings(self) -> Iterator[List[bytes]]:
-        """The lines that begin the sections of each file."""
-        return ([heading for heading, _ in models.sections_of(data)] for data in self.data)
+    def is_same_renamed(self, up_to_names: UpToNames) -> bool:
+        """Does the program say of the first file with the names and the front of the second that it is the same as the second?"""
+        names = {b"%d" % first: b"%d" % second for first, second in up_to_names.pairs()}
+        first, second = self.given.data
+        return self.given.is_second(models.renamed(first, names, models.front_of(second)))
 
     def object(self, verdict: Verdict) -> Dict[str, Any]:
         """What is known, as it is written as JSON."""
@@ -499,14 +565,8 @@ class Files:
             found.update(but_for=[word.split()[-1] for word in verdict.but_for])
         if self.up_to_names is not None:
             found.update(pairs=verdict.pairs, ambiguous=verdict.ambiguous)
-        if self.comparison.rules.tolerance is not None:
-            found.update(tolerance=str(self.comparison.rules.tolerance), near=self.comparison.near)
+        found.update(self.left_out.counts())
         return found
-
-    def renamed(self, up_to_names: UpToNames) -> Iterator[bytes]:
-        """The first file with the names and the front of the second."""
-        names = {b"%d" % first: b"%d" % second for first, second in up_to_names.pairs()}
-        return models.renamed(self.data[0], names, models.front_of(self.data[1]))
 
 
 class Counts:
@@ -515,18 +575,17 @@ class Counts:
     def __init__(self) -> None:
         self.rows: Dict[str, Dict[str, int]] = {}
         self.listed = 0
-        self.in_header = 0
         self.last: Any = None
 
     def add(self, found: Difference) -> None:
         """The next difference. Those of one instance stand one behind the other, and count once."""
         self.listed += 1
-        self.in_header += found.what == "header"
         this = (found.kind, found.first, found.second)
         if this == self.last and found.what in ("instance", "section of"):
             return
         self.last = this if found.what in ("instance", "section of") else None
-        name = found.entity if found.what == "instance" and found.entity else f"({found.what.split()[0]})"
+        name = found.keywords_of_instance() if found.what == "instance" else None
+        name = name or f"({found.what.split()[0]})"
         self.rows.setdefault(name, {CHANGED: 0, CAME: 0, WENT: 0})[found.kind] += 1
 
     def total(self, kind: str) -> int:

@@ -21,8 +21,9 @@ SIGN = re.compile(rb"'[^']*'|[(),]")
 # What a text without names says beside its keyword: a string that isn't empty, or a number.
 SAYING = re.compile(rb"'[^']|[(,]-?\d")
 HEADER_END = b"\nENDSEC;\n"
-PIECE = 1 << 20
 APART = 1 << 32
+# No file has a name so great.
+GREATER = 1 << 64
 
 Text = Union[bytes, mmap.mmap]
 
@@ -40,18 +41,7 @@ class Stretch(NamedTuple):
 
     def is_text(self, other: "Stretch") -> bool:
         """Does it have the bytes of another one?"""
-        return self.end - self.start == other.end - other.start and self.common(other) == self.end - self.start
-
-    def common(self, other: "Stretch") -> int:
-        """How many bytes of two stretches are the same in front of the first that isn't."""
-        size = min(self.end - self.start, other.end - other.start)
-        for at in range(0, size, PIECE):
-            count = min(PIECE, size - at)
-            one = self.data[self.start + at : self.start + at + count]
-            another = other.data[other.start + at : other.start + at + count]
-            if one != another:
-                return at + next(step for step in range(count) if one[step] != another[step])
-        return size
+        return self.end - self.start == other.end - other.start and self.text() == other.text()
 
 
 def stretch_of(text: bytes) -> Stretch:
@@ -298,25 +288,18 @@ def sections_of(data: Text) -> List[Tuple[bytes, int]]:
     return found
 
 
-def rows_of(data: Text) -> Iterator[Tuple[int, bytes, bytes]]:
-    """The name, the section and the text of each instance of a canonical file, section by section."""
-    for heading, place in sections_of(data):
-        for start, end in lines_of(data, place):
-            line = data[start : end - 1]
-            at = line.index(b"=")
-            yield int(line[1:at]), heading, line[at + 1 :]
-
-
-def header(data: Text) -> List[Stretch]:
-    """The records of the header, which begin with the third line."""
-    found = []
-    start = len(b"ISO-10303-21;\nHEADER;\n")
-    last = data.find(HEADER_END)
-    while start <= last:
-        end = data.find(b"\n", start)
-        found.append(Stretch(data, start, end))
-        start = end + 1
-    return found
+def line_named(data: Text, sections: List[Tuple[bytes, int]], name: int) -> bytes:
+    """The line of an instance in a canonical file of these sections, in each of which names rise; empty where there is none of its
+    name."""
+    ends = [start - len(heading) - 1 for heading, start in sections[1:]] + [len(data)]
+    for (_, low), high in zip(sections, ends):
+        while low < high:
+            start = data.rfind(b"\n", low, (low + high) // 2) + 1 or low
+            found = int(data[start + 1 : data.find(b"=", start)]) if data[start : start + 1] == b"#" else GREATER
+            if found == name:
+                return bytes(data[start : data.find(b"\n", start)])
+            low, high = (data.find(b"\n", start) + 1, high) if found < name else (low, start)
+    return b""
 
 
 def renamed(data: Text, names: Dict[bytes, bytes], front: bytes) -> Iterator[bytes]:
@@ -338,6 +321,12 @@ def front_of(data: Text) -> bytes:
     """What stands in front of the data sections."""
     end = data.find(HEADER_END) + len(HEADER_END)
     return bytes(data[:end])
+
+
+def outline_of(data: Text) -> bytes:
+    """A canonical file without its instances."""
+    headings = b"".join(heading + b"\nENDSEC;\n" for heading, _ in sections_of(data))
+    return front_of(data) + headings + b"END-ISO-10303-21;\n"
 
 
 class Side(NamedTuple):

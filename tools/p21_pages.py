@@ -9,12 +9,13 @@
 
 import html
 import re
-from typing import Any, Dict, Iterable, Iterator, List, Mapping, NamedTuple, Optional, Sequence, Set, Tuple
+from typing import Any, Callable, Dict, Iterable, Iterator, List, NamedTuple, Optional, Set, Tuple
 
 import p21_models as models
-from p21_differences import CAME, CHANGED, WENT, Counts, Difference
+from p21_differences import CAME, CHANGED, WENT, Counts, Difference, Given
 from p21_owners import Owner, Owners
 from p21_plainly import is_spelled, plainly
+from p21_schemas import AttributeNames
 from p21_units import Lengths, unit_of, with_unit
 from p21_reading import shown
 from p21_models import key_of, parts_of, record_of, stretch_of, values_of
@@ -32,6 +33,8 @@ VIEWS = (("from above", 0, 1), ("from the front", 0, 2), ("from the right", 1, 2
 AXES = "xyz"
 
 Anchor = Tuple[str, int]
+# An attribute, behind the entity that declares it.
+Place = Tuple[str, str]
 
 STYLE = """
 :root { --ink: #1b1f24; --soft: #59636e; --line: #d1d9e0; --back: #ffffff; --card: #f6f8fa; --link: #0b57d0;
@@ -148,19 +151,12 @@ def owner_of(found: Difference, owners: Owners) -> Owner:
 class Page:
     """Takes the differences of two files, and writes the page."""
 
-    def __init__(
-        self,
-        first: str,
-        second: str,
-        data: Tuple[models.Text, models.Text],
-        attributes: Mapping[str, Sequence[str]],
-        lengths: Lengths,
-    ) -> None:
-        self.paths = (first, second)
-        self.data = data
-        self.attributes = attributes
+    def __init__(self, paths: Tuple[str, str], given: Given, lengths: Lengths) -> None:
+        self.paths = paths
+        self.data = given.data
+        self.attributes = AttributeNames(given.outline)
         self.lengths = lengths
-        self.units = [unit_of(data[0]), unit_of(data[1])]
+        self.units = [unit_of(given.data[0]), unit_of(given.data[1])]
         self.items: List[Item] = []
         self.left_out = 0
         self.points: List[Difference] = []
@@ -179,16 +175,16 @@ class Page:
         """Where an instance is in space, by its line, or None where it's no point in space."""
         if line is None:
             return None
-        keys = map(key_of, parts_of(record_of(stretch_of(line))))
-        spans = self.spans(line, {(key, COORDINATES) for key in keys if self.is_point(key)})
+        spans = self.spans(line, lambda place: place[1] == COORDINATES)
         return next(filter(None, (place_of(line[start:end]) for start, end in spans)), None)
 
     def may_be_point(self, found: Difference) -> bool:
         """Is it a difference of a point, of which nothing says that it has other than three coordinates?"""
-        if found.what != "instance" or not any(map(self.is_point, (found.entity or "").split("+"))):
+        if found.what != "instance" or not any(map(self.is_point, (found.keywords_of_instance() or "").split("+"))):
             return False
         texts = [text for text in (found.before, found.after) if text is not None]
-        return found.attribute != COORDINATES or any(place_of(text.encode("ascii", "replace")) for text in texts)
+        is_whole = found.attribute == COORDINATES and not found.indices
+        return not is_whole or any(place_of(text.encode("ascii", "replace")) for text in texts)
 
     def add(self, found: Difference) -> None:
         """The next difference. Those of one instance stand one behind the other."""
@@ -227,14 +223,9 @@ class Page:
 
     def read(self, at: int, names: Set[int]) -> None:
         """Reads the lines of these instances of a file."""
-        if not names:
-            return
-        data = self.data[at]
-        for _, place in models.sections_of(data):
-            for start, end in models.lines_of(data, place):
-                name = int(data[start + 1 : data.find(b"=", start)])
-                if name in names:
-                    self.lines_by_name[at][name] = bytes(data[start:end])
+        sections = models.sections_of(self.data[at])
+        lines = ((name, models.line_named(self.data[at], sections, name)) for name in names)
+        self.lines_by_name[at].update((name, line) for name, line in lines if line)
 
     def read_behind(self) -> None:
         """Some of all points of the second file, to be seen behind those that differ."""
@@ -258,9 +249,9 @@ class Page:
 
     # --- Lines with links and marks ---
 
-    def marked(self, line: bytes, at: int, changed: Set[Tuple[str, str]]) -> str:
+    def marked(self, line: bytes, at: int, changed: Set[Place]) -> str:
         """A line with its references as links, and the values of these attributes marked."""
-        spans = list(self.spans(line, changed)) if changed else []
+        spans = list(self.spans(line, changed.__contains__)) if changed else []
         if len(line) > MOST_BYTES:
             return self.linked(line[:MOST_BYTES], at) + " .."
         found = []
@@ -270,16 +261,13 @@ class Page:
             place = end
         return "".join([*found, self.linked(line[place:], at)])
 
-    def spans(self, line: bytes, changed: Set[Tuple[str, str]]) -> Iterator[Tuple[int, int]]:
-        """Where the values of these attributes stand in a line."""
+    def spans(self, line: bytes, is_wanted: Callable[[Place], bool]) -> Iterator[Tuple[int, int]]:
+        """Where the values of some attributes stand in a line."""
         parts = parts_of(record_of(stretch_of(line)))
-        for part in parts:
-            key = key_of(part)
-            values = list(values_of(part))
-            names = self.attributes.get(key, [])
-            names = names if len(parts) == 1 else names[max(len(names) - len(values), 0) :]
-            for number, value in enumerate(values):
-                if (key, names[number] if number < len(names) else "?") in changed:
+        keys = tuple(map(key_of, parts))
+        for key, part in zip(keys, parts):
+            for place, value in zip(self.lengths.sets.places_of(key, keys), values_of(part)):
+                if is_wanted(place):
                     yield value.start, value.end
 
     def linked(self, text: bytes, at: int) -> str:
@@ -296,8 +284,10 @@ class Page:
 
     # --- The parts of the page ---
 
-    def lines(self, headline: str, verdict: str, counts: Counts, owners: Optional[Owners]) -> Iterator[str]:
-        """The page. By `owners` the differences stand together that one product owns."""
+    def lines(self, said: Tuple[str, str, str], counts: Counts, owners: Optional[Owners]) -> Iterator[str]:
+        """The page, with its headline, what is left out, and the last line of a text. By `owners` the differences stand together that
+        one product owns."""
+        headline, left_out, verdict = said
         self.fetch()
         if self.points:
             self.read_behind()
@@ -308,6 +298,8 @@ class Page:
         yield f"<title>{names[0]} and {names[1]}</title>\n<style>{STYLE}</style>\n</head>\n<body>"
         yield f"<h1>{quoted(headline)}</h1>"
         yield f'<p><span class="side">A</span><code>{names[0]}</code><br><span class="side">B</span><code>{names[1]}</code></p>'
+        if left_out:
+            yield f'<p id="left-unlisted">{quoted(left_out[0].upper() + left_out[1:])}.</p>'
         yield f'<p class="verdict" id="verdict">{quoted(verdict)}</p>'
         yield from self.summary(counts)
         yield from self.plot()
@@ -376,7 +368,7 @@ class Page:
     def item(self, item: Item, level: int) -> Iterator[str]:
         """What is shown of an instance, a header record or a section, below a heading of this level."""
         found = item.first
-        entity = quoted(found.entity or found.what)
+        entity = quoted((found.keywords_of_instance() if found.what == "instance" else found.entity) or found.what)
         names = [f'<span class="soft">{side}</span> #{name}' for side, name in zip("AB", (found.first, found.second)) if name is not None]
         anchors = [f"{side}{name}" for side, name in zip("ab", (found.first, found.second)) if name is not None]
         other = f'<span id="{anchors[1]}"></span>' if len(anchors) > 1 else ""
@@ -386,7 +378,7 @@ class Page:
         attributes = ", ".join(dict.fromkeys(quoted(each.attribute) for each in item.all if each.attribute))
         kind_of = f'<span class="{found.kind}">{found.kind}</span>'
         yield f'<h{level}>{kind_of} {", ".join(names)} {entity} <span class="soft">{attributes}</span></h{level}>'
-        changed = {(each.entity or "", each.attribute) for each in item.all if each.attribute}
+        changed = {(each.entity or "", each.attribute) for each in item.all if each.attribute and each.kind == CHANGED}
         for at, name in enumerate((found.first, found.second)):
             line = None if name is None else self.lines_by_name[at].get(name)
             if line is not None and found.what != "header":
@@ -403,21 +395,20 @@ class Page:
         if found.kind != CHANGED or found.attribute is None:
             return
         lines = [self.lines_by_name[at].get(-1 if name is None else name, b"") for at, name in enumerate((found.first, found.second))]
-        spans = [next(self.spans(line, {(found.entity or "", found.attribute)}), (0, 0)) for line in lines]
+        place = (found.entity or "", found.attribute)
+        spans = [next(self.spans(line, place.__eq__), (0, 0)) for line in lines]
         values = [line[start:end].decode("latin-1") for line, (start, end) in zip(lines, spans)]
         if max(map(len, values)) > MOST_BYTES:
             return
-        units = self.units if self.is_length(lines[0], found) else [None, None]
+        units = self.units if self.is_length(found) else [None, None]
         plain = [with_unit(value, plainly(value), unit) for value, unit in zip(values, units)]
         if any(map(is_spelled, values)) or plain != list(map(plainly, values)):
             before, after = map(quoted, plain)
             yield f'<p class="line written"><span class="soft">{quoted(found.attribute)}</span> {before} → {after}</p>'
 
-    def is_length(self, line: bytes, found: Difference) -> bool:
+    def is_length(self, found: Difference) -> bool:
         """Are the values of the attribute that changed in an instance lengths, of files that have a unit for these?"""
-        keys = list(map(key_of, parts_of(record_of(stretch_of(line)))))
-        is_known = any(self.units) and found.entity in keys
-        return is_known and self.lengths.at(keys, found.entity or "", found.attribute or "")
+        return any(self.units) and self.lengths.at(found.entity or "", found.attribute or "")
 
     def texts(self, found: Difference) -> Iterator[str]:
         """The texts of a difference outside of instances."""

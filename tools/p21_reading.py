@@ -41,7 +41,6 @@ from typing import (
     Iterable,
     Iterator,
     List,
-    Mapping,
     Match,
     NamedTuple,
     NoReturn,
@@ -473,11 +472,13 @@ def answered(answer: Answer) -> Answer:
     return answer
 
 
-def started(program: str, command: str, *paths: str, errors: IO[bytes]) -> "subprocess.Popen[bytes]":
+def started(
+    program: str, command: str, *paths: str, errors: IO[bytes], options: Sequence[str] = ()
+) -> "subprocess.Popen[bytes]":
     """A command of the program over these paths, whose output is read as it comes."""
     try:
         return subprocess.Popen(
-            words_of(program, command, *paths),
+            words_of(program, command, *paths, options=options),
             stdin=subprocess.DEVNULL,
             stdout=subprocess.PIPE,
             stderr=errors,
@@ -520,29 +521,6 @@ def first_that_names(answers: Iterable[Found], line_of_answer: Callable[[Found],
     return first
 
 
-class Attributes(Mapping[str, List[str]]):
-    """The attributes of each entity in their order, which are read from the listing where they are asked for: what `p21 schema`
-    prints."""
-
-    def __init__(self, text: Text) -> None:
-        self.text = text
-        self.places: Dict[str, int] = {}
-
-    def __getitem__(self, name: str) -> List[str]:
-        place = self.places[name]
-        listed = self.text[place : self.text.find(b")", place)].decode("ascii")
-        return listed.split(",") if listed else []
-
-    def __contains__(self, name: object) -> bool:
-        return name in self.places
-
-    def __iter__(self) -> Iterator[str]:
-        return iter(self.places)
-
-    def __len__(self) -> int:
-        return len(self.places)
-
-
 def answer_of_schema(program: str, schema: str, text: Optional[Iterable[Piece]] = None) -> Answer:
     """What the program says of a schema: its refusal, or nothing. It is asked to check a file without a byte, since `p21 schema`
     would print the attributes of each supertype once for each subtype."""
@@ -556,30 +534,6 @@ def read_schema(program: str, schema: str, named: str) -> None:
     answer = answer_of_schema(program, schema)
     if answer.status != Status.DONE:
         raise Trouble(f"{named}: {with_reason(answer.error, named)}")
-
-
-LISTED = re.compile(rb"\n(?:ABSTRACT )?(\w+)\(")
-
-
-def listing(program: str, schema: str, most: int) -> Optional[Mapping[str, List[str]]]:
-    """The attributes of each entity of a schema that is read, or None where the listing has more bytes than these."""
-    text = bytearray()
-    with tempfile.TemporaryFile() as errors:
-        with started(program, "schema", schema, errors=errors) as listed:
-            assert listed.stdout
-            while len(text) <= most and (piece := listed.stdout.read(PIECE)):
-                text += piece
-            if len(text) > most:
-                listed.kill()
-                return None
-        errors.seek(0)
-        error = line_of(errors.read(), system.status_of(listed.returncode))
-    if listed.returncode != Status.DONE:
-        raise Trouble(error)
-    attributes = Attributes(text)
-    for entity in LISTED.finditer(text):
-        attributes.places[entity[1].decode("ascii")] = entity.end()
-    return attributes
 
 
 # --- Rows of things in a text ---

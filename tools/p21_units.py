@@ -5,7 +5,7 @@
 # a file; where these have several units of length, no value has one.
 
 import re
-from typing import Dict, List, Optional, Sequence
+from typing import Dict, List, Optional
 
 from p21_models import Text
 from p21_plainly import unescaped
@@ -31,10 +31,10 @@ class Lengths:
         self.sets = sets
         self.types: Dict[str, bool] = {}
 
-    def at(self, keys: Sequence[str], key: str, attribute: str) -> bool:
-        """Are the values of an attribute lengths, in an instance of these keywords?"""
-        places = self.sets.places_of(key, tuple(keys))
-        return any(self.leads_to_length(self.sets.declared[entity, name]) for entity, name in places if name == attribute)
+    def at(self, entity: str, attribute: str) -> bool:
+        """Are the values of an attribute lengths, which this entity declares?"""
+        words = self.sets.declared.get((entity, attribute))
+        return words is not None and self.leads_to_length(words)
 
     def leads_to_length(self, words: List[str]) -> bool:
         """Does a type lead to a length whose words these are?"""

@@ -1,27 +1,17 @@
-// What differs in the meaning of two STEP files, as tools/p21-diff tells it: by header parameters, instances and attributes.
-// Instances are told by their names, or up to names by a pairing.
+// What differs in the meaning of two STEP files, as tools/p21-diff tells it: by the names of instances as the program lists it, and up
+// to their names by a pairing.
 
 import { areNear } from "./decimals.mjs";
-import { EQUALS, Graph, elementsOf, renamedFile, renamedText, sectionsOf, sortedText } from "./models.mjs";
+import { Graph, elementsOf, lineNamed, renamedFile, renamedText, sectionsOf, sortedText } from "./models.mjs";
 import { NONE, SAME, DIFFERENT, UNDECIDED, fitsWhole, pairing } from "./pairing.mjs";
 import { isSpelled, plainly } from "./plainly.mjs";
-import { joined } from "./program.mjs";
-import { namesOfValues, readParts, shortened, textOf } from "./reading.mjs";
+import { Trouble, joined } from "./program.mjs";
+import { LINE_FEED, bytesOf, readParts, shortened, textOf } from "./reading.mjs";
 import { nestingOf } from "./sets.mjs";
-import { unitOf, withUnit } from "./units.mjs";
+import { hasUnit, unitOf, withUnit } from "./units.mjs";
 
-const LINE_END = 10;
-const HASH_SIGN = 0x23;
-const ENDSEC = [..."ENDSEC;"].map((sign) => sign.charCodeAt(0));
 const FRONT = "ISO-10303-21;\nHEADER;\n";
-const HEADER_NAMES = new Map([
-  ["FILE_DESCRIPTION", ["description", "implementation_level"]],
-  [
-    "FILE_NAME",
-    ["name", "time_stamp", "author", "organization", "preprocessor_version", "originating_system", "authorization"],
-  ],
-  ["FILE_SCHEMA", ["schema_identifiers"]],
-]);
+const END_OF_FILE = "END-ISO-10303-21;\n";
 export const KINDS = ["changed", "came", "went"];
 const [CHANGED, CAME, WENT] = KINDS;
 // Two canonical files of so many bytes together are compared up to names unasked, where they are told apart by names; and of two
@@ -33,6 +23,10 @@ const WORDS_OF_VERDICTS = { [SAME]: "same", [DIFFERENT]: "different", [UNDECIDED
 const NO_NAME = 2n ** 64n;
 // A value of more characters isn't written as people would.
 const MOST_READ = 4_000;
+// What stands for an element that a file hasn't.
+const NO_ELEMENT = "-";
+// So many bytes of the program's list become a text at once.
+const HEARD_AT_ONCE = 1 << 20;
 
 // --- Canonical files ---
 
@@ -43,250 +37,147 @@ export function equalBytes(first, second) {
   return true;
 }
 
-/** The lines of a canonical file from a place on, up to the one that ends the section, which is `ENDSEC;`. */
-function* lines(bytes, start) {
-  for (let at = start; ; ) {
-    const end = bytes.indexOf(LINE_END, at);
-    if (end - at === ENDSEC.length && ENDSEC.every((sign, number) => bytes[at + number] === sign)) return;
-    yield bytes.subarray(at, end);
-    at = end + 1;
-  }
-}
-
-/** The records of the header, which begin with the third line. */
-function header(bytes) {
-  return [...lines(bytes, FRONT.length)].map(textOf);
-}
-
 /** What stands in front of the data sections. */
 function frontOf(bytes) {
-  const records = [...lines(bytes, FRONT.length)];
-  const end = records.reduce((sum, record) => sum + record.length + 1, FRONT.length);
-  return bytes.subarray(0, end + "ENDSEC;\n".length);
+  let at = FRONT.length;
+  while (textOf(bytes.subarray(at, at + "ENDSEC;\n".length)) !== "ENDSEC;\n") at = bytes.indexOf(LINE_FEED, at) + 1;
+  return bytes.subarray(0, at + "ENDSEC;\n".length);
 }
 
-/** The instances of a section, whose names rise: the name, the line that begins the section, and the statement. */
-function* ofSection(bytes, { heading, start }) {
-  for (const line of lines(bytes, start)) {
-    const name = BigInt(textOf(line.subarray(1, line.indexOf(EQUALS))));
-    yield { name, section: heading, line };
+/** A canonical file without its instances. */
+function outlineOf(bytes) {
+  const headings = sectionsOf(bytes).map(({ heading }) => `${heading}\nENDSEC;\n`);
+  return joined([frontOf(bytes), bytesOf(headings.join("") + END_OF_FILE)]);
+}
+
+// --- What the program lists ---
+
+/** The rows that the program writes piece by piece: each goes to `take`, and the last one is kept. */
+export class ListedRows {
+  constructor(take) {
+    this.take = take;
+    this.rest = "";
+    this.last = null;
+  }
+
+  /** The next bytes. */
+  hear(bytes) {
+    for (let at = 0; at < bytes.length; at += HEARD_AT_ONCE) this.hearText(textOf(bytes.subarray(at, at + HEARD_AT_ONCE)));
+  }
+
+  hearText(text) {
+    const lines = (this.rest + text).split("\n");
+    this.rest = lines.pop();
+    for (const line of lines) {
+      // A name may have more digits than a number here, and no text in a row has such quotes.
+      const row = JSON.parse(line.replace(/"([ab])":(\d+)/g, '"$1":"$2"'));
+      if (row.kind === "verdict") this.last = row;
+      else this.take(differenceOf(row));
+    }
   }
 }
 
-/** The instances of all sections by rising names. */
-function* instances(bytes) {
-  const waiting = sectionsOf(bytes).map((section) => ofSection(bytes, section));
-  const heads = waiting.map((section) => section.next().value);
-  for (;;) {
-    let least = -1;
-    heads.forEach((head, at) => {
-      if (head && (least < 0 || head.name < heads[least].name)) least = at;
-    });
-    if (least < 0) return;
-    yield heads[least];
-    heads[least] = waiting[least].next().value;
+/**
+ * A row of the program as a difference: what happened (changed, came or went), to what (a header, a section, an instance or its
+ * section), the names of the instance in the first and in the second file, the entity that declares an attribute and the attribute, or
+ * the entity alone, of a value the keywords of its instance and the indices of the element that differs, and the texts of both files.
+ */
+function differenceOf({ kind, what, a = null, b = null, ...row }) {
+  const { entity = null, attribute = null, keywords = null, indices = null, before = null, after = null } = row;
+  return { kind, what, names: [a, b], entity, attribute, keywords, indices, before, after };
+}
+
+/** The keywords of an instance: those of the first file, where it has others in the second. */
+export function keywordsOfInstance({ what, entity, keywords, before }) {
+  return keywords ?? entity ?? (what === "instance" ? before : null);
+}
+
+// --- What is left out ---
+
+/** What isn't listed where that is asked for: the header, and reals that are within a tolerance. It counts how much that is. */
+class LeftOut {
+  constructor({ data = false, tolerance = null } = {}) {
+    Object.assign(this, { header: data, tolerance, inHeader: 0, near: 0 });
+  }
+
+  /** Is a difference left out? */
+  takes({ what }) {
+    const isTaken = this.header && what === "header";
+    this.inHeader += Number(isTaken);
+    return isTaken;
+  }
+
+  /** Are two values that differ left out, since they are within the tolerance? */
+  takesNear(first, second) {
+    const isNear = this.tolerance !== null && areNear(first, second, this.tolerance);
+    this.near += Number(isNear);
+    return isNear;
+  }
+
+  /** What is left out, in words; nothing where all is listed. */
+  get words() {
+    const header = this.header ? ["the header"] : [];
+    const near = this.tolerance ? [`reals within the tolerance ${this.tolerance.text}`] : [];
+    const parts = [...header, ...near];
+    return parts.length > 0 ? `left out: ${parts.join(", ")}` : "";
+  }
+
+  /** How many differences were left out, in words. */
+  get countsInWords() {
+    const header = this.inHeader > 0 ? [`${many(this.inHeader, "difference")} in the header not listed`] : [];
+    const near = this.tolerance ? [`${many(this.near, "value")} within the tolerance ${this.tolerance.text} not listed`] : [];
+    return [...header, ...near];
   }
 }
 
-/** Each name with its instance in the one file and in the other, null where it isn't there. */
-function* pairs(first, second) {
-  let one = first.next().value;
-  let other = second.next().value;
-  while (one || other) {
-    const isFirst = one && (!other || one.name <= other.name);
-    const isSecond = other && (!one || other.name <= one.name);
-    yield [isFirst ? one : null, isSecond ? other : null];
-    if (isFirst) one = first.next().value;
-    if (isSecond) other = second.next().value;
-  }
-}
+// --- Up to names ---
 
-// --- What differs ---
-
-/** A text with other names of instances, where there are any. */
+/** A text with other names of instances. */
 function named(text, names) {
-  return names ? renamedText(text, (name) => names.get(name)) : text;
+  return renamedText(text, (name) => names.get(name));
 }
 
-/** How many characters two texts have in common in front. */
-function commonFront(first, second) {
-  let count = 0;
-  while (count < first.length && count < second.length && first[count] === second[count]) count++;
-  return count;
-}
-
-/** Two texts around the first place at which they differ. */
-function shortenedPair(texts) {
-  const at = commonFront(...texts);
-  return texts.map((text) => shortened(text, at));
-}
-
-/** The entity of an instance's line, or those of its parts. */
-function entityOf(line) {
+/** The keywords of an instance's line. */
+function keywordsOfLine(line) {
   return readParts(line)
     .map(({ key }) => key)
     .join("+");
 }
 
-/**
- * The differences of two records or lines, one after the other. Each has what happened (changed, came or went), to what (a
- * header, a section, an instance or its section), the names of the instance in the first and in the second file, its entity and
- * attribute, the texts of either file or of one alone, and what gives those of values as people write them, where that is other.
- */
+/** The differences of instances that are paired, by the sets of their schema. Those that are within the tolerance are left out. */
 class Comparison {
-  constructor(attributes, { sets = null, lengths = null, tolerance = null, isFull = false } = {}) {
-    Object.assign(this, { attributes, sets, lengths, tolerance, isFull });
-    // How many values are within the tolerance and other.
-    this.near = 0;
+  constructor(sets, leftOut) {
+    Object.assign(this, { sets, leftOut });
   }
 
-  /** A text around the first place at which it differs, or the whole. */
-  text(text, at) {
-    return this.isFull ? text : shortened(text, at);
-  }
-
-  /** What changed in a pair. */
-  change({ what, names, told, keys }, entity, attribute, ...given) {
-    const texts = given.map((text, side) => named(text, told?.[side]));
-    const at = commonFront(...texts);
-    const isRead = attribute !== null && texts.every(({ length }) => length <= MOST_READ);
-    const plain = (units) => {
-      const isLength = isRead && keys && units.some(Boolean) && this.lengths?.at(keys, entity, attribute);
-      const read = isRead && texts.map((text, side) => withUnit(text, plainly(text), isLength ? units[side] : null));
-      return isRead && (texts.some(isSpelled) || read.some((text, side) => text !== plainly(texts[side]))) ? shortenedPair(read) : null;
-    };
-    return { kind: CHANGED, what, names, entity, attribute, texts: texts.map((text) => this.text(text, at)), plain };
-  }
-
-  /** A line that stands in one of the files alone. */
-  either(what, names, [first, second]) {
-    const entity = what === "instance" ? entityOf(first ?? second) : null;
-    return { kind: first === null ? CAME : WENT, what, names, entity, attribute: null, texts: [this.text(first ?? second, 0)] };
-  }
-
-  /** The records of two headers, one beside the other. */
-  *headers(first, second) {
-    const names = [null, null];
-    for (let at = 0; at < Math.max(first.length, second.length); at++) {
-      const both = [first[at] ?? null, second[at] ?? null];
-      if (both.includes(null)) yield this.either("header", names, both);
-      else if (both[0] !== both[1]) yield* this.records({ what: "header", names }, HEADER_NAMES, both);
-    }
-  }
-
-  /** The lines that begin data sections. */
-  *sections(first, second) {
-    const [one, other] = [first, second].map((bytes) => new Set(sectionsOf(bytes).map(({ heading }) => heading)));
-    for (const heading of [...one, ...other].filter((found) => one.has(found) !== other.has(found)).sort()) {
-      yield this.either("section", [null, null], one.has(heading) ? [heading, null] : [null, heading]);
-    }
-  }
-
-  /** Two sections of an instance. */
-  *section(pair, first, second) {
-    if (first !== second) yield this.change({ ...pair, what: "section of" }, null, null, first, second);
-  }
-
-  /**
-   * Two records by their lines: each value that differs where they have the same keywords, else the whole. `mapped` is the first
-   * one with the names of the second file.
-   */
-  *records(pair, attributes, texts, mapped = texts[0]) {
+  /** Each value that differs in two instances of the same keywords; `mapped` is the first one with the names of the second file. */
+  *records({ names, told }, texts, mapped) {
     const [one, other, renamed] = [...texts, mapped].map(readParts);
-    const shape = (parts) => JSON.stringify(parts.map(({ key, values }) => [key, values.length]));
     const keys = one.map(({ key }) => key);
-    const told = pair.what === "header" ? pair : { ...pair, keys };
-    if (shape(one) !== shape(other)) {
-      yield this.change(pair, keys.join("+"), null, ...texts);
-      return;
-    }
     for (const [number, part] of one.entries()) {
-      const names = namesOfValues(attributes, part, one.length === 1);
-      const nestings = this.sets && attributes === this.attributes ? this.sets.ofPart(part.key, keys) : [];
-      for (const [at, name] of names.entries()) {
+      const places = this.sets.placesOf(part.key, keys);
+      const nestings = this.sets.ofPart(part.key, keys);
+      for (const at of part.values.keys()) {
         const value = (parts, text) => text.slice(parts[number].values[at].start, parts[number].values[at].end);
         const [was, is, meant] = [value(one, texts[0]), value(other, texts[1]), value(renamed, mapped)];
-        if (!this.isEqual(meant, is, nestings[at] ?? null)) yield this.change(told, part.key, name, was, is);
+        if (meant === is || this.isEqual(meant, is, nestings[at])) continue;
+        const [entity, attribute] = places[at];
+        const [before, after] = [was, is].map((text, side) => named(text, told[side]));
+        yield { kind: CHANGED, what: "instance", names, entity, attribute, keywords: keys.join("+"), indices: null, before, after };
       }
     }
   }
 
   /** Are two values the same, in sets of any order, or within the tolerance? */
   isEqual(first, second, nesting) {
-    if (first === second) return true;
     let texts = [first, second];
-    if (this.sets && texts.every((text) => text.includes("#"))) {
+    if (texts.every((text) => text.includes("#"))) {
       const around = nestingOf(false, nesting);
       texts = texts.map((text) => sortedText(this.sets, elementsOf(text), around));
     }
-    if (texts[0] === texts[1]) return true;
-    if (!this.tolerance || !areNear(...texts, this.tolerance)) return false;
-    this.near++;
-    return true;
+    return texts[0] === texts[1] || this.leftOut.takesNear(...texts);
   }
 }
-
-/** What differs in instances of equal names, and those of names that one file alone has. */
-function* byNames(comparison, first, second, heard) {
-  const [one, other] = [first, second].map(sectionsOf);
-  const haveOne = one.length === 1 && other.length === 1 && one[0].heading === other[0].heading;
-  const found = haveOne ? otherPairs(first, second, one[0], other[0].start) : pairs(instances(first), instances(second));
-  yield* inPairs(comparison, heardOfEach(found, heard));
-}
-
-/** Pairs as they come, of which each ten-thousandth is heard. */
-function* heardOfEach(pairs, heard) {
-  let count = 0;
-  for (const pair of pairs) {
-    if (++count % 10_000 === 0) heard(count);
-    yield pair;
-  }
-}
-
-/**
- * Each name with its instance in the one file and in the other, null where it isn't there, but for those whose lines are the same. Both
- * files have one section with this heading, which begins at a place of its own in the second one.
- */
-function* otherPairs(first, second, { heading, start }, otherStart) {
-  let [one, other] = [start, otherStart];
-  const instanceAt = (bytes, at) => {
-    if (bytes[at] !== HASH_SIGN) return null;
-    const line = bytes.subarray(at, bytes.indexOf(LINE_END, at));
-    return { name: BigInt(textOf(line.subarray(1, line.indexOf(EQUALS)))), section: heading, line };
-  };
-  while (first[one] === HASH_SIGN || second[other] === HASH_SIGN) {
-    let size = 0;
-    while (first[one + size] === second[other + size] && first[one + size] !== LINE_END) size++;
-    if (first[one + size] === second[other + size]) {
-      one += size + 1;
-      other += size + 1;
-      continue;
-    }
-    let [left, right] = [instanceAt(first, one), instanceAt(second, other)];
-    if (left && right && left.name < right.name) right = null;
-    else if (left && right && right.name < left.name) left = null;
-    yield [left, right];
-    one += left ? left.line.length + 1 : 0;
-    other += right ? right.line.length + 1 : 0;
-  }
-}
-
-/** What differs in pairs of instances. */
-function* inPairs(comparison, found) {
-  for (const [one, other] of found) {
-    const names = [one?.name ?? null, other?.name ?? null];
-    const texts = [one, other].map((found) => found && textOf(found.line));
-    if (!one || !other) {
-      yield comparison.either("instance", names, texts);
-      continue;
-    }
-    const pair = { what: "instance", names };
-    yield* comparison.section(pair, one.section, other.section);
-    if (texts[0] !== texts[1]) yield* comparison.records(pair, comparison.attributes, texts);
-  }
-}
-
-// --- Up to names ---
 
 /** Two files of which the names of instances don't count, with a pairing of their instances. */
 class UpToNames {
@@ -336,11 +227,15 @@ class UpToNames {
     const { graph } = this;
     const { partner } = this.pairing;
     for (const node of this.nodes(0)) {
-      if (partner[node] === NONE) yield comparison.either("instance", [graph.name(node), null], [graph.line(node), null]);
-      else if (!fitsWhole(graph, partner, node)) yield* this.changed(comparison, node, partner[node]);
+      if (partner[node] === NONE) {
+        const line = graph.line(node);
+        yield differenceOf({ kind: WENT, what: "instance", a: graph.name(node), entity: keywordsOfLine(line), before: line });
+      } else if (!fitsWhole(graph, partner, node)) yield* this.changed(comparison, node, partner[node]);
     }
     for (const node of this.nodes(1)) {
-      if (partner[node] === NONE) yield comparison.either("instance", [null, graph.name(node)], [null, graph.line(node)]);
+      if (partner[node] !== NONE) continue;
+      const line = graph.line(node);
+      yield differenceOf({ kind: CAME, what: "instance", b: graph.name(node), entity: keywordsOfLine(line), after: line });
     }
   }
 
@@ -353,10 +248,12 @@ class UpToNames {
   /** What differs in a pair. */
   *changed(comparison, node, other) {
     const { graph } = this;
-    const pair = { what: "instance", names: [graph.name(node), graph.name(other)], told: [node, other].map((each) => this.told(each)) };
-    const texts = [graph.line(node), graph.line(other)];
-    yield* comparison.section(pair, this.section(node), this.section(other));
-    yield* comparison.records(pair, comparison.attributes, texts, this.renamed(node, texts[0]));
+    const nodes = [node, other];
+    const names = nodes.map((each) => graph.name(each));
+    const [before, after] = nodes.map((each) => this.section(each));
+    if (before !== after) yield differenceOf({ kind: CHANGED, what: "section of", a: names[0], b: names[1], before, after });
+    const texts = nodes.map((each) => graph.line(each));
+    yield* comparison.records({ names, told: nodes.map((each) => this.told(each)) }, texts, this.renamed(node, texts[0]));
   }
 
   /**
@@ -416,15 +313,16 @@ class Counts {
   }
 
   /** The next difference. Those of one instance stand one behind the other, and count once. */
-  add({ kind, what, names, entity, attribute }) {
+  add(difference) {
+    const { kind, what, names, attribute } = difference;
     this.listed++;
     this.inHeader += Number(what === "header");
-    this.inTimeStamp += Number(what === "header" && attribute === "time_stamp");
+    this.inTimeStamp += Number(what === "header" && attribute === "TIME_STAMP");
     const isInstance = what === "instance" || what === "section of";
     const now = `${kind} ${names.join()}`;
     if (isInstance && now === this.last) return;
     this.last = isInstance ? now : null;
-    const name = tableName(what, entity);
+    const name = tableName(difference);
     if (!this.rows.has(name)) this.rows.set(name, { [CHANGED]: 0, [CAME]: 0, [WENT]: 0 });
     this.rows.get(name)[kind]++;
   }
@@ -443,23 +341,23 @@ class Counts {
 }
 
 /** By what a difference stands in the table. */
-export function tableName(what, entity) {
-  return what === "instance" && entity ? entity : `(${what.split(" ")[0]})`;
+export function tableName(difference) {
+  const { what } = difference;
+  return (what === "instance" && keywordsOfInstance(difference)) || `(${what.split(" ")[0]})`;
 }
 
-/** How files are compared where nothing is asked: by names, with the header, and without a tolerance. */
-const USUALLY = { names: false, data: false, tolerance: null, isFull: false };
-
 /**
- * Two canonical files that are compared, by a schema of these attributes and lengths. `isSame` says of two files whether the program
- * says that they are the same, and `heard` is told how many instances are done.
+ * Two canonical files that are compared, by a schema of these attributes and lengths. `diff` has the program list what differs in two
+ * texts, which goes to ListedRows; `isSame` says of two texts whether it says that they are the same, and `heard` is told how many
+ * instances are paired.
  */
 export class Files {
-  constructor({ attributes, lengths, isSame, heard = () => {} }, first, second) {
-    Object.assign(this, { attributes, lengths, isSame, heard });
+  constructor({ attributes, lengths, diff, isSame, heard = () => {} }, first, second) {
+    Object.assign(this, { attributes, lengths, diff, isSame, heard });
     this.canonical = [first, second];
     this.units = this.canonical.map(unitOf);
     this.paired = null;
+    this.sections = null;
     this.isSameRenamed = null;
     this.asGraph = null;
   }
@@ -475,18 +373,21 @@ export class Files {
     return this.paired;
   }
 
-  /** What compares the values of both as the command line of p21-diff says. */
-  comparison({ names, tolerance, isFull }) {
-    const { attributes, lengths } = this;
-    return new Comparison(attributes, { sets: names ? lengths.sets : null, lengths, tolerance, isFull });
+  /** Takes each difference that the program lists in two texts. */
+  listed(texts, take) {
+    const rows = new ListedRows(take);
+    this.diff(texts, rows);
+    if (rows.rest !== "" || rows.last === null) throw new Trouble("the list of what differs isn’t whole");
   }
 
-  /** What differs, one after the other. */
-  *differences(comparison, { names, data }) {
-    if (!data) yield* comparison.headers(...this.canonical.map(header));
-    yield* comparison.sections(...this.canonical);
-    if (names) yield* this.upToNames.differences(comparison);
-    else yield* byNames(comparison, ...this.canonical, this.heard);
+  /** Takes each difference, by names or up to names. */
+  differences(names, leftOut, take) {
+    if (!names) {
+      this.listed(this.canonical, take);
+      return;
+    }
+    this.listed(this.canonical.map(outlineOf), take);
+    for (const found of this.upToNames.differences(new Comparison(this.lengths.sets, leftOut))) take(found);
   }
 
   /** What p21-diff lists with these words of its command line, of which so many are shown. */
@@ -500,36 +401,40 @@ export class Files {
     return { counts, shown, lines, ...known };
   }
 
-  /** Takes each difference, with these words of the command line of p21-diff, and answers how many they are and what is known then. */
-  each(asked, take) {
-    const how = { ...USUALLY, ...asked };
+  /**
+   * Takes each difference that isn't left out, with these words of the command line of p21-diff, and answers how many they are and
+   * what is known then.
+   */
+  each({ names = false, data = false, tolerance = null }, take) {
     const counts = new Counts();
-    const comparison = this.comparison(how);
-    for (const difference of this.differences(comparison, how)) {
+    const leftOut = new LeftOut({ data, tolerance });
+    const found = { all: 0, inHeader: 0 };
+    this.differences(names, leftOut, (difference) => {
+      const { what, attribute, before, after } = difference;
+      found.all++;
+      found.inHeader += Number(what === "header");
+      const isValue = !names && attribute !== null && before !== null && after !== null;
+      if (leftOut.takes(difference) || (isValue && leftOut.takesNear(before, after))) return;
       counts.add(difference);
       take(difference);
-    }
-    return { counts, known: this.known(how, counts, comparison.near) };
+    });
+    const said = names ? this.knownUpToNames(found, leftOut) : this.knownByNames(found);
+    const { words, near } = leftOut;
+    const verdict = verdictLine(names, counts, said, leftOut);
+    return { counts, known: { ...said, near, tolerance, leftOut: words, headline: headline(said), verdict } };
   }
 
-  /** What is known behind the last difference: in a word, in what alone the files differ, and as the last line of p21-diff. */
-  known(how, counts, near) {
-    const found = how.names ? this.knownUpToNames(counts, near) : this.knownByNames(counts, near);
-    const said = { ...found, near, tolerance: how.tolerance };
-    return { ...said, headline: headline(said), verdict: verdictLine(how, counts, said) };
-  }
-
-  knownByNames({ listed, inHeader }, near) {
+  /** What is known of files that differ, by names. */
+  knownByNames({ all, inHeader }) {
     const header = inHeader > 0 ? ["the header"] : [];
-    const hasEqualData = listed === inHeader && near === 0;
-    const word = listed === 0 && near === 0 ? SAME : DIFFERENT;
-    return { word, pairs: 0, ambiguous: 0, butFor: hasEqualData ? header : this.butForNumbering(header) };
+    if (all === 0) return { word: SAME, pairs: 0, ambiguous: 0, butFor: [] };
+    return { word: DIFFERENT, pairs: 0, ambiguous: 0, butFor: all === inHeader ? header : this.butForNumbering(header) };
   }
 
-  knownUpToNames({ listed, inHeader }, near) {
+  knownUpToNames({ all, inHeader }, { near }) {
     const { verdict, ambiguous } = this.upToNames.pairing;
     const { pairs, alike } = this.upToNames.counted();
-    let word = verdict === SAME && (listed > inHeader || near > 0) ? DIFFERENT : verdict;
+    let word = verdict === SAME && (all > inHeader || near > 0) ? DIFFERENT : verdict;
     if (word === SAME && !this.isSameUpToNames()) word = UNDECIDED;
     const found = { word, pairs, ambiguous, butFor: [], isRenamed: 2 * alike < pairs };
     if (word !== SAME || inHeader === 0) return found;
@@ -549,9 +454,36 @@ export class Files {
   /** In what alone two small files differ, whose instances of one name differ: in their numbering and maybe the header, or nothing. */
   butForNumbering(inHeader) {
     if (this.size > SMALL_ENOUGH || this.upToNames.pairing.verdict !== SAME) return [];
-    const how = { ...USUALLY, names: true, data: true };
-    const isOther = !this.differences(this.comparison(how), how).next().done;
+    const isOther = !this.upToNames.differences(new Comparison(this.lengths.sets, new LeftOut())).next().done;
     return isOther || !this.isSameUpToNames() ? [] : ["numbering", ...inHeader];
+  }
+
+  /** The texts of a value that changed as people write them, shortened; null where they aren't other than they stand. */
+  plain({ names, entity, attribute, indices, before, after }) {
+    const texts = [before, after];
+    if (attribute === null || texts.some((text) => text === null || text.length > MOST_READ)) return null;
+    const isLength = names[0] !== null && this.units.some(Boolean) && this.lengths.at(entity, attribute);
+    const isMeasured = isLength && (!indices || hasUnit(this.valueOf(names[0], entity, attribute)));
+    const read = texts.map((text, side) => withUnit(text, plainly(text), isMeasured ? this.units[side] : null));
+    return texts.some(isSpelled) || read.some((text, side) => text !== plainly(texts[side])) ? shortenedPair(read) : null;
+  }
+
+  /** The line of an instance of the first or the second file; empty where there is none of its name. */
+  lineOf(side, name) {
+    this.sections ??= this.canonical.map(sectionsOf);
+    return lineNamed(this.canonical[side], this.sections[side], name);
+  }
+
+  /** The value of an instance of the first file at an attribute. */
+  valueOf(name, entity, attribute) {
+    const line = this.lineOf(0, name);
+    const parts = readParts(line);
+    const keys = parts.map(({ key }) => key);
+    for (const { key, values } of parts) {
+      const at = this.lengths.sets.placesOf(key, keys).findIndex((place) => place[0] === entity && place[1] === attribute);
+      if (at >= 0) return line.slice(values[at].start, values[at].end);
+    }
+    return "";
   }
 
   /** The instances of both files as a graph, with what gives the node of the second file for that of the first, or -1; null where it
@@ -588,13 +520,13 @@ function headline(found) {
 }
 
 /** The last line of p21-diff. */
-function verdictLine({ names, tolerance }, counts, found) {
-  const { word, pairs, ambiguous, near } = found;
+function verdictLine(names, counts, found, leftOut) {
+  const { word, pairs, ambiguous } = found;
   const said = butForOf(found) || WORDS_OF_VERDICTS[word];
   const parts = [`${said}: ${KINDS.map((kind) => `${counts.total(kind)} ${kind}`).join(", ")}`];
   if (word === SAME) parts[0] = names ? `same up to names: ${many(pairs, "pair")}, checked one by one` : "same";
   else if (word === UNDECIDED) parts[0] += "; no pairing without a difference was found, and none is ruled out";
-  if (tolerance) parts.push(`${many(near, "value")} within the tolerance ${tolerance.text} not listed`);
+  parts.push(...leftOut.countsInWords);
   if (ambiguous > 0) parts.push(`${many(ambiguous, "pair")} chosen where others could be`);
   return parts.join("; ");
 }
@@ -605,14 +537,40 @@ function namesOf([first, second]) {
 }
 
 /** What a difference is about. */
-export function whatOf({ kind, what, names, entity, attribute }) {
+export function whatOf({ kind, what, names, entity, attribute, keywords, indices }) {
   if (kind !== CHANGED) return `only in ${kind === CAME ? "B" : "A"}${what === "header" ? ", header" : ""}`;
-  if (what === "section of") return `changed ${namesOf(names)}, its section`;
-  const where = attribute === null ? "" : ` ${entity}.${attribute}`;
-  return `changed ${what === "header" ? "header" : namesOf(names)}${where}`;
+  if (what === "header" && attribute === null) return "changed, header";
+  const name = what === "header" ? "header" : namesOf(names);
+  if (attribute === null) return `changed ${name}, its ${what === "section of" ? "section" : "entities"}`;
+  const whose = keywords === null || keywords.split("+").includes(entity) ? "" : ` of ${keywords}`;
+  return `changed ${name} ${entity}.${attribute}${indices ? `[${indices.join(",")}]` : ""}${whose}`;
+}
+
+/** The texts of a difference; of an element that one of the files hasn't a dash. */
+export function textsOf({ attribute, before, after }) {
+  return attribute === null ? [before, after].filter((text) => text !== null) : [before ?? NO_ELEMENT, after ?? NO_ELEMENT];
+}
+
+/** The texts of a difference, of long ones what stands around the first character in which they differ. */
+export function textsAround(difference) {
+  const texts = textsOf(difference);
+  return texts.length === 2 ? shortenedPair(texts) : texts.map((text) => shortened(text, 0));
+}
+
+/** How many characters two texts have in common in front. */
+function commonFront(first, second) {
+  let count = 0;
+  while (count < first.length && count < second.length && first[count] === second[count]) count++;
+  return count;
+}
+
+/** Two texts around the first place at which they differ. */
+function shortenedPair(texts) {
+  const at = commonFront(...texts);
+  return texts.map((text) => shortened(text, at));
 }
 
 /** The line of a difference, as p21-diff prints it. */
 export function lineOfDifference(difference) {
-  return `${whatOf(difference)}: ${difference.texts.join(" -> ")}`;
+  return `${whatOf(difference)}: ${textsAround(difference).join(" -> ")}`;
 }

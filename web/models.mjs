@@ -300,6 +300,25 @@ export function sectionsOf(bytes) {
   return found;
 }
 
+/** The line of an instance in a canonical file of these sections, in each of which names rise; empty where there is none of its name. */
+export function lineNamed(bytes, sections, name) {
+  const wanted = BigInt(name);
+  for (const [number, { start }] of sections.entries()) {
+    const next = sections[number + 1];
+    let [low, high] = [start, next ? next.start - next.heading.length - 1 : bytes.length];
+    while (low < high) {
+      const at = bytes.lastIndexOf(NEXT_LINE, Math.floor((low + high) / 2) - 1) + 1;
+      const line = Math.max(at, low);
+      const end = bytes.indexOf(NEXT_LINE, line);
+      const found = bytes[line] === SHARP ? BigInt(textOf(bytes.subarray(line + 1, bytes.indexOf(EQUALS, line)))) : null;
+      if (found === wanted) return textOf(bytes.subarray(line, end));
+      if (found !== null && found < wanted) low = end + 1;
+      else high = line;
+    }
+  }
+  return "";
+}
+
 /** A canonical file with other names of instances, and another front up to its first data section, in pieces. */
 export function renamedFile(bytes, nameOf, front) {
   const pieces = [front];

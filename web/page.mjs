@@ -13,8 +13,9 @@
 // first. Rows open to the whole; of three kinds or fewer the first of each is open. The text keeps the order of the
 // program.
 //
-// Up to names the page compares at once where both canonical files have 2 MiB together, and larger ones where it is
-// asked to, since that takes some times as long as the comparison by names.
+// Up to names the page compares at once where both canonical files have 2 MiB together, or 32 MiB and fewer than half of
+// the instances say the same under one name; and others where it is asked to, since that takes some times as long as the
+// comparison by names. Of larger files that may be numbered otherwise it is said that less may differ so.
 //
 // The hash beside an accepted file is made by the browser (`crypto.subtle`), and beside it stands the command line that
 // makes it again, unless the listing was given another name. Where the browser has none, as on a page from a server
@@ -52,6 +53,9 @@ const FIRST_ROWS = 20;
 const FEW_DIFFERENCES = 5;
 const SEARCH_WAITS = 100;
 const COMPARED_AT_ONCE = 1 << 22;
+// What is said of large files, which are compared up to names where that is asked for.
+const SEEM_RENAMED =
+  "Fewer than half of the instances say the same under one name. Told by what they say, less may differ: with files of this size that may take some minutes.";
 const MORE_ROWS = 200;
 // So many refusals are looked through before the page does something else.
 const SOUGHT_AT_ONCE = 4000;
@@ -1111,7 +1115,9 @@ function differences(lists, files) {
   });
   const told = element("fieldset", { class: "ways" }, element("legend", {}, "Instances are told"), ...choices);
   showWay(way);
-  return element("div", { class: "differences" }, element("h3", {}, "What differs"), told, ofCounting(asked), list);
+  const made = element("div", { class: "differences" }, element("h3", {}, "What differs"), told, ofCounting(asked), list);
+  if (lists.seemRenamed && !upToNames) told.after(hint(SEEM_RENAMED));
+  return made;
 }
 
 /** What counts as a difference: the header or the data alone, and from which distance on reals do. */
@@ -1138,7 +1144,7 @@ function ofCounting({ data, tolerance }) {
 }
 
 /** A list of differences: what is known, how to take it along, a table by entity, what sifts it, and the differences by what owns them. */
-function listOfDifferences({ count, shown, text, verdict, table, tolerance }, files, way) {
+function listOfDifferences({ count, shown, text, verdict, table, leftOut }, files, way) {
   const report = { names: way === "shapes", data: shownLists.asked.data, tolerance: shownLists.asked.tolerance };
   const actions = [
     saving("Save as text", () => text, "differences.txt"),
@@ -1146,7 +1152,8 @@ function listOfDifferences({ count, shown, text, verdict, table, tolerance }, fi
     button("Save as report", () => askFor({ report })),
   ];
   const made = [element("div", { class: "buttons" }, ...actions)];
-  if (way === "shapes" || tolerance) made.unshift(element("p", { class: "known" }, verdict));
+  if (way === "shapes" || leftOut) made.unshift(element("p", { class: "known" }, verdict));
+  if (leftOut) made.unshift(element("p", { class: "left-out" }, `${leftOut[0].toUpperCase()}${leftOut.slice(1)}.`));
   if (count === 0) return made;
   const rows = shown.map((difference, number) => ofDifference(difference, files, number));
   const list = element("div", { class: "list" }, ...byOwners(shown, rows));

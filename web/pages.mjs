@@ -1,10 +1,10 @@
 // A page for a browser that shows what differs in two files, as p21-diff --format html writes it: the same bytes. It stands by itself
 // and asks no network. As in tools/p21_pages.py, of which it is given the style and the script.
 
-import { KINDS } from "./differences.mjs";
+import { KINDS, keywordsOfInstance } from "./differences.mjs";
 import { STRING_OR_REFERENCE, linesFrom, sectionsOf } from "./models.mjs";
 import { isSpelled, plainly } from "./plainly.mjs";
-import { namesOfValues, readParts, shown, textOf } from "./reading.mjs";
+import { readParts, shown, textOf } from "./reading.mjs";
 import { withUnit } from "./units.mjs";
 
 const MOST_INSTANCES = 2_000;
@@ -112,9 +112,7 @@ export class Report {
   /** Where an instance is in space, by its line, or null where it's no point in space. */
   point(line) {
     if (line === undefined) return null;
-    const keys = readParts(line).map(({ key }) => key);
-    const changed = new Set(keys.filter((key) => this.isPoint(key)).map((key) => `${key}.${COORDINATES}`));
-    for (const [start, end] of this.spans(line, changed)) {
+    for (const [start, end] of this.spans(line, (_, attribute) => attribute === COORDINATES)) {
       const place = placeInSpace(line.slice(start, end));
       if (place) return place;
     }
@@ -122,9 +120,10 @@ export class Report {
   }
 
   /** Is it a difference of a point, of which nothing says that it has other than three coordinates? */
-  mayBePoint({ what, entity, attribute, texts }) {
-    if (what !== "instance" || !(entity ?? "").split("+").some((key) => this.isPoint(key))) return false;
-    return attribute !== COORDINATES || texts.some((text) => placeInSpace(text));
+  mayBePoint(found) {
+    const { what, attribute, indices, before, after } = found;
+    if (what !== "instance" || !(keywordsOfInstance(found) ?? "").split("+").some((key) => this.isPoint(key))) return false;
+    return attribute !== COORDINATES || indices !== null || [before, after].some((text) => text !== null && placeInSpace(text));
   }
 
   /** The next difference. Those of one instance stand one behind the other. */
@@ -165,19 +164,17 @@ export class Report {
 
   /** Reads the lines of these instances of a file. */
   read(side, names) {
-    if (names.size === 0) return;
-    for (const { name, start, end, bytes } of this.lines(side)) {
-      if (names.has(name)) this.linesByName[side].set(name, textOf(bytes.subarray(start, end)));
+    for (const name of names) {
+      const line = this.files.lineOf(side, name);
+      if (line) this.linesByName[side].set(name, line);
     }
   }
 
-  /** The lines of a file, each with its name. */
+  /** Where each line of a file stands. */
   *lines(side) {
     const bytes = this.files.canonical[side];
     for (const section of sectionsOf(bytes)) {
-      for (const { start, end } of linesFrom(bytes, section.start)) {
-        yield { name: textOf(bytes.subarray(start + 1, bytes.indexOf(0x3d, start))), start, end, bytes };
-      }
+      for (const { start, end } of linesFrom(bytes, section.start)) yield { start, end, bytes };
     }
   }
 
@@ -203,7 +200,7 @@ export class Report {
 
   /** A line with its references as links, and the values of these attributes marked. */
   marked(line, side, changed) {
-    const spans = changed.size > 0 ? [...this.spans(line, changed)] : [];
+    const spans = changed.size > 0 ? [...this.spans(line, (...place) => changed.has(place.join(".")))] : [];
     if (line.length > MOST_CHARACTERS) return `${this.linked(line.slice(0, MOST_CHARACTERS), side)} ..`;
     const found = [];
     let at = 0;
@@ -214,12 +211,14 @@ export class Report {
     return [...found, this.linked(line.slice(at), side)].join("");
   }
 
-  /** Where the values of these attributes stand in a line. */
-  *spans(line, changed) {
+  /** Where the values of some attributes stand in a line, of which each is told with the entity that declares it. */
+  *spans(line, isWanted) {
     const parts = readParts(line);
-    for (const part of parts) {
-      const names = namesOfValues(this.attributes, part, parts.length === 1);
-      for (const [at, { start, end }] of part.values.entries()) if (changed.has(`${part.key}.${names[at]}`)) yield [start, end];
+    const keys = parts.map(({ key }) => key);
+    for (const { key, values } of parts) {
+      for (const [at, place] of this.files.lengths.sets.placesOf(key, keys).entries()) {
+        if (isWanted(...place)) yield [values[at].start, values[at].end];
+      }
     }
   }
 
@@ -240,7 +239,7 @@ export class Report {
   // The parts of the page
 
   /** The page, of differences of which this is known and counted. By `owners` those stand together that one product owns. */
-  *page({ headline, verdict }, counts, owners) {
+  *page({ headline, leftOut, verdict }, counts, owners) {
     this.fetch();
     if (this.points.length > 0) this.readBehind();
     const names = this.paths.map(quotedInPage);
@@ -250,6 +249,7 @@ export class Report {
     yield `<title>${names[0]} and ${names[1]}</title>\n<style>${this.style}</style>\n</head>\n<body>`;
     yield `<h1>${quotedInPage(headline)}</h1>`;
     yield `<p><span class="side">A</span><code>${names[0]}</code><br><span class="side">B</span><code>${names[1]}</code></p>`;
+    if (leftOut) yield `<p id="left-unlisted">${quotedInPage(leftOut[0].toUpperCase() + leftOut.slice(1))}.</p>`;
     yield `<p class="verdict" id="verdict">${quotedInPage(verdict)}</p>`;
     yield* this.summary(counts);
     yield* this.plot();
@@ -318,7 +318,7 @@ export class Report {
 
   /** What is shown of an instance, a header record or a section, below a heading of this level. */
   *item({ first: found, all }, level) {
-    const entity = quotedInPage(found.entity || found.what);
+    const entity = quotedInPage((found.what === "instance" ? keywordsOfInstance(found) : found.entity) || found.what);
     const sides = [0, 1].filter((side) => found.names[side] !== null);
     const names = sides.map((side) => `<span class="soft">${"AB"[side]}</span> #${found.names[side]}`);
     const anchors = sides.map((side) => `${"ab"[side]}${found.names[side]}`);
@@ -346,12 +346,13 @@ export class Report {
   *written(found) {
     if (found.kind !== KINDS[0] || found.attribute === null) return;
     const lines = found.names.map((name, side) => this.linesByName[side].get(String(name ?? -1)) ?? "");
+    const isWanted = (...place) => place[0] === found.entity && place[1] === found.attribute;
     const values = lines.map((line) => {
-      const [start, end] = (line && this.spans(line, new Set([`${found.entity ?? ""}.${found.attribute}`])).next().value) || [0, 0];
+      const [start, end] = (line && this.spans(line, isWanted).next().value) || [0, 0];
       return line.slice(start, end);
     });
     if (Math.max(...values.map(({ length }) => length)) > MOST_CHARACTERS) return;
-    const units = this.isLength(lines[0], found) ? this.files.units : [null, null];
+    const units = this.isLength(found) ? this.files.units : [null, null];
     const plain = values.map((value, side) => withUnit(value, plainly(value), units[side]));
     if (!values.some(isSpelled) && plain.every((text, side) => text === plainly(values[side]))) return;
     const [before, after] = plain.map(quotedInPage);
@@ -359,10 +360,8 @@ export class Report {
   }
 
   /** Are the values of the attribute that changed in an instance lengths, of files that have a unit for these? */
-  isLength(line, { entity, attribute }) {
-    const keys = line ? readParts(line).map(({ key }) => key) : [];
-    const isKnown = this.files.units.some(Boolean) && keys.includes(entity);
-    return isKnown && this.files.lengths.at(keys, entity ?? "", attribute ?? "");
+  isLength({ entity, attribute }) {
+    return this.files.units.some(Boolean) && this.files.lengths.at(entity ?? "", attribute ?? "");
   }
 
   /** The instances that those in the list refer to, as far as they aren't in it. */
@@ -413,10 +412,10 @@ function ofLine(side, text) {
 }
 
 /** The texts of a difference outside of instances. */
-function* ofTexts({ kind, texts }) {
-  const sides = kind === KINDS[0] ? ["A", "B"] : kind === KINDS[1] ? ["B"] : ["A"];
-  for (const [at, text] of texts.entries()) {
-    yield ofLine(sides[at], quotedInPage(text.slice(0, MOST_CHARACTERS)) + (text.length > MOST_CHARACTERS ? " .." : ""));
+function* ofTexts({ before, after }) {
+  for (const [at, text] of [before, after].entries()) {
+    if (text === null) continue;
+    yield ofLine("AB"[at], quotedInPage(text.slice(0, MOST_CHARACTERS)) + (text.length > MOST_CHARACTERS ? " .." : ""));
   }
 }
 

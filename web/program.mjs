@@ -46,11 +46,13 @@ export class Text {
   }
 }
 
-/** The files of one run: those that it may open, by their names, and the two streams that it writes to. */
+/** The files of one run: those that it may open, by their names, and the two streams that it writes to, the first of which `take` may
+ *  have piece by piece. */
 class Streams {
-  constructor(files, heard) {
+  constructor(files, heard, take) {
     this.files = files;
     this.heard = heard;
+    this.take = take;
     this.opened = new Map();
     this.written = { 1: [], 2: [] };
   }
@@ -78,7 +80,8 @@ class Streams {
   }
 
   write(descriptor, from) {
-    this.written[descriptor].push(from.slice());
+    if (descriptor === 1 && this.take) this.take(from);
+    else this.written[descriptor].push(from.slice());
     return from.length;
   }
 
@@ -119,10 +122,11 @@ export class Program {
 
   /**
    * Runs a command over these files, which are texts by the names that the words give them. Answers what it wrote: bytes to
-   * the first stream, and to the second a line without its end and without notes. `heard` is told how far each file is read.
+   * the first stream, and to the second a line without its end and without notes. `heard` is told how far each file is read, and
+   * `take` has what is written to the first stream as it comes, where there is one: in the memory of the program.
    */
-  run(words, files = {}, heard = () => {}) {
-    const streams = new Streams(files, heard);
+  run(words, files = {}, heard = () => {}, take = null) {
+    const streams = new Streams(files, heard, take);
     const encoded = ["p21", ...words].map((word) => new TextEncoder().encode(word));
     let status;
     try {

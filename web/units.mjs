@@ -39,10 +39,10 @@ export class Lengths {
     this.types = new Map();
   }
 
-  /** Are the values of an attribute lengths, in an instance of these keywords? */
-  at(keys, key, attribute) {
-    const places = this.sets.placesOf(key, keys).filter(([, name]) => name === attribute);
-    return places.some(([entity, name]) => this.leadsToLength(this.sets.declared.get(`${entity}.${name}`)));
+  /** Are the values of an attribute lengths, which this entity declares? */
+  at(entity, attribute) {
+    const words = this.sets.declared.get(`${entity}.${attribute}`);
+    return words !== undefined && this.leadsToLength(words);
   }
 
   /** Does a type lead to a length whose words these are? */
@@ -105,7 +105,12 @@ export function unitOf(bytes) {
   return found.length();
 }
 
-/** A length as people write it, with its unit where it has one: a number, or three of them. */
+/** Does a value that is a length have a unit: a number, or three of them? */
+export function hasUnit(value) {
+  return value.startsWith("(") ? THREE.test(value) : /^[-\d]/.test(value);
+}
+
+/** A length as people write it, with its unit where it has one. */
 export function withUnit(value, plain, unit) {
-  return unit && (value.startsWith("(") ? THREE.test(value) : /^[-\d]/.test(value)) ? `${plain} ${unit}` : plain;
+  return unit && hasUnit(value) ? `${plain} ${unit}` : plain;
 }

@@ -8,7 +8,7 @@
 import { adapted } from "./adapting.mjs";
 import { headerOf, keywordsOf, syntaxOf } from "./alone.mjs";
 import { toleranceOf } from "./decimals.mjs";
-import { Files, SMALL_ENOUGH, equalBytes, tableName, whatOf } from "./differences.mjs";
+import { Files, SMALL_ENOUGH, equalBytes, tableName, textsAround, whatOf } from "./differences.mjs";
 import { GivenFile, refusalOf, toldOf } from "./files.mjs";
 import { Owners } from "./owners.mjs";
 import { kindOfLine } from "./kinds.mjs";
@@ -30,6 +30,8 @@ const SHOWN_DIFFERENCES = 1000;
 const MOST_WHOLE = 2000;
 const FIRST_PLACES = 300;
 const BETWEEN_MESSAGES = 100;
+// Two canonical files of so many bytes together are compared up to names unasked, where they seem to be numbered otherwise.
+const MOST_UNASKED = 1 << 25;
 // Two canonical files of so many bytes together are kept for what else is asked of them.
 const MOST_KEPT = 1 << 27;
 // The style and the script of a report.
@@ -97,15 +99,16 @@ function countInstances(bytes) {
 }
 
 /** A list of differences as it goes to the page, with what owns each that is shown where `owners` says that. */
-function sentList({ counts, shown, lines, ...known }, { units }, owners) {
-  const text = new Blob([lines.map((line) => `${line}\n`).join("")], { type: "text/plain" });
+function sentList({ counts, shown, lines, ...known }, files, owners) {
+  const first = known.leftOut ? [known.leftOut] : [];
+  const text = new Blob([[...first, ...lines].map((line) => `${line}\n`).join("")], { type: "text/plain" });
   if (owners) findOwned(shown, owners);
   const sent = shown.map((difference) => ({
     kind: difference.kind,
     what: whatOf(difference),
-    inTable: tableName(difference.what, difference.entity),
-    texts: difference.texts,
-    plain: difference.plain?.(units) ?? null,
+    inTable: tableName(difference),
+    texts: textsAround(difference),
+    plain: files.plain(difference),
     owner: owners ? ownerOf(difference, owners) : null,
   }));
   const { listed, inHeader, inTimeStamp } = counts;
@@ -293,21 +296,40 @@ class Job {
     this.outline = new Outline(first.served.text.bytes);
     const lengths = new Lengths(new Sets(this.outline));
     const heard = (count) => this.say({ progress: { name: `instance ${count}`, compares: true } });
+    const diff = ([one, other], rows) => {
+      const files = { schema: first.served.text, first: new Text(one), second: new Text(other) };
+      const words = ["diff", "--format", "jsonl", "--", "schema", "first", "second"];
+      this.say({ progress: { name: "", compares: true } });
+      const { error } = this.program.run(words, files, undefined, (bytes) => rows.hear(bytes));
+      if (error) throw new Trouble(error);
+    };
     const isSame = (one, other) => {
       const files = { schema: first.served.text, first: new Text(one), second: new Text(other) };
       return this.program.run(["same", "--", "schema", "first", "second"], files).status === 0;
     };
-    this.compared = new Files({ attributes, lengths, isSame, heard }, first.canonical, second.canonical);
+    this.compared = new Files({ attributes, lengths, diff, isSame, heard }, first.canonical, second.canonical);
     this.owners = new Map();
+    this.instances = this.compared.canonical.map(countInstances);
     return this.lists(this.asked);
   }
 
-  /** The lists of what differs: by names, and up to names where that is asked for or both files are small. */
+  /** The lists of what differs: by names, and up to names where that is asked for, and unasked where both files are small or seem to
+   *  be numbered otherwise. */
   lists(asked) {
     const names = this.list(false, asked);
-    const isSmall = this.compared.size <= SMALL_ENOUGH;
-    const upToNames = isSmall || asked.upToNames ? this.list(true, asked) : null;
-    return { asked, names, upToNames, isKept: this.compared.size <= MOST_KEPT };
+    const { size } = this.compared;
+    const seemRenamed = this.seemRenamed(names);
+    const isUnasked = size <= SMALL_ENOUGH || (size <= MOST_UNASKED && seemRenamed);
+    const upToNames = isUnasked || asked.upToNames ? this.list(true, asked) : null;
+    return { asked, names, upToNames, seemRenamed, isKept: size <= MOST_KEPT };
+  }
+
+  /** May fewer than half of the instances that belong together have one name in both files? Where as many are the same under their names
+   *  as half of the instances of a file, they haven't. */
+  seemRenamed({ table }) {
+    const ofInstances = table.filter(([name]) => name !== "(header)");
+    const other = ofInstances.reduce((sum, [, changed, , went]) => sum + changed + went, 0);
+    return 2 * (this.instances[0] - other) < Math.min(...this.instances);
   }
 
   /** The list of what differs by names, or up to names. */
@@ -328,7 +350,7 @@ class Job {
 
   /** The report of what differs, as p21-diff --format html writes it. */
   report({ names, data, tolerance }) {
-    const how = { names, data, tolerance: tolerance ? toleranceOf(tolerance) : null, isFull: true };
+    const how = { names, data, tolerance: tolerance ? toleranceOf(tolerance) : null };
     const report = new Report(
       this.compared,
       this.files.map(({ path }) => path),

@@ -29,14 +29,20 @@ function compared(schemaPath, paths) {
     const files = { schema, first: new Text(first), second: new Text(second) };
     return program.run(["same", "--", "schema", "first", "second"], files).status === 0;
   };
+  const diff = ([first, second], rows) => {
+    const files = { schema, first: new Text(first), second: new Text(second) };
+    const words = ["diff", "--format", "jsonl", "--", "schema", "first", "second"];
+    const { error } = program.run(words, files, undefined, (piece) => rows.hear(piece));
+    if (error) throw new Error(`${paths}: ${error}`);
+  };
   const outline = new Outline(schema.bytes);
-  return { outline, files: new Files({ attributes, lengths: new Lengths(new Sets(outline)), isSame }, ...canonical) };
+  return { outline, files: new Files({ attributes, lengths: new Lengths(new Sets(outline)), diff, isSame }, ...canonical) };
 }
 
 /** The report of what differs. */
 function report({ outline, files }, asked, paths) {
   const page = new Report(files, paths, style);
-  const { known, counts } = files.each({ ...asked, isFull: true }, (difference) => page.add(difference));
+  const { known, counts } = files.each(asked, (difference) => page.add(difference));
   const graph = files.graph(asked.names);
   const owners = graph && new Owners(graph, outline, files.attributes);
   return [...page.page(known, counts, owners?.hasProducts ? owners : null)].map((line) => `${line}\n`).join("");
@@ -48,8 +54,8 @@ function differences({ schema, files: paths, options, withReport }) {
   const tolerance = options.tolerance ? toleranceOf(options.tolerance) : null;
   return [false, true].map((names) => {
     const asked = { names, data: options.data ?? false, tolerance };
-    const { lines, verdict, counts } = found.files.list(asked, 0);
-    return { lines, verdict, table: counts.table(), report: withReport ? report(found, asked, paths) : null };
+    const { lines, verdict, leftOut, counts } = found.files.list(asked, 0);
+    return { lines, verdict, leftOut, table: counts.table(), report: withReport ? report(found, asked, paths) : null };
   });
 }
 
