@@ -60,7 +60,7 @@ if [ "$#" -eq 0 ]; then
     done
     set -- "$@" hostile/devices.sh hostile/changing.py hostile/transfers.py hostile/large.py hostile/stack.py \
         hostile/memory.py hostile/allocations.py hostile/calls.py fail_alloc.sh want_of_memory.sh two_ways.py edges.py room.py fuzz.py \
-        guided.sh growth.sh held.py ways.py hostile/larger.py published.py clusters.py
+        numbering.py guided.sh growth.sh held.py ways.py hostile/larger.py published.py clusters.py
 fi
 for part in "$@"; do
     case $part in

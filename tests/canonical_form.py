@@ -1,6 +1,7 @@
 #!/usr/bin/env python3
 """Holds docs/CANONICAL.md against the program: each of its examples, and the hashes of the canonical files of these and of
-the folder examples, which stay as they are for as long as the form has this version. P21 names another program than ./p21.
+the folder examples, which stay as they are for as long as the form has this version; and the same of numbered files. P21 names another
+program than ./p21.
 """
 
 import hashlib
@@ -31,11 +32,31 @@ OF_THE_PAGE = {
     12: "c0f5cb90c78268869eea5e56ac0bb5ff95975981be173437f78b1b20703c58a8",
 }
 
-# The schema of each accepted file of the folder examples, and the hash of its canonical file.
+# The schema of each accepted file of the folder examples, and the hashes of its canonical file and of its numbered file.
 OF_THE_FOLDER = {
-    "product.step": ("product.exp", "5d11fa2abae65fa2bff1265d357ae88c5adf85242cd77e53a1c8b9877eff411c"),
-    "product-other.step": ("product.exp", "5d11fa2abae65fa2bff1265d357ae88c5adf85242cd77e53a1c8b9877eff411c"),
-    "product-changed.step": ("product.exp", "2c7249104ea26fc6fa7c66495f8df8c2bf8f9ed06ab1ca0553e38d142f7e1c20"),
+    "product.step": (
+        "product.exp",
+        "5d11fa2abae65fa2bff1265d357ae88c5adf85242cd77e53a1c8b9877eff411c",
+        "9948ddeb53455f793f604fc453517978f0722d7a8fc5629b3f7566d7b2c2eddf",
+    ),
+    "product-other.step": (
+        "product.exp",
+        "5d11fa2abae65fa2bff1265d357ae88c5adf85242cd77e53a1c8b9877eff411c",
+        "9948ddeb53455f793f604fc453517978f0722d7a8fc5629b3f7566d7b2c2eddf",
+    ),
+    "product-changed.step": (
+        "product.exp",
+        "2c7249104ea26fc6fa7c66495f8df8c2bf8f9ed06ab1ca0553e38d142f7e1c20",
+        "c82c10a433e216b73931f02ed5ac2cb09effbdf18604e6ad3ebb091c0afab783",
+    ),
+}
+
+# The hash of the numbered file of each numbered example of the page, by its title; none where it has none.
+OF_THE_NUMBERED = {
+    "A chain": "dd0af835a6425f03f7c074c3c38d55a0c779fda18aa0679d6580ef705b09de3a",
+    "A list and a set": "1fff9e6fcd9a9442ecb964ea0c64ac972736ccdd5cefc38fcdd76e4935c221cc",
+    "Copies": "c81fb0f6b47f6bdfd16232f2a2549cfd8e7417a2ae1f355742ead1324e65b997",
+    "A circle of equals": None,
 }
 
 
@@ -58,6 +79,37 @@ def examples():
     return schema, [(title, whole(source), whole(canonical)) for title, source, canonical in pairs]
 
 
+def numbered_examples():
+    """The schema of the page's examples of numbered files, and of each its title, its source, and its numbered file or its refusal."""
+    page = PAGE.read_text(encoding="utf-8")
+    of_numbers = page.split("\n## The numbered file\n")[1].split("\n### The numbers\n")[1]
+    front, *sections = re.split(r"^### ", of_numbers, flags=re.M)
+    frame = examples()[1][0][2].replace("'FORM'", "'NET'")
+
+    def whole(text):
+        return text if text.startswith("refused ") else frame.replace("DATA;\n", f"DATA;\n{text}")
+
+    shown = [(section.splitlines()[0], *blocks_of(section)) for section in sections]
+    return blocks_of(front)[-1], [(title, whole(source), whole(answer)) for title, source, answer in shown]
+
+
+def of_the_numbered(tests):
+    """Each source has the numbered file that the page shows, which is its own and has the hash of the table, or the refusal."""
+    schema, shown = numbered_examples()
+    schema = tests.make("net.exp", schema)
+    for title, source, answer in shown:
+        wanted = ("", answer, 1) if answer.startswith("refused ") else (answer, "", 0)
+        path = tests.make("numbered.step", source)
+        tests.judge(f"{title}, source", wanted, canonical_of(tests, schema, path, "--names"))
+        if wanted[2] == 0:
+            path = tests.make("numbered.step", answer)
+            tests.judge(f"{title}, numbered file", wanted, canonical_of(tests, schema, path, "--names"))
+            tests.judge(f"{title}, its canonical file", wanted, canonical_of(tests, schema, path))
+        found = hashlib.sha256(answer.encode("ascii")).hexdigest() if wanted[2] == 0 else None
+        tests.judge(f"{title}, hash", OF_THE_NUMBERED[title], found)
+    tests.judge("the titles of numbered files", list(OF_THE_NUMBERED), [title for title, _, _ in shown])
+
+
 def of_the_page(tests):
     """Each source has the canonical file that the page shows, which is its own and has the hash of the table."""
     schema, shown = examples()
@@ -75,19 +127,20 @@ def of_the_page(tests):
     tests.judge("the bytes of the first example", len(shown[0][2]), bytes_said)
 
 
-def canonical_of(tests, schema, path):
-    """What the program prints as the canonical file."""
-    done = subprocess.run([tests.program, "canon", schema, path], capture_output=True, check=False)
+def canonical_of(tests, schema, path, *flags):
+    """What the program prints as the canonical file, or as the numbered one."""
+    done = subprocess.run([tests.program, "canon", *flags, schema, path], capture_output=True, check=False)
     return done.stdout.decode(), done.stderr.decode(), done.returncode
 
 
 def of_the_folder(tests):
-    """Each accepted file of the folder has the hash of the table, and no file is missing there."""
+    """Each accepted file of the folder has the hashes of the table, and no file is missing there."""
     names = {path.name for path in pathlib.Path("examples").glob("*.step")}
     tests.judge("the files of the folder", set(OF_THE_FOLDER), names)
-    for name, (schema, wanted) in OF_THE_FOLDER.items():
-        output, _, status = canonical_of(tests, f"examples/{schema}", f"examples/{name}")
-        tests.judge(f"{name}, hash", (wanted, 0), (hashlib.sha256(output.encode("ascii")).hexdigest(), status))
+    for name, (schema, *hashes) in OF_THE_FOLDER.items():
+        for wanted, flags in zip(hashes, ([], ["--names"])):
+            output, _, status = canonical_of(tests, f"examples/{schema}", f"examples/{name}", *flags)
+            tests.judge(f"{name}, hash {flags}", (wanted, 0), (hashlib.sha256(output.encode("ascii")).hexdigest(), status))
 
 
 def version(tests):
@@ -104,6 +157,7 @@ def version(tests):
 def main():
     tests = Tests("p21")
     of_the_page(tests)
+    of_the_numbered(tests)
     of_the_folder(tests)
     version(tests)
     tests.end()

@@ -1,6 +1,6 @@
 #!/usr/bin/env python3
 """Runs `p21 diff` over pairs of files that are made: against the lines that are worked out by hand, against `p21 same`, and against
-tools/p21-diff, which finds what differs in the canonical texts by itself. P21 names another program than ./p21.
+the canonical files, whose lines are held beside each other here. P21 names another program than ./p21.
 """
 
 import json
@@ -166,76 +166,173 @@ def run(*words):
     return done.stdout.decode(), done.stderr.decode(), done.returncode
 
 
-def element_at(text, indices):
-    """The element of a canonical value at these indices, counted from 1; nothing where it isn't there."""
-    for index in indices:
-        depth, quoted, found = 0, False, [""]
-        for sign in text[1:-1]:
-            quoted ^= sign == "'"
-            depth += (sign == "(") - (sign == ")") if not quoted else 0
-            if sign == "," and depth == 0 and not quoted:
-                found.append("")
-            else:
-                found[-1] += sign
-        text = found[index - 1] if index <= len(found) else ""
-    return text
+# --- What the canonical files say ---
 
 
-def told_by_tool(paths):
-    """What tools/p21-diff finds: for each difference its key, with the texts of both files."""
-    done = subprocess.run(["tools/p21-diff", "--format", "json", SCHEMA, *paths], capture_output=True, check=False, timeout=MOST_SECONDS)
-    found = {}
-    for line in done.stdout.decode().splitlines():
-        row = json.loads(line)
-        if row["kind"] != "verdict":
-            found[key_of(row)] = row
+def elements_of(text):
+    """What stands between the parentheses around a canonical text, by its commas."""
+    depth, quoted, found = 0, False, [""]
+    for sign in text[1:-1]:
+        quoted ^= sign == "'"
+        depth += (sign == "(") - (sign == ")") if not quoted else 0
+        if sign == "," and depth == 0 and not quoted:
+            found.append("")
+        else:
+            found[-1] += sign
+    return [] if found == [""] else found
+
+
+def parts_of(record):
+    """The keywords of a record, each with its values."""
+    found, depth, quoted, start = [], 0, False, 0
+    text = record[1:-1] if record.startswith("(") else record
+    for at, sign in enumerate(text):
+        quoted ^= sign == "'"
+        depth += (sign == "(") - (sign == ")") if not quoted else 0
+        if sign == ")" and depth == 0 and not quoted:
+            key, _, values = text[start : at + 1].partition("(")
+            found.append((key, elements_of(f"({values}")))
+            start = at + 1
     return found
 
 
-def key_of(row):
-    """What a difference is about: attributes in capital letters, those of a header record by their keyword."""
-    attribute = row.get("attribute", "").upper()
-    attribute = "?" if attribute.isdigit() else attribute
-    entity = row.get("entity") if row["what"] == "header" else None
-    text = row.get("before", row.get("after")) if row["what"] in ("section", "header") and not attribute else None
-    return row["kind"], row["what"], row.get("a"), row.get("b"), entity if attribute else None, attribute, text
+class Canonical:
+    """A canonical file: the records of its header, the lines that begin sections, and each instance with the line of its section."""
+
+    def __init__(self, path):
+        output, error, _ = run("canon", SCHEMA, path)
+        assert not error, error
+        lines = output.splitlines()
+        end = lines.index("ENDSEC;")
+        self.header = lines[2:end]
+        self.sections, self.instances = [], {}
+        for line in lines[end + 1 : -1]:
+            if line.startswith("DATA"):
+                self.sections.append(line)
+            elif line.startswith("#"):
+                name, _, record = line.rstrip(";").partition("=")
+                self.instances[int(name[1:])] = self.sections[-1], record, line
 
 
-def is_told_alike(row, other):
-    """Do the program and the tool show the same texts?"""
-    indices = row.get("indices", [])
-    for member in ("before", "after"):
-        text = other.get(member)
-        if indices and text is not None:
-            whole = element_at(text, indices)
-            if row.get(member) is not None and row[member] != whole:
-                return False
-        elif row.get("attribute") and row.get(member) != text:
-            return False
-    return True
+def text_at(text, indices):
+    """The element of a value at these indices, counted from 1; None where it isn't there."""
+    for index in indices:
+        elements = elements_of(text)
+        text = elements[index - 1] if index <= len(elements) else None
+    return text
 
 
-def against_tool(name, paths):
-    """What the program says otherwise than the tool, if anything."""
+def attributes_of(parts, listed):
+    """The names of the values of each part: in the external form those of the last ones of its entity."""
+    return [listed[key] if len(parts) == 1 else listed[key][max(len(listed[key]) - len(values), 0) :] for key, values in parts]
+
+
+def of_pair(name, one, other, listed):
+    """What differs in an instance that both files have."""
+    found = {("changed", "section of", name, None): (one[0], other[0])} if one[0] != other[0] else {}
+    parts = parts_of(one[1]), parts_of(other[1])
+    keys = ["+".join(key for key, _ in of_one) for of_one in parts]
+    if keys[0] != keys[1]:
+        return {**found, ("changed", "instance", name, None): tuple(keys)}
+    for (_, values), (_, others), names in zip(*parts, attributes_of(parts[0], listed)):
+        found.update((("changed", "instance", name, each), both) for each, *both in zip(names, values, others) if both[0] != both[1])
+    return found
+
+
+def told_by_texts(first, second, listed):
+    """What differs: for each difference its kind, what it is about, the name and the attribute, with the texts of both files."""
+    found = {}
+    for number in range(max(len(first.header), len(second.header))):
+        one, other = (each.header[number] if number < len(each.header) else None for each in (first, second))
+        if one is None or other is None:
+            found["came" if one is None else "went", "header", number, None] = one, other
+        elif one != other:
+            (key, values), (other_key, others) = parts_of(one)[0], parts_of(other)[0]
+            if (key, len(values)) != (other_key, len(others)):
+                found["changed", "header", number, None] = one, other
+            else:
+                of_record = {("changed", "header", key, at): both for at, both in enumerate(zip(values, others), 1) if both[0] != both[1]}
+                found.update(of_record)
+    for heading in {*first.sections} ^ {*second.sections}:
+        is_first = heading in first.sections
+        found["went" if is_first else "came", "section", heading, None] = (heading, None) if is_first else (None, heading)
+    for name in {*first.instances, *second.instances}:
+        one, other = first.instances.get(name), second.instances.get(name)
+        if one and other:
+            found.update(of_pair(name, one, other, listed))
+        else:
+            found["went" if one else "came", "instance", name, None] = one and one[2], other and other[2]
+    return found
+
+
+# The parameters of the header records that the files have, by their numbers.
+HEADER = {"FILE_NAME": ["NAME", "TIME_STAMP", "AUTHOR", "ORGANIZATION", "PREPROCESSOR_VERSION", "ORIGINATING_SYSTEM", "AUTHORIZATION"]}
+
+
+def key_of(row, rows):
+    """What a row of the program is about, by the same names."""
+    attribute, name = row.get("attribute"), row.get("a", row.get("b"))
+    if row["what"] == "header" and attribute:
+        name = row["entity"]
+        attribute = HEADER[name].index(attribute) + 1 if name in HEADER else int(attribute)
+    elif row["what"] == "header":
+        name = next(number for number, each in rows if each is row)
+    elif row["what"] == "section":
+        name = row.get("before", row.get("after"))
+    return row["kind"], row["what"], name, attribute
+
+
+def is_told_alike(row, texts):
+    """Does the program show these texts, where it has indices those of the element alone, and where an element came or went that one?"""
+    told, indices = [row.get("before"), row.get("after")], row.get("indices", [])
+    if not indices:
+        return told == list(texts)
+    if None not in told:
+        return told == [text_at(text, indices) for text in texts] and told[0] != told[1]
+    *around, last = indices
+    longer, shorter = (elements_of(text_at(text, around)) for text in (texts if told[1] is None else reversed(texts)))
+    return longer[last - 1] == (told[0] or told[1]) and longer[: last - 1] + longer[last:] == shorter
+
+
+def has_keywords(row, first):
+    """Does the row of a value have the keywords of its instance, and no other row any?"""
+    is_value = row["what"] == "instance" and "attribute" in row
+    wanted = "+".join(key for key, _ in parts_of(first.instances[row["a"]][1])) if is_value else None
+    return row.get("keywords") == wanted
+
+
+def against_texts(name, paths, listed):
+    """What the program says otherwise than the canonical files, if anything."""
     output, error, status = run("diff", "--format", "jsonl", SCHEMA, *paths)
     rows = [json.loads(line) for line in output.splitlines()]
-    tool = told_by_tool(paths)
     if error or not rows or rows[-1]["kind"] != "verdict":
         return f"{name}: {error or output}"
-    mine = {key_of(row): row for row in rows[:-1]}
+    first, second = map(Canonical, paths)
+    wanted = told_by_texts(first, second, listed)
+    whole = sorted(key[2] for key in wanted if key[1] == "header" and key[3] is None)
+    numbered = list(zip(whole, (row for row in rows[:-1] if row["what"] == "header" and "attribute" not in row)))
+    mine = {key_of(row, numbered): row for row in rows[:-1]}
     if len(mine) != len(rows) - 1:
         return f"{name}: a difference is listed twice"
-    if set(mine) != set(tool):
-        return f"{name}: {sorted(map(str, set(mine) ^ set(tool)))}"
-    wrong = [key for key, row in mine.items() if not is_told_alike(row, tool[key])]
+    if set(mine) != set(wanted):
+        return f"{name}: {sorted(map(str, set(mine) ^ set(wanted)))}"
+    wrong = [key for key, row in mine.items() if not is_told_alike(row, wanted[key]) or not has_keywords(row, first)]
     if wrong:
-        return f"{name}: {wrong[0]}: {mine[wrong[0]]} {tool[wrong[0]]}"
+        return f"{name}: {wrong[0]}: {mine[wrong[0]]} {wanted[wrong[0]]}"
     same = run("same", SCHEMA, *paths)
     if (same[0] == "same\n") != (status == 0) or (status == 0) != (not mine):
         return f"{name}: {same[0]!r}, status {status}, {len(mine)} differences"
     counts = [sum(row["kind"] == kind for row in mine.values()) for kind in ("changed", "came", "went")]
     return None if counts == [rows[-1][kind] for kind in ("changed", "came", "went")] else f"{name}: {counts} {rows[-1]}"
 
+
+def listed_attributes():
+    """The attributes of each entity, as `p21 schema` lists them."""
+    lines = (line.removeprefix("ABSTRACT ").rstrip(")").partition("(") for line in run("schema", SCHEMA)[0].splitlines()[1:])
+    return {name: values.split(",") if values else [] for name, _, values in lines}
+
+
+# --- Files that are made ---
 
 UNITS = [
     "(LENGTH_UNIT()NAMED_UNIT(*)SI_UNIT(.MILLI.,.METRE.))",
@@ -294,7 +391,7 @@ def text_of(lines, chance, count):
 def main():
     """Compares files."""
     os.chdir(ROOT)
-    failed, passed = [], 0
+    failed, passed, listed = [], 0, listed_attributes()
     with tempfile.TemporaryDirectory() as folder:
         paths = [os.path.join(folder, name) for name in ("a.step", "b.step")]
 
@@ -308,7 +405,7 @@ def main():
             wanted = "".join(line + "\n" for line in lines), "", int(lines != ["same"])
             found = run("diff", SCHEMA, *paths)
             wrong = None if found == wanted else f"{name}: {found} and not {wanted}"
-            for problem in (wrong, against_tool(name, paths)):
+            for problem in (wrong, against_texts(name, paths, listed)):
                 passed += problem is None
                 failed += [problem] if problem else []
         chance = random.Random(SEED)
@@ -317,11 +414,11 @@ def main():
             count = chance.randrange(3)
             other = chance.choice([count, count, chance.randrange(3)])
             make(text_of(lines, chance, count), text_of(edited(lines, chance), chance, other))
-            problem = against_tool(f"pair {number}", paths)
+            problem = against_texts(f"pair {number}", paths, listed)
             passed += problem is None
             failed += [problem] if problem else []
         for first, second in (("product", "product-changed"), ("product", "product-other"), ("product-changed", "product-other")):
-            problem = against_tool(f"{first} and {second}", [f"examples/{first}.step", f"examples/{second}.step"])
+            problem = against_texts(f"{first} and {second}", [f"examples/{first}.step", f"examples/{second}.step"], listed)
             passed += problem is None
             failed += [problem] if problem else []
         make(POINT, POINT)

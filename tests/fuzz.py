@@ -69,7 +69,13 @@ class Program:
 # A line behind those of a command, about a file that it was given.
 NOTE = re.compile("^note: .*\n", re.M)
 # The words of a command that is not its own word.
-WORDS = {"check_all": ["check", "--all"], "syntax_told": ["syntax", "--header", "--count"]}
+WORDS = {
+    "check_all": ["check", "--all"],
+    "syntax_told": ["syntax", "--header", "--count"],
+    "check_names": ["check", "--names"],
+    "canon_names": ["canon", "--names"],
+    "same_names": ["same", "--names"],
+}
 
 
 def names_of(command):
@@ -80,6 +86,7 @@ def names_of(command):
         "syntax": ["file.step"],
         "syntax_told": ["file.step"],
         "same": ["schema.exp", "first.step", "second.step"],
+        "same_names": ["schema.exp", "first.step", "second.step"],
     }.get(command, ["schema.exp", "file.step"])
 
 

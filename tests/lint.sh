@@ -11,6 +11,11 @@ for checker in pyflakes3 mypy shellcheck; do
         exit 77
     fi
 done
+rattle=$(dirname -- "$(readlink -f -- "$(command -v rt)")")/rattle
+if [ ! -x "$rattle" ]; then
+    echo "skipped: there is no toolchain beside rt"
+    exit 77
+fi
 failed=0
 
 # with FIRST_LINE FOLDER..: the files below these folders that begin so, but for what is made.
@@ -40,6 +45,8 @@ done
 
 { with '^#!.*(sh|bash)$' making tests benchmarks .ci p21; echo making/building.sh; } |
     xargs -d '\n' shellcheck --severity=warning || failed=1
+
+find crates -name out -prune -o \( -name '*.rt' -o -name '*.antt' \) -type f -print0 | xargs -0 -n 1000 "$rattle" fmt --check || failed=1
 
 [ "$failed" -eq 0 ] && echo "lint: $(echo "$python" | wc -l) files of Python, all scripts of a shell, and the page's as one"
 exit "$failed"

@@ -1,8 +1,9 @@
 #!/usr/bin/env python3
 """Compares real files up to the names of their instances: tests/names_of_real_files.py SCHEMA FILE..
 
-Each file is given other names and another order by a seed: the tools must say that it is the same, and give it the same
-hash. Then a real of one point is changed too, and just that value must be listed. docs/RECIPES.md says where such files are
+Each file is given other names and another order by a seed: the tools must say that it is the same, and the program must write the
+same bytes for both, or refuse both as 59. Then a real of one point is changed too, and just that value must be listed, and other bytes
+written. docs/RECIPES.md says where such files are
 to be had. P21 names another program than ./p21.
 """
 
@@ -38,8 +39,8 @@ def tried(schema, path, seed, folder):
     if status != 0 or len(lines) != 1 or not lines[0].startswith("same up to names: "):
         yield f"shuffled: {lines[-1:]} {status} {error}"
     rows = [json.loads(line) for line in answer("p21-table", "--names", "--format", "json", schema, path, other)[0]]
-    if rows[0]["sha256"] != rows[1]["sha256"]:
-        yield "shuffled: another hash"
+    if [row["sha256"] for row in rows] != 2 * [rows[0]["sha256"]] or [row["number"] for row in rows] not in ([None, None], [59, 59]):
+        yield f"shuffled: {rows}"
     points = list(POINT.finditer(text))
     if points:
         found = points[len(points) // 2]
@@ -47,9 +48,12 @@ def tried(schema, path, seed, folder):
             file.write(shuffled(text[: found.start(1)] + b"12345.678" + text[found.end(1) :], seed)[0])
         lines, status, error = answer("p21-diff", "--names", "--format", "json", schema, path, other)
         objects = [json.loads(line) for line in lines]
+        changed = json.loads(answer("p21-table", "--names", "--format", "json", schema, other)[0][0])
+        if changed["sha256"] == rows[0]["sha256"] and rows[0]["sha256"]:
+            yield "one value changed: the same hash"
         if status != 1 or len(objects) != 2 or objects[0]["attribute"] != "COORDINATES":
             yield f"one value changed: {len(objects) - 1} lines, {lines[:2]} {error}"
-    print(f"{path}: {rows[0]['instances']} instances, {'decided' if rows[0]['decided'] else 'not decided'}", flush=True)
+    print(f"{path}: {rows[0]['answer']}, instances {rows[0]['instances']}", flush=True)
 
 
 def main():

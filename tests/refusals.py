@@ -1,11 +1,11 @@
 #!/usr/bin/env python3
 """Whether each refusal has one number, one name and one sentence. What making/make-refusals makes of docs/FAULTS.md has to be as it
 makes it. The list there is compared with the titles of its sections and with what the pages show, with the code
-(crates/*/src/fault.rt) and with the definitions that its contracts cite (crates/*/specs/Fault.antt); so are the names and numbers
-of what is left out, by their table there and by the section of LeftOut; the sentence of each fault of each crate, by the table of
-sentences; and what tools/p21_files.py and web/files.mjs say was wanted. A test of the gate (crates/p21_test_stream_parts) runs the
-code on each row of the table of sentences, but can't see that a fault has no row. The status is 1 where something differs, is
-missing or isn't listed.
+(crates/*/src/fault.rt, and refusal.rt for 59) and with the definitions that its contracts cite (crates/*/specs/Fault.antt,
+Refusals.antt); so are the names and numbers of what is left out, by their table there and by the section of LeftOut; the sentence of
+each fault of each crate, by the table of sentences; and what tools/p21_files.py and web/files.mjs say was wanted. A test of the gate
+(crates/p21_test_stream_parts) runs the code on each row of the table of sentences, but can't see that a fault has no row. The status
+is 1 where something differs, is missing or isn't listed.
 """
 
 import pathlib
@@ -17,12 +17,14 @@ ROOT = pathlib.Path(__file__).resolve().parent.parent
 PAGES = ["README.md", "examples/README.md", *(path.relative_to(ROOT).as_posix() for path in sorted((ROOT / "docs").rglob("*.md")))]
 HELP = "crates/p21_command_line/src/help.rt"
 CODE = {
-    "files": ("p21_values", "p21_tokens", "p21_grammar", "p21_grammar_tree", "p21_stream_statements"),
+    "files": ("p21_values", "p21_tokens", "p21_grammar", "p21_grammar_tree", "p21_stream_statements", "p21_stream_numbered"),
     "schemas": ("p21_express_lexemes", "p21_express_outline"),
 }
 
 # An attribute of thiserror with its text, and below it the fault: a case of an enumeration, or a type of its own.
 SENTENCE = re.compile(r'#\[error\("([^"]*)"\)\]\n\s*(?:pub struct )?(\w+)')
+# Refusals of which no fault prints a sentence.
+UNSAID = {"59"}
 # Faults that print what they hold.
 HOLDS = ("{0}", "{fault} {at}")
 MADE = runpy.run_path(str(ROOT / "making" / "make-refusals"))
@@ -52,12 +54,13 @@ def pairs_of(numbers, names):
 
 def pairs_in_code(crate):
     """What `number` and `name` answer in the code, and what their contracts cite."""
-    text = read(f"crates/{crate}/src/fault.rt")
-    names = dict(re.findall(r'\w+::(\w+) => "(\w+)",', text))
-    yield "src/fault.rt", list(pairs_of(re.findall(r"\w+::(\w+)(?:\(\w+\))? => (\d+),", text), names))
-    text = read(f"crates/{crate}/specs/Fault.antt")
-    names = dict(re.findall(r'^fault_name (\w+) = codes "(\w+)"$', text, re.M))
-    yield "specs/Fault.antt", list(pairs_of(re.findall(r"^fault_number \(?(\w+)(?: \w+\))? = (\d+)$", text, re.M), names))
+    code, specs = ("refusal.rt", "Refusals.antt") if crate == "p21_stream_numbered" else ("fault.rt", "Fault.antt")
+    text = read(f"crates/{crate}/src/{code}")
+    names = dict(re.findall(r'\w+::(\w+)(?:\([\w, ]+\))? => "(\w+)",', text))
+    yield "src/fault.rt", list(pairs_of(re.findall(r"\w+::(\w+)(?:\([\w, ]+\))? => (\d+),", text), names))
+    text = read(f"crates/{crate}/specs/{specs}")
+    names = dict(re.findall(r'^(?:fault|refusal)_name \(?(\w+)[\w ]*\)? = codes "(\w+)"$', text, re.M))
+    yield "specs/Fault.antt", list(pairs_of(re.findall(r"^(?:fault|refusal)_number \(?(\w+)[\w ]*\)? = (\d+)$", text, re.M), names))
 
 
 def schemas(pairs):
@@ -121,7 +124,7 @@ def wrong_in_sentences(refusals):
         if known.get(fault) != found.get(fault):
             yield f"{fault}: the code says {found.get(fault)!r}, and docs/FAULTS.md {known.get(fault)!r}"
     numbers = {said.number for said in refusals.said}
-    yield from (f"docs/FAULTS.md: {number} in one of the list and the sentences" for number in sorted(numbers ^ refusals.names.keys()))
+    yield from (f"docs/FAULTS.md: {number} in one of the list and the sentences" for number in sorted(numbers ^ refusals.names.keys() ^ UNSAID))
 
 
 def wrong_in_wanted():

@@ -209,7 +209,7 @@ def faults(folder):
                 schema.write_text("\n".join(blocks[0]) + "\n")
                 frame = [line.replace("PRODUCT_MODEL", "TWO") for line in FRAME]
             text.write_text("\n".join(file_with(blocks[-1], section, frame)) + "\n")
-            arguments = ["check", str(schema), str(text)]
+            arguments = ["check", *(["--names"] if "With `--names`: " in section else []), str(schema), str(text)]
         yield f"FAULTS.md: {title}", arguments, found[1]
 
 

@@ -1228,8 +1228,14 @@ def of_pages(folder):
     for title, source, canonical in examples:
         yield canon(f"CANONICAL.md: {title}, source", schema, source, canonical)
         yield canon(f"CANONICAL.md: {title}, canonical file", schema, canonical, canonical)
-    for title, (command, *paths), answer in texts.faults(folder):
-        yield Case(title, command, [(ROOT / path).read_bytes() for path in paths], answered(answer))
+    schema, examples = canonical_form.numbered_examples()
+    for title, source, answer in examples:
+        wanted = ("", answer, 1) if answer.startswith("refused ") else (answer, "", 0)
+        yield Case(f"CANONICAL.md: {title}", "canon_names", [schema, source], wanted)
+    for title, (command, *words), answer in texts.faults(folder):
+        paths = [word for word in words if word != "--names"]
+        named = f"{command}_names" if paths != words else command
+        yield Case(title, named, [(ROOT / path).read_bytes() for path in paths], answered(answer))
     every = [*every_refusal.RECORDS, *every_refusal.REFERENCES, every_refusal.AGAIN]
     for rows in [[row] for row in every] + [every]:
         text, _, listed = every_refusal.broken(rows)

@@ -1,5 +1,6 @@
 #!/usr/bin/env python3
-"""Shows what tests/fuzz.py finds: each rule below is turned in a copy of the plain reading, and a case must tell them apart.
+"""Shows what tests/fuzz.py and tests/numbering.py find: each rule below is turned in a copy of the plain reading, and a case must tell
+them apart.
 
     tests/wrong_readings.py [NUMBER..]     the rules of these numbers, or all
 
@@ -48,14 +49,42 @@ RULES = [
     ("a reference serves anywhere", "records", "return not need.wanted.isdisjoint(entities)", "return True"),
     ("names of instances differ in each section alone", "files", "if statement.name in self.meaning.instances:", "if statement.name in self.meaning.instances and self.meaning.instances[statement.name][0] == self.section:"),
     ("the name of the schema counts its case", "files", "[0].upper() == schema.name", "[0] == schema.name"),
-    ("the elements of a set fall", "canonical", "return joined(sorted(map(value, elements)))", "return joined(sorted(map(value, elements), reverse=True))"),
+    ("the elements of a set fall", "canonical", "return joined(sorted(value(x, names) for x in elements))", "return joined(sorted((value(x, names) for x in elements), reverse=True))"),
     ("sections rise without their apostrophes", "canonical", 'key=lambda x: "" if x is None else section_name(x)', 'key=lambda x: "" if x is None else section_name(x)[1:-1]'),
-    ("parts stand in any order", "canonical", "for e in sorted(meaning.entities)]", "for e in meaning.entities]"),
+    ("parts stand in any order", "canonical", "for e in sorted(meaning.entities)\n    )", "for e in meaning.entities\n    )"),
+]
+# Those of the rules by which names of instances don't count, which tests/numbering.py tells apart.
+RULES_OF_NUMBERS = [
+    ("a place counts the elements of a list from 0", "numbering", "enumerate(elements, 1)", "enumerate(elements, 0)"),
+    ("it counts how often an element is in a bag", "numbering", "for element, _ in counted:\n                yield from (((0, *way)", "for element, often in counted:\n                yield from (((often, *way)"),
+    ("the name of a section says nothing", "numbering", "[section.name, section.schema_text]", "[section.schema_text]"),
+    ("users come before what is used", "numbering", "return [side, *(step + 1", "return [1 - side, *(step + 1"),
+    ("no 0 stands behind a place", "numbering", "for step in place), 0, rank]", "for step in place), rank]"),
+    ("only what is used counts", "numbering", "        if use.user in fresh:", "        if False:"),
+    ("all are always fresh, to the end", "numbering", "    return {name for name in rank if rank[name] not in left_out}", "    return set(rank) if rank != before else set()"),
+    ("of several largest parts the last is left out", "numbering", "(-sizes[part], part)", "(-sizes[part], -part)"),
+    ("the smallest part is left out", "numbering", "(-sizes[part], part)", "(sizes[part], part)"),
+    ("ranks are counted without gaps", "numbering", "for position, name in enumerate(sorted(keys, key=keys.__getitem__)):\n        below.setdefault(key_of(keys[name]), position)", "for name in sorted(keys, key=keys.__getitem__):\n        below.setdefault(key_of(keys[name]), len(below))"),
+    ("instances of one rank may say what they like", "numbering", "if first[1:] != other[1:]:", "if False:"),
+    ("references to those that share ranks are free", "numbering", "                if self.shares(target):", "                if False:"),
+    ("a set may have some of a rank", "numbering", "self.of_rank[self.rank[element[1]]] <= plain)", "True)"),
+    ("no set may have all of a rank", "numbering", "if not (element[0] == \"name\" and self.of_rank[self.rank[element[1]]] <= plain):", "if True:"),
+    ("two of a rank may hang together", "numbering", "                if ranks[self.rank[name]] > 1:", "                if False:"),
+    ("copies of each rank stand in a sequence of their own", "numbering", "key=lambda name: (self.rank[name], copy[name])", "key=lambda name: (self.rank[name], copy[name] * (-1) ** self.rank[name])"),
+    ("numbers are counted from 0", "numbering", "enumerate(order, 1)", "enumerate(order, 0)"),
 ]
 
 
+def script(copy, module):
+    """The command line of the script that tells a wrong reading of this module apart, and how it names a case."""
+    if module == "numbering":
+        return [ROOT / "tests/numbering.py", "--seed", SEED], r"^((?:pair|file) \d+) of seed"
+    words = [ROOT / "tests/fuzz.py", "--plain", copy, "--seed", SEED, "--cases", str(MOST_CASES), "--keep", copy / "kept"]
+    return words, r"difference in (case \d+)"
+
+
 def found_at(folder, module, old, new):
-    """The number of the first case that tells the wrong reading from the program: none where none does."""
+    """The first case that tells the wrong reading from the program: none where none does."""
     copy = pathlib.Path(folder)
     shutil.copytree(ROOT / "tests/plain", copy / "plain", ignore=shutil.ignore_patterns("__pycache__"))
     path = copy / "plain" / f"{module}.py"
@@ -63,24 +92,25 @@ def found_at(folder, module, old, new):
     if text.count(old) != 1:
         sys.exit(f"{module}.py has this {text.count(old)} times: {old}")
     path.write_text(text.replace(old, new))
-    words = [ROOT / "tests/fuzz.py", "--plain", copy, "--seed", SEED, "--cases", str(MOST_CASES), "--keep", copy / "kept"]
-    environment = dict(os.environ, PYTHONDONTWRITEBYTECODE="1", PYTHONHASHSEED="1")
+    words, case = script(copy, module)
+    environment = dict(os.environ, PYTHONDONTWRITEBYTECODE="1", PYTHONHASHSEED="1", P21_PLAIN=str(copy), TMPDIR=folder)
     run = subprocess.run(words, env=environment, capture_output=True, text=True, check=False)
-    number = re.search(r"difference in case (\d+)", run.stdout)
-    if number is None and run.returncode != 0:
-        sys.exit(f"fuzz.py ended with status {run.returncode}:\n{run.stderr[-2000:]}")
-    return number and int(number[1])
+    found = re.search(case, run.stdout, re.M)
+    if found is None and run.returncode != 0:
+        sys.exit(f"{words[0].name} ended with status {run.returncode}:\n{run.stderr[-2000:]}")
+    return found and found[1]
 
 
 def main():
-    chosen = [int(word) for word in sys.argv[1:]] or range(1, len(RULES) + 1)
+    rules = RULES + RULES_OF_NUMBERS
+    chosen = [int(word) for word in sys.argv[1:]] or range(1, len(rules) + 1)
     missed = 0
     for number in chosen:
-        title, module, old, new = RULES[number - 1]
+        title, module, old, new = rules[number - 1]
         with tempfile.TemporaryDirectory() as folder:
             case = found_at(folder, module, old, new)
         missed += case is None
-        print(f"{number} {title}: {'NOT FOUND' if case is None else f'case {case}'}", flush=True)
+        print(f"{number} {title}: {case or 'NOT FOUND'}", flush=True)
     print(f"{len(chosen)} wrong readings, {missed} not found")
     sys.exit(missed > 0)
 

@@ -832,6 +832,92 @@ def records_of_two_leaves(n, folder):
     return check(folder, [EACH_KIND], ("#%d=(A()B()C()D());\n" % k for k in range(n)))
 
 
+# Models for `canon --names`, the worst shapes for ranks by rounds: nodes that are equal but for what they refer to.
+
+NODES = (
+    "ENTITY node; mark : INTEGER; one : OPTIONAL node; other : OPTIONAL node; END_ENTITY;"
+    " ENTITY hub; all : SET OF node; next : hub; END_ENTITY;\n"
+)
+
+
+def numbered(folder, lines):
+    return ["canon", "--names", schema_of(folder, [NODES]), data(folder, lines, "S")]
+
+
+def node(name, one=0, other=0, mark=0):
+    """A node that refers to up to two others; 0 is none."""
+    return "#%d=NODE(%d,%s,%s);\n" % (name, mark, *("#%d" % it if it else "$" for it in (one, other)))
+
+
+def path(n, mark=lambda k: 0):
+    return (node(k, k + 1 if k < n else 0, mark=mark(k)) for k in range(1, n + 1))
+
+
+def numbers_of_points(n, folder):
+    return ["canon", "--names", str(DEMO), data(folder, ("#%d=POINT($,%d.,%d.);\n" % (k, k % 977, k % 991) for k in shuffled_names(n)))]
+
+
+def numbers_along_a_path(n, folder):
+    """Half as many rounds as nodes, each of which tells two."""
+    return numbered(folder, path(n))
+
+
+def numbers_along_a_ruler(n, folder):
+    """A path whose marks are those of a ruler: it is told apart by halves."""
+    return numbered(folder, path(n, lambda k: (k & -k).bit_length() % 2))
+
+
+def numbers_on_a_circle(n, folder):
+    """A circle whose marks are the Fibonacci word, for which halving has the most to do."""
+    word, more = "0", "01"
+    while len(more) < n:
+        word, more = more, more + word
+    return numbered(folder, (node(k, k % n + 1, mark=int(more[k - 1])) for k in range(1, n + 1)))
+
+
+def numbers_of_a_de_bruijn_graph(n, folder):
+    """A De Bruijn graph: in each round nearly all nodes are fresh."""
+    whole = 1 << (n.bit_length() - 1)
+    return numbered(folder, (node(k + 1, 2 * k % whole + 1, (2 * k + 1) % whole + 1) for k in range(whole)))
+
+
+def numbers_of_a_grid(n, folder):
+    side = int(n ** 0.5)
+
+    def at(row, column):
+        return row * side + column + 1 if row < side and column < side else 0
+    return numbered(folder, (node(at(row, column), at(row + 1, column), at(row, column + 1)) for row in range(side) for column in range(side)))
+
+
+def numbers_of_a_random_graph(n, folder):
+    chance = random.Random(1)
+    return numbered(folder, (node(k, chance.randint(1, n), chance.randint(1, n)) for k in range(1, n + 1)))
+
+
+def numbers_on_a_comb(n, folder):
+    """Paths of 1, 2, 3 nodes and so on, which begin along a path."""
+    def teeth():
+        first, length = 1, 1
+        while first + length <= n:
+            behind = first + length + 1
+            yield node(first, behind if behind + length + 1 <= n else 0, first + 1)
+            for k in range(first + 1, behind):
+                yield node(k, k + 1 if k + 1 < behind else 0)
+            first, length = behind, length + 1
+    return numbered(folder, teeth())
+
+
+def numbers_below_hubs(n, folder):
+    """Ten hubs in a circle, each of which holds all nodes of a path: no two of them are told apart, and it is refused."""
+    held = ",".join("#%d" % k for k in range(11, n + 11))
+    hubs = ("#%d=HUB((%s),#%d);\n" % (k, held, k % 10 + 1) for k in range(1, 11))
+    return numbered(folder, [*hubs, *(node(k + 10, k + 11 if k < n else 0) for k in range(1, n + 1))])
+
+
+def numbers_of_equal_pairs(n, folder):
+    return numbered(folder, (node(k, k + 1 if k % 2 else 0) for k in range(1, 2 * n + 1)))
+
+
 globals().update({name: of_lines(made) for name, made in LINES.items()})
 globals().update({name: of_file(made) for name, made in WHOLE.items()})
 globals().update({name: of_schema(made) for name, made in TEXTS.items()})

@@ -122,6 +122,9 @@ ROWS = [
     *(Row(name, 1_000) for name in ("one_instance_shown", "records_listed", "names_given_twice_listed", "references_listed")),
     *(Row(name, 1_000) for name in ("references_to_refused_instances", "few_listed_of_many", "few_references_listed_of_many")),
     *(Row(name, 1_000) for name in ("canonical_references", "canonical_texts")),
+    *(Row(name, 1_000) for name in ("numbers_of_points", "numbers_of_equal_pairs", "numbers_along_a_path", "numbers_along_a_ruler")),
+    *(Row(name, 1_000) for name in ("numbers_on_a_circle", "numbers_of_a_de_bruijn_graph", "numbers_of_a_grid", "numbers_of_a_random_graph")),
+    *(Row(name, 1_000) for name in ("numbers_on_a_comb", "numbers_below_hubs")),
     Row("canonical_sections", 500),
     *(Row(name, 1_000, 8_000_000) for name in ("parameter_of_letters", "parameter_of_digits")),
     *(Row(name, 1_000) for name in ("values_of_each_kind", "values_with_remarks", "references_ahead_to_small_sets", "records_of_two_leaves")),
@@ -135,6 +138,17 @@ OPEN = {
     "lists_in_lists": Open(1.0, 0.7, 1.60, "0.4 s, 55 MB"),
     "sets_32_deep": Open(1.0, 0.7, 0.86, "0.2 s, 31 MB"),
     "attributes_one_by_one": Open(0.5, 1.1, 6.55, "0.7 s, 328 MB"),
+    # Seen with a program without a proof, beside other work, 30 November 2026.
+    "numbers_of_points": Open(1.7, 0.6, 7.00, "1.9 s, 194 MB"),
+    "numbers_of_equal_pairs": Open(1.5, 0.7, 5.98, "1.8 s, 192 MB"),
+    "numbers_along_a_path": Open(97.0, 0.8, 0.78, "17.9 s, 30 MB"),
+    "numbers_along_a_ruler": Open(50.0, 0.8, 0.78, "9.2 s, 30 MB"),
+    "numbers_on_a_circle": Open(81.8, 0.8, 0.78, "15.1 s, 30 MB"),
+    "numbers_of_a_de_bruijn_graph": Open(4.7, 0.8, 1.93, "2.0 s, 69 MB"),
+    "numbers_of_a_grid": Open(4.1, 0.8, 3.87, "3.5 s, 129 MB"),
+    "numbers_of_a_random_graph": Open(2.6, 0.8, 3.89, "2.0 s, 131 MB"),
+    "numbers_on_a_comb": Open(6.0, 0.8, 3.23, "4.2 s, 113 MB"),
+    "numbers_below_hubs": Open(27.0, 0.8, 1.39, "8.4 s, 52 MB"),
 }
 
 

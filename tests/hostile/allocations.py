@@ -55,6 +55,17 @@ TWO_FILES = [
         ["point", "twice"],
     )
 ]
+NAMES = [
+    ["canon", "--names", "demo.exp", "late"],
+    ["canon", "--names", "demo.exp", "alike"],
+    ["check", "--names", "demo.exp", "late"],
+    ["check", "--names", "--all", "demo.exp", "late"],
+    ["check", "--names", "--all", "demo.exp", "alike"],
+    ["same", "--names", "demo.exp", "late", "late.other"],
+    ["same", "--names", "demo.exp", "bags", "bags.other"],
+    ["same", "--names", "demo.exp", "alike", "alike.other"],
+    ["same", "--names", "demo.exp", "late", "twice"],
+]
 WORDS = [
     ["--help"],
     ["param", "--help"],
@@ -80,6 +91,7 @@ PARTS = {
     "refusals": REFUSED,
     "every refusal": EVERY_REFUSAL,
     "same": TWO_FILES,
+    "names": NAMES,
     "help and usage": WORDS,
 }
 

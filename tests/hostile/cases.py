@@ -142,6 +142,9 @@ LONG_VALUES = file_of(
     f"'{LONG_DIGITS}\\X2\\00E900E8\\X0\\\u00e9' , ( '{LONG_DIGITS}b' , '{LONG_DIGITS}a' ) ) ;\n"
 ).replace("ENDSEC;", f"!{LONG_WORD}(.{LONG_WORD}.,\"0{LONG_DIGITS}\",{LONG_DIGITS});\nENDSEC;", 1)
 
+# Two clouds of the same two points.
+ALIKE = "#1=POINT($,1.,1.);\n#2=POINT($,1.,1.);\n#3=CLOUD((#1,#2),(),(TALLY(1)));\n#4=CLOUD((#1,#2),(),(TALLY(1)));\n"
+
 # Each file by its name.
 FILES = {
     "kinds.exp": LONG_KINDS,
@@ -164,6 +167,9 @@ FILES = {
     "bags.other": file_of("#1=CLOUD((),((1.),(2.,3.)),(TALLY(1)));\n"),
     "sections": SECTIONS,
     "late": file_of("#9=CLOUD((#3,#2),(),(TALLY(1)));\n#3=POINT('a',1.,1.);\n#2=POINT($,1.,1.);\n"),
+    "late.other": file_of("#19=CLOUD((#7,#8),(),(TALLY(1)));\n#7=POINT($,1.,1.);\n#8=POINT('a',1.,1.);\n"),
+    "alike": file_of(ALIKE),
+    "alike.other": file_of(ALIKE.replace("#", "#1")),
     "long": LONG,
     # Rows of several lengths, with a list at their end
     "rows": file_of(f"#1=POINT(({'1,' * 33}(1),(1,2,3,(4)),A(({'1,' * 17}(1),2))),{'1,' * 9}(1));\n"),
