@@ -160,7 +160,8 @@ PARTS = {
 }
 MIXED = rings(*[6] * 20, *[3] * 42), rings(*[6] * 21, *[3] * 40)
 
-# Each row: a name, the records of both files, the verdict, and how many pairs could be others (None where it isn't counted).
+# Each row: a name, the records of both files, the verdict, and how many pairs could be others (None where it isn't counted). A
+# model doesn't tell instances apart that hang together and look alike from everywhere, as those of a circle, nor equal ones of a bag.
 ROWS = [
     ("empty", {}, {}, "same", 0),
     ("one instance", {1: "LEAF('a',1.)"}, {1: "LEAF('a',1.)"}, "same", 0),
@@ -170,15 +171,17 @@ ROWS = [
     ("shared and copied", SHARED, COPIED, "different", None),
     ("copied", COPIED, COPIED, "same", 0),
     ("used by two and used by others", USED_BY_TWO, USED_BY_OTHERS, "different", None),
-    ("a bag of equal instances", EQUAL, EQUAL, "same", 99),
+    ("a bag of equal instances", EQUAL, EQUAL, "undecided", 99),
     ("equal parts", PARTS, PARTS, "same", 49),
-    ("a circle", rings(6), rings(6), "same", 1),
-    ("a circle and two smaller ones", rings(6), rings(3, 3), "different", None),
-    ("a long circle", rings(1000), rings(1000), "same", 1),
-    ("circles", rings(6, 3, 3), rings(3, 6, 3), "same", None),
-    ("the same but for two circles, undecided", *MIXED, "undecided", None),
-    ("a rook's fields", rook(), rook(), "same", None),
-    ("fields of two kinds that refinement can't tell apart", rook(), shrikhande(), "different", None),
+    ("a circle", rings(6), rings(6), "undecided", 1),
+    ("a circle and two smaller ones", rings(6), rings(3, 3), "undecided", None),
+    ("a circle and another entity", rings(6), {**rings(5), 6: "LEAF('a',1.)"}, "undecided", None),
+    ("a circle and a row", rings(6), {**{at: f"LINK(#{at + 1},$)" for at in range(1, 6)}, 6: "LINK($,$)"}, "different", None),
+    ("a long circle", rings(1000), rings(1000), "undecided", 1),
+    ("circles", rings(6, 3, 3), rings(3, 6, 3), "undecided", None),
+    ("the same but for two circles", *MIXED, "undecided", None),
+    ("a rook's fields", rook(), rook(), "undecided", None),
+    ("fields of two kinds that refinement can't tell apart", rook(), shrikhande(), "undecided", None),
     ("a list in another order", {1: "LEAF('a',1.)", 2: "LEAF('b',1.)", 3: "ROW((#1,#2))"}, {1: "LEAF('a',1.)", 2: "LEAF('b',1.)", 3: "ROW((#2,#1))"}, "different", 0),
     ("sets of lists", {1: "LEAF('a',1.)", 2: "LEAF('b',1.)", 3: "DEEP(((#1,#2),(#2,#1)))"}, {1: "LEAF('b',1.)", 2: "LEAF('a',1.)", 3: "DEEP(((#1,#2),(#2,#1)))"}, "same", 0),
     ("sets of lists that differ", {1: "LEAF('a',1.)", 2: "LEAF('b',1.)", 3: "DEEP(((#1,#2),(#2,#2)))"}, {1: "LEAF('b',1.)", 2: "LEAF('a',1.)", 3: "DEEP(((#1,#1),(#1,#2)))"}, "different", 0),
@@ -206,6 +209,7 @@ def known(tests):
             _, found, status = verdict(tests, [], file_of(first), other)
             wanted = (word, {"same": 0, "different": 1, "undecided": 3}[word])
             tests.judge(f"{name}, {seed}", wanted, (found["verdict"], status))
+            tests.judge(f"{name}, {seed}, one that isn't told apart", word == "undecided", found.get("alike") in first)
             if ambiguous is not None:
                 tests.judge(f"{name}, {seed}, pairs that could be others", ambiguous, found["ambiguous"])
 
@@ -347,6 +351,64 @@ def shown(tests):
         tests.judge(f"shown: {name}", (lines, "", 1), (found, error, status))
 
 
+# A file that doesn't tell #1 from #2, which stand in one bag.
+ALIKE = {1: "LEAF('a',1.)", 2: "LEAF('a',1.)", 3: "SACK((#1,#2))", 4: "LEAF('b',1.)"}
+UNTOLD = "the model of A doesn't tell #1 from another instance (59 Alike)"
+# Each row: a name, the records of the second file, and the lines that are printed with --names.
+UNDECIDED = [
+    (
+        "renumbered",
+        {11: "LEAF('a',1.)", 12: "LEAF('a',1.)", 13: "SACK((#11,#12))", 14: "LEAF('b',1.)"},
+        [f"not decided: 0 changed, 0 came, 0 went; {UNTOLD}; 1 pair chosen where others could be"],
+    ),
+    (
+        "changed",
+        {**ALIKE, 4: "LEAF('b',2.)"},
+        ["changed #4 LEAF.X: 1. -> 2.", f"not decided: 1 changed, 0 came, 0 went; {UNTOLD}; 2 pairs chosen where others could be"],
+    ),
+]
+
+
+def undecided(tests):
+    """Where the program says that a model doesn't tell two instances apart, what a pairing shows isn't called the same; and where it
+    has no answer there is none."""
+    first = tests.make("a.step", file_of(ALIKE))
+    for name, second, lines in UNDECIDED:
+        paths = [first, tests.make("b.step", file_of(second))]
+        tests.expect(f"undecided: {name}", ["--names", SCHEMA, *paths], 3, lines)
+        last = json.loads(tests.run(["--names", "--format", "json", SCHEMA, *paths])[0].splitlines()[-1])
+        tests.judge(f"undecided: {name}, an object", ("undecided", 1), (last["verdict"], last.get("alike")))
+        page, _, status = tests.run(["--names", "--format", "html", SCHEMA, *paths])
+        tests.judge(f"undecided: {name}, a page", (True, 3), ("<h1>Not decided</h1>" in page, status))
+    tests.expect("undecided, but the same name by name", ["--names", SCHEMA, first, first], 0, ["same up to names: 4 pairs; 1 pair chosen where others could be"])
+    paths = [first, tests.make("b.step", shuffled(file_of(LEAVES), 1)[0])]
+    output, _, status = tests.run(["--names", SCHEMA, *paths])
+    tests.judge("told apart in one file alone", ("different", 1), (output.splitlines()[-1].partition(":")[0], status))
+    paths = [tests.make("a.step", file_of(LEAVES)), tests.make("b.step", shuffled(file_of(LEAVES), 1)[0])]
+    for name, lines, error in NO_ANSWERS:
+        program = tests.rigged("rigged", f'case "$*" in *--names*) {lines};; esac')
+        for options in ["--names"], ["--stat"]:
+            if options == ["--stat"] and error == UNPAIRED:
+                continue
+            output, said, status = tests.run([*options, SCHEMA, *paths], program=program)
+            found = "same" in output or "not decided" in output, said, status
+            tests.judge(f"no answer, {name}, {options}", (False, f"p21-diff: {error}\n", 2), found)
+
+
+UNPAIRED = "the instances aren't paired as the program pairs them"
+# What a program does that is asked for an answer up to names, and what is said then.
+NO_ANSWERS = [
+    ("want of memory", "echo 'out of memory' >&2; exit 3", "out of memory"),
+    ("a signal", "kill -9 $$", "ended by signal 9"),
+    ("an answer, and a signal", "echo same; kill -9 $$", "ended by signal 9"),
+    ("a refusal, and a signal", "echo 'first: refused 59 Alike in #1' >&2; kill -9 $$", "first: refused 59 Alike in #1 ended by signal 9"),
+    ("an answer of another status", "echo same; exit 1", "ended with status 1"),
+    ("another refusal", "echo 'first: refused 27 CanonicalTooLong' >&2; exit 1", "first: refused 27 CanonicalTooLong"),
+    ("nothing", "exit 0", "the program doesn't say whether the files are the same but for names"),
+    ("a difference where there is none", "echo different; exit 1", UNPAIRED),
+]
+
+
 def raw(text, at):
     """A text that is shown with the names of one file, as they stand in it."""
     return re.sub(r"#(\d+)/#(\d+)", rf"#\{at + 1}", text).replace("AB"[at] + "#", "#")
@@ -436,6 +498,7 @@ def main():
     gone(tests)
     grown(tests)
     shown(tests)
+    undecided(tests)
     crossed(tests)
     renumbering(tests)
     table(tests)

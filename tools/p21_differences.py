@@ -403,14 +403,33 @@ SMALL_ENOUGH = 1 << 21
 MOST_AS_GRAPH = 1 << 25
 
 
-class Verdict(NamedTuple):
-    """What two files are, with how many instances are paired and how many of the pairs were chosen where others could be; and for
-    files that differ in their numbering or their header alone in which of these."""
+SAME, DIFFERENT, UNDECIDED = "same", "different", "undecided"
+# What the program says of two files whose models don't tell their instances apart.
+ALIKE = re.compile(r"first: refused 59 Alike in #(\d+)")
+# What is said of a program that writes something else; and of a list that is empty where the files differ, or isn't where they are
+# the same.
+NO_ANSWER = "the program doesn't say whether the files are the same but for names"
+NOT_PAIRED = "the instances aren't paired as the program pairs them"
+
+
+class ButForNames(NamedTuple):
+    """What two files are but for the names of their instances; where that isn't decided, an instance of the first one which the
+    model doesn't tell from another."""
 
     word: str
-    pairs: int
-    ambiguous: int
+    alike: Optional[int]
+
+
+class Verdict(NamedTuple):
+    """What two files are, with how many instances are paired and how many of the pairs were chosen where others could be; for
+    files that differ in their numbering or their header alone in which of these; and where it isn't decided, an instance of the
+    first one which the model doesn't tell from another."""
+
+    word: str
+    pairs: int = 0
+    ambiguous: int = 0
     but_for: Tuple[str, ...] = ()
+    alike: Optional[int] = None
 
 
 class Given:
@@ -450,12 +469,24 @@ class Given:
         with as_files([models.outline_of(data)] for data in self.data) as paths:
             yield from Listing(self.program, (self.paths[0], *paths), self.named)
 
-    def is_second(self, pieces: Iterable[bytes]) -> bool:
-        """Does the program say of a file that it is the same as the second one?"""
-        data = self.data[1]
-        with as_files([pieces, (data[start : start + reading.PIECE] for start in range(0, len(data), reading.PIECE))]) as paths:
-            answer = reading.answered(reading.run(self.program, "same", self.paths[0], *paths))
-            return bool(answer.output == b"same\n")
+    @functools.cached_property
+    def but_for_names(self) -> "ButForNames":
+        """What the program says of both files but for the names of their instances, under the header of the second one."""
+        with as_files(with_front(data, models.front_of(self.data[1])) for data in self.data) as paths:
+            answer = reading.answered(reading.run(self.program, "same", self.paths[0], *paths, options=("--names",)))
+        words = {(b"same\n", reading.Status.DONE): SAME, (b"different\n", reading.Status.REFUSED): DIFFERENT}
+        word = words.get((answer.output, reading.Status(answer.status)))
+        alike = ALIKE.fullmatch(answer.error)
+        if word is None and alike is None:
+            raise reading.Trouble(answer.error or NO_ANSWER)
+        return ButForNames(word or UNDECIDED, int(alike[1]) if alike else None)
+
+
+def with_front(data: mmap.mmap, front: bytes) -> Iterator[bytes]:
+    """A canonical file with another front up to its first data section, in pieces."""
+    yield front
+    for start in range(len(models.front_of(data)), len(data), reading.PIECE):
+        yield data[start : start + reading.PIECE]
 
 
 @contextlib.contextmanager
@@ -525,37 +556,21 @@ class Files:
     def verdict(self) -> Verdict:
         """What is known, behind the last difference."""
         header = (HEADER,) if self.found_in_header else ()
-        has_equal_data = self.found == self.found_in_header
+        has_equal_data = self.found == self.found_in_header and self.left_out.near == 0
         if self.up_to_names is None:
             if self.listing.is_same:
-                return Verdict(p21_pairing.SAME, 0, 0)
-            return Verdict(p21_pairing.DIFFERENT, 0, 0, header if has_equal_data else self.but_for_numbering(header))
-        found = self.up_to_names.pairing
-        word = found.verdict
+                return Verdict(SAME)
+            is_small = sum(map(os.path.getsize, self.given.paths[1:])) <= SMALL_ENOUGH
+            is_renumbered = not has_equal_data and is_small and self.given.but_for_names.word == SAME
+            return Verdict(DIFFERENT, but_for=header if has_equal_data else (NUMBERING, *header) if is_renumbered else ())
+        word, alike = self.given.but_for_names
+        if word != UNDECIDED and (word == SAME) != has_equal_data:
+            raise reading.Trouble(NOT_PAIRED)
         but_for: Tuple[str, ...] = ()
-        if word == p21_pairing.SAME and not (has_equal_data and self.left_out.near == 0):
-            word = p21_pairing.DIFFERENT
-        if word == p21_pairing.SAME and not self.is_same_renamed(self.up_to_names):
-            word = p21_pairing.UNDECIDED
-        if word == p21_pairing.SAME and header:
+        if word == SAME and header:
             is_renumbered = any(first != second for first, second in self.pairs())
-            word, but_for = p21_pairing.DIFFERENT, (NUMBERING, *header) if is_renumbered else header
-        return Verdict(word, sum(1 for _ in self.pairs()), found.ambiguous, but_for)
-
-    def but_for_numbering(self, header: Tuple[str, ...]) -> Tuple[str, ...]:
-        """In what alone two small files differ, whose instances of one name differ: in their numbering and maybe the header, or
-        nothing where it is more."""
-        if sum(map(os.path.getsize, self.given.paths[1:])) > SMALL_ENOUGH:
-            return ()
-        up_to_names = UpToNames(Comparison(self.given.sets, LeftOut()), *self.given.data)
-        is_same = up_to_names.pairing.verdict == p21_pairing.SAME and not any(up_to_names.differences())
-        return (NUMBERING, *header) if is_same and self.is_same_renamed(up_to_names) else ()
-
-    def is_same_renamed(self, up_to_names: UpToNames) -> bool:
-        """Does the program say of the first file with the names and the front of the second that it is the same as the second?"""
-        names = {b"%d" % first: b"%d" % second for first, second in up_to_names.pairs()}
-        first, second = self.given.data
-        return self.given.is_second(models.renamed(first, names, models.front_of(second)))
+            word, but_for = DIFFERENT, (NUMBERING, *header) if is_renumbered else header
+        return Verdict(word, sum(1 for _ in self.pairs()), self.up_to_names.pairing.ambiguous, but_for, alike)
 
     def object(self, verdict: Verdict) -> Dict[str, Any]:
         """What is known, as it is written as JSON."""
@@ -565,6 +580,8 @@ class Files:
             found.update(but_for=[word.split()[-1] for word in verdict.but_for])
         if self.up_to_names is not None:
             found.update(pairs=verdict.pairs, ambiguous=verdict.ambiguous)
+        if verdict.alike is not None:
+            found.update(alike=verdict.alike)
         found.update(self.left_out.counts())
         return found
 

@@ -1,19 +1,15 @@
 """Pairs the instances of two files whatever their names are.
 
 Instances are told apart by what they say and refer to (from below) and by what refers to them (from above), until nothing
-changes: colour refinement. Two files can't be the same where a colour has more members in one of them. Where each colour has
-one member in each, or where choosing one pair after another never runs into a contradiction, there is a pairing, which
-whoever says 'the same' has to check. Files that differ are paired from what is alike in them outwards.
+changes: colour refinement. Where each colour has as many members in both files, equal ones are paired one after another, and
+colours refined again; where no such pairing is found, files are paired from what is alike in them outwards. Whether they are
+the same but for names the program says, and not the pairing.
 """
 
-# `p21-diff --names` says `same` only with a pairing in hand. Instances are told apart by colour refinement, from below
-# and from above; what is left alike is paired by choosing one pair after another and refining again, and going back
-# where that fails, up to a bound on the work. The pairing is checked instance by instance, and then by the program: it
-# compares the second file with the first one in the second's names. So neither the refinement nor what the tool reads
-# of the schema (which lists are sets) has to be trusted for `same`. For `different` they are; whoever is shown a
-# difference sees it.
+# A file that the program numbers tells its instances apart but for copies, any of which may be chosen. So of two files that are
+# the same but for names a pairing is found without going back from a choice.
 #
-# Files that differ are paired from what is alike outwards: first what is alone in saying what it says with all below
+# Other files are paired from what is alike outwards: first what is alone in saying what it says with all below
 # it, then along equal places from pair to pair, then what refers to much the same, as a list does that has grown, then
 # by the pairs around an instance, and at last in the order of the files. Files often keep some names: what has one name
 # in both is paired in the end where no fewer instances fit their partners then. A list of differences is right for its
@@ -38,16 +34,13 @@ CONTEXTS = (
     (False, False, True),
     (False, True, False),
 )
-SAME, DIFFERENT, UNDECIDED = "same", "different", "undecided"
 
 
 class Pairing(NamedTuple):
-    """For each node its partner or -1; how many pairs could be others as well; and whether the files are known to be the
-    same up to names, known to differ, or neither. A pairing of files that are the same is still to be checked."""
+    """For each node its partner or -1, and how many pairs could be others as well."""
 
     partner: "array.array[int]"
     ambiguous: int
-    verdict: str
 
 
 # --- Colours ---
@@ -142,8 +135,7 @@ def alone(graph: Graph, numbers: "array.array[int]", nodes: Iterable[int]) -> It
 
 
 class Classes:
-    """Classes of nodes with as many members in the one file as in the other: in each file those of a class stand side by
-    side. A split is kept, so that it can be taken back."""
+    """Classes of nodes with as many members in the one file as in the other: in each file those of a class stand side by side."""
 
     def __init__(self, graph: Graph, groups: Iterable[Tuple[List[int], List[int]]]) -> None:
         self.graph = graph
@@ -152,10 +144,8 @@ class Classes:
         self.of = array.array("l", [NONE]) * len(graph)
         self.first: List[int] = []
         self.size: List[int] = []
-        self.splits: List[int] = []
         self.is_waiting: List[bool] = []
         self.waiting: List[int] = []
-        self.visits = 0
         for pair in groups:
             self.first.append(len(self.members[0]))
             self.size.append(len(pair[0]))
@@ -205,21 +195,7 @@ class Classes:
         self.first.append(self.first[number] + self.size[number])
         self.size.append(len(groups[0]))
         self.is_waiting.append(False)
-        self.splits.append(number)
         return len(self.first) - 1
-
-    def take_back(self, count: int) -> None:
-        """Takes all splits back but the first ones."""
-        for number in self.waiting:
-            self.is_waiting[number] = False
-        self.waiting = []
-        while len(self.splits) > count:
-            number = self.splits.pop()
-            for node in self.nodes(len(self.first) - 1):
-                self.of[node] = number
-            self.size[number] += self.size.pop()
-            self.first.pop()
-            self.is_waiting.pop()
 
     def refine(self) -> bool:
         """Splits classes until nothing changes. False where no pairing can be."""
@@ -236,7 +212,6 @@ class Classes:
         found: Dict[int, List[int]] = {}
         for node in nodes:
             for edge in self.graph.referrers(node):
-                self.visits += 1
                 source = self.graph.sources[edge]
                 if self.of[source] != NONE:
                     found.setdefault(source, []).append(self.graph.label(edge))
@@ -247,7 +222,6 @@ class Classes:
         found: Dict[int, List[int]] = {}
         for node in nodes:
             for label, target in zip(self.graph.places_of(node), self.graph.refs(node)):
-                self.visits += 1
                 if self.of[target] != NONE:
                     found.setdefault(target, []).append(label)
         return found
@@ -282,57 +256,24 @@ def round_of(graph: Graph, classes: Classes, colours: "array.array[int]") -> boo
     return True
 
 
-class Choice:
-    """A pair that was chosen of a class with several members, and what else could be chosen."""
-
-    def __init__(self, classes: Classes, number: int) -> None:
-        self.mark = len(classes.splits)
-        self.number = number
-        self.first = classes.members[0][classes.first[number]]
-        self.second = classes.members[1][classes.first[number]]
-        self.others: Optional[List[int]] = None
-
-    def next(self, classes: Classes) -> bool:
-        """Goes on to another pair, behind one with which there is no pairing."""
-        classes.take_back(self.mark)
-        if self.others is None:
-            begin, size = classes.first[self.number], classes.size[self.number]
-            self.others = [node for node in classes.members[1][begin : begin + size] if node != self.second]
-        if not self.others:
-            return False
-        self.second = self.others.pop()
-        return True
-
-    def take(self, classes: Classes) -> bool:
-        """Makes a class of the pair, and splits what follows from it."""
-        new = classes.take(self.number, [self.first], [self.second])
-        classes.wait(new)
-        return classes.refine()
+def choose_pairs(classes: Classes) -> Optional[int]:
+    """Pairs the first members of each class that has several, and splits what follows from it. Says how many pairs were chosen, or
+    nothing where no pairing goes on from them."""
+    chosen = number = 0
+    while number < len(classes.first):
+        if classes.size[number] == 1:
+            number += 1
+            continue
+        chosen += 1
+        first, second = (members[classes.first[number]] for members in classes.members)
+        classes.wait(classes.take(number, [first], [second]))
+        if not classes.refine():
+            return None
+    return chosen
 
 
-def search(classes: Classes) -> Tuple[str, int]:
-    """Chooses pairs until each class has one. Says what is known, and how many pairs were chosen."""
-    choices: List[Choice] = []
-    at = 0
-    most = classes.visits + 20 * len(classes.graph.targets) + 100_000
-    while True:
-        while at < len(classes.first) and classes.size[at] == 1:
-            at += 1
-        if at == len(classes.first):
-            return SAME, len(choices)
-        choices.append(Choice(classes, at))
-        while not choices[-1].take(classes):
-            if classes.visits > most:
-                return UNDECIDED, len(choices)
-            while not choices[-1].next(classes):
-                choices.pop()
-                if not choices:
-                    return DIFFERENT, 0
-            at = choices[-1].number
-
-
-def paired(graph: Graph, colours: "array.array[int]") -> Tuple[str, "array.array[int]", int]:
-    """A pairing of files whose colours have equally many members, if one is found."""
+def paired(graph: Graph, colours: "array.array[int]") -> Optional[Pairing]:
+    """A pairing under which nothing differs, of files whose colours have equally many members, if one is found."""
     partner = array.array("l", [NONE]) * len(graph)
     for first, second in alone(graph, colours, range(len(graph))):
         partner[first], partner[second] = second, first
@@ -343,12 +284,13 @@ def paired(graph: Graph, colours: "array.array[int]") -> Tuple[str, "array.array
     classes = Classes(graph, groups.values())
     del groups
     if not round_of(graph, classes, colours) or not classes.refine():
-        return DIFFERENT, partner, 0
-    verdict, chosen = search(classes)
-    if verdict == SAME:
-        for first, second in zip(*classes.members):
-            partner[first], partner[second] = second, first
-    return verdict, partner, chosen
+        return None
+    chosen = choose_pairs(classes)
+    if chosen is None:
+        return None
+    for first, second in zip(*classes.members):
+        partner[first], partner[second] = second, first
+    return Pairing(partner, chosen) if is_pairing(graph, partner) else None
 
 
 def fits(graph: Graph, partner: "array.array[int]", node: int) -> bool:
@@ -707,21 +649,14 @@ def most_of(counts: Dict[int, int]) -> int:
 
 
 def pairing(graph: Graph) -> Pairing:
-    """A pairing of the two files of a graph, and what is known of them."""
+    """A pairing of the two files of a graph: one under which nothing differs, where that is found."""
     order = order_of(graph)
     below = colours_below(graph, order, graph.shapes)
     colours = colours_above(graph, order, below)
-    verdict = DIFFERENT
-    if not any(balances(graph, colours)):
-        verdict, partner, chosen = paired(graph, colours)
-        if verdict == SAME and is_pairing(graph, partner):
-            return Pairing(partner, chosen, SAME)
-        if verdict == SAME:
-            verdict = UNDECIDED if chosen else DIFFERENT
+    found = None if any(balances(graph, colours)) else paired(graph, colours)
+    if found is not None:
+        return found
     # A part that nothing refers to may hang on parts that differ: what is known from above is carried down once more.
-    colours = colours_above(graph, order, colours_below(graph, order, colours))
-    matching = Matching(graph, below, colours)
+    matching = Matching(graph, below, colours_above(graph, order, colours_below(graph, order, colours)))
     matching.run()
-    if verdict == UNDECIDED and is_pairing(graph, matching.partner):
-        verdict = SAME
-    return Pairing(matching.partner, matching.ambiguous, verdict)
+    return Pairing(matching.partner, matching.ambiguous)

@@ -1,9 +1,9 @@
 // What differs in the meaning of two STEP files, as tools/p21-diff tells it: by the names of instances as the program lists it, and up
-// to their names by a pairing.
+// to their names by a pairing. Whether they are the same but for names the program says.
 
 import { areNear } from "./decimals.mjs";
-import { Graph, elementsOf, lineNamed, renamedFile, renamedText, sectionsOf, sortedText } from "./models.mjs";
-import { NONE, SAME, DIFFERENT, UNDECIDED, fitsWhole, pairing } from "./pairing.mjs";
+import { Graph, elementsOf, lineNamed, renamedText, sectionsOf, sortedText } from "./models.mjs";
+import { NONE, fitsWhole, pairing } from "./pairing.mjs";
 import { isSpelled, plainly } from "./plainly.mjs";
 import { Trouble, joined } from "./program.mjs";
 import { LINE_FEED, bytesOf, readParts, shortened, textOf } from "./reading.mjs";
@@ -18,7 +18,13 @@ const [CHANGED, CAME, WENT] = KINDS;
 // of so many it is said which product owns what differs.
 export const SMALL_ENOUGH = 1 << 21;
 const MOST_AS_GRAPH = 1 << 25;
-const WORDS_OF_VERDICTS = { [SAME]: "same", [DIFFERENT]: "different", [UNDECIDED]: "not decided" };
+const [SAME, DIFFERENT, UNDECIDED, NO_ANSWER] = ["same", "different", "undecided", "no answer"];
+const WORDS_OF_VERDICTS = { [SAME]: "same", [DIFFERENT]: "different", [UNDECIDED]: "not decided", [NO_ANSWER]: "no answer" };
+const HEADLINES = { [SAME]: "the same", [DIFFERENT]: "what differs", [UNDECIDED]: "not decided", [NO_ANSWER]: "no answer" };
+// What the program says of two files whose models don't tell their instances apart.
+const ALIKE = /^first: refused 59 Alike in #(\d+)$/;
+// What is said of a list that is empty where the files differ, or isn't where they are the same.
+const NOT_PAIRED = "the instances aren’t paired as the program pairs them";
 // No file has a name so great.
 const NO_NAME = 2n ** 64n;
 // A value of more characters isn't written as people would.
@@ -203,17 +209,6 @@ class UpToNames {
     return found;
   }
 
-  /** The names of paired instances, by rising names of the first file. */
-  pairs() {
-    const { graph, pairing } = this;
-    const found = new Map();
-    for (const node of this.nodes(0)) {
-      const other = pairing.partner[node];
-      if (other !== NONE) found.set(graph.name(node), graph.name(other));
-    }
-    return found;
-  }
-
   /** The instances of a file by rising names. */
   nodes(side) {
     const order = this.graph.ofSide(side);
@@ -348,17 +343,17 @@ export function tableName(difference) {
 
 /**
  * Two canonical files that are compared, by a schema of these attributes and lengths. `diff` has the program list what differs in two
- * texts, which goes to ListedRows; `isSame` says of two texts whether it says that they are the same, and `heard` is told how many
- * instances are paired.
+ * texts, which goes to ListedRows; `sameButForNames` answers what it says of two texts with `same --names`, and `heard` is told how
+ * many instances are paired.
  */
 export class Files {
-  constructor({ attributes, lengths, diff, isSame, heard = () => {} }, first, second) {
-    Object.assign(this, { attributes, lengths, diff, isSame, heard });
+  constructor({ attributes, lengths, diff, sameButForNames, heard = () => {} }, first, second) {
+    Object.assign(this, { attributes, lengths, diff, sameButForNames, heard });
     this.canonical = [first, second];
     this.units = this.canonical.map(unitOf);
     this.paired = null;
     this.sections = null;
-    this.isSameRenamed = null;
+    this.toldButForNames = null;
     this.asGraph = null;
   }
 
@@ -426,36 +421,44 @@ export class Files {
 
   /** What is known of files that differ, by names. */
   knownByNames({ all, inHeader }) {
-    const header = inHeader > 0 ? ["the header"] : [];
     if (all === 0) return { word: SAME, pairs: 0, ambiguous: 0, butFor: [] };
-    return { word: DIFFERENT, pairs: 0, ambiguous: 0, butFor: all === inHeader ? header : this.butForNumbering(header) };
+    const isRenumbered = all > inHeader && this.size <= SMALL_ENOUGH && this.butForNames.word === SAME;
+    const header = inHeader > 0 && (all === inHeader || isRenumbered) ? ["the header"] : [];
+    return { word: DIFFERENT, pairs: 0, ambiguous: 0, butFor: [...(isRenumbered ? ["numbering"] : []), ...header] };
   }
 
   knownUpToNames({ all, inHeader }, { near }) {
-    const { verdict, ambiguous } = this.upToNames.pairing;
+    const { ambiguous } = this.upToNames.pairing;
     const { pairs, alike } = this.upToNames.counted();
-    let word = verdict === SAME && (all > inHeader || near > 0) ? DIFFERENT : verdict;
-    if (word === SAME && !this.isSameUpToNames()) word = UNDECIDED;
-    const found = { word, pairs, ambiguous, butFor: [], isRenamed: 2 * alike < pairs };
-    if (word !== SAME || inHeader === 0) return found;
+    const told = this.butForNames;
+    const hasEqualData = all === inHeader && near === 0;
+    if (told.word === (hasEqualData ? DIFFERENT : SAME)) throw new Trouble(NOT_PAIRED);
+    const found = { ...told, pairs, ambiguous, butFor: [], isRenamed: 2 * alike < pairs };
+    if (told.word !== SAME || inHeader === 0) return found;
     return { ...found, word: DIFFERENT, butFor: [...(alike < pairs ? ["numbering"] : []), "the header"] };
   }
 
-  /** Does the program say of the first file with the names and the front of the second that it means the same as the second? */
-  isSameUpToNames() {
-    if (this.isSameRenamed === null) {
-      const names = this.upToNames.pairs();
-      const [first, second] = this.canonical;
-      this.isSameRenamed = this.isSame(joined(renamedFile(first, (name) => names.get(name), frontOf(second))), second);
-    }
-    return this.isSameRenamed;
+  /**
+   * What the program says of both files but for the names of their instances, under the header of the second one: a word; where it
+   * isn't decided, an instance of the first one that the model doesn't tell from another; and why there is no answer.
+   */
+  get butForNames() {
+    this.toldButForNames ??= this.askButForNames();
+    return this.toldButForNames;
   }
 
-  /** In what alone two small files differ, whose instances of one name differ: in their numbering and maybe the header, or nothing. */
-  butForNumbering(inHeader) {
-    if (this.size > SMALL_ENOUGH || this.upToNames.pairing.verdict !== SAME) return [];
-    const isOther = !this.upToNames.differences(new Comparison(this.lengths.sets, new LeftOut())).next().done;
-    return isOther || !this.isSameUpToNames() ? [] : ["numbering", ...inHeader];
+  askButForNames() {
+    const [first, second] = this.canonical;
+    const front = frontOf(second);
+    try {
+      const { error, status } = this.sameButForNames(joined([front, first.subarray(frontOf(first).length)]), second);
+      const alike = ALIKE.exec(error)?.[1] ?? null;
+      if (alike !== null) return { word: UNDECIDED, alike };
+      return error ? { word: NO_ANSWER, why: error } : { word: status === 0 ? SAME : DIFFERENT };
+    } catch (error) {
+      if (error instanceof Trouble) return { word: NO_ANSWER, why: error.message };
+      throw error;
+    }
   }
 
   /** The texts of a value that changed as people write them, shortened; null where they aren't other than they stand. */
@@ -515,17 +518,18 @@ function butForOf({ butFor }) {
 
 /** What stands above a report. */
 function headline(found) {
-  const said = butForOf(found) || (found.word === SAME ? "the same" : "what differs");
+  const said = butForOf(found) || HEADLINES[found.word];
   return said[0].toUpperCase() + said.slice(1);
 }
 
 /** The last line of p21-diff. */
 function verdictLine(names, counts, found, leftOut) {
-  const { word, pairs, ambiguous } = found;
+  const { word, pairs, ambiguous, alike, why } = found;
   const said = butForOf(found) || WORDS_OF_VERDICTS[word];
   const parts = [`${said}: ${KINDS.map((kind) => `${counts.total(kind)} ${kind}`).join(", ")}`];
-  if (word === SAME) parts[0] = names ? `same up to names: ${many(pairs, "pair")}, checked one by one` : "same";
-  else if (word === UNDECIDED) parts[0] += "; no pairing without a difference was found, and none is ruled out";
+  if (word === SAME) parts[0] = names ? `same up to names: ${many(pairs, "pair")}` : "same";
+  else if (word === UNDECIDED) parts.push(`the model of A doesn't tell #${alike} from another instance (59 Alike)`);
+  else if (word === NO_ANSWER) parts.push(why);
   parts.push(...leftOut.countsInWords);
   if (ambiguous > 0) parts.push(`${many(ambiguous, "pair")} chosen where others could be`);
   return parts.join("; ");

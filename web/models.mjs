@@ -319,21 +319,6 @@ export function lineNamed(bytes, sections, name) {
   return "";
 }
 
-/** A canonical file with other names of instances, and another front up to its first data section, in pieces. */
-export function renamedFile(bytes, nameOf, front) {
-  const pieces = [front];
-  const bytesOf = (text) => new TextEncoder().encode(text);
-  const sharp = (name) => `#${nameOf(name)}`;
-  for (const { heading, start } of sectionsOf(bytes)) {
-    pieces.push(bytesOf(`${heading}\n`));
-    for (const line of linesFrom(bytes, start)) {
-      pieces.push(bytesOf(renamedText(textOf(bytes.subarray(line.start, line.end + 1)), sharp)));
-    }
-    pieces.push(bytesOf("ENDSEC;\n"));
-  }
-  return [...pieces, bytesOf("END-ISO-10303-21;\n")];
-}
-
 /** The instances of two files, numbered one file behind the other, then the elements that are nodes of their own. */
 export class Graph {
   constructor(sets) {

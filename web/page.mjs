@@ -691,9 +691,17 @@ function summaryOfDifferences({ names, upToNames, asked }, way) {
   return said.join(" ");
 }
 
+  else if (way === "shapes" || upToNames?.count === 0) said.push(...saidOfNoAnswer(upToNames));
 /** How instances are told at first: by what they say where that was asked, or where most names are other. */
 function wayOf({ asked, upToNames }) {
   return asked.way ?? (upToNames?.isRenamed ? "shapes" : "names");
+/** Why it isn't known whether two files are the same up to names, as a sentence; nothing where it is. */
+function saidOfNoAnswer({ alike, why }) {
+  const question = "Whether they are the same up to names";
+  if (alike) return [`${question} isn’t decided: the first one’s model doesn’t tell #${alike} from another instance.`];
+  return why ? [`${question} isn’t known. ${WORDS[why] ?? `${why}.`}`] : [];
+}
+
 }
 
 /** What is known where nothing is listed, since the header or small distances don't count. */

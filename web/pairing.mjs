@@ -1,9 +1,9 @@
 // Pairs the instances of two files whatever their names are. As in tools/p21_pairing.py.
 //
 // Instances are told apart by what they say and refer to (from below) and by what refers to them (from above), until nothing
-// changes: colour refinement. Two files can't be the same where a colour has more members in one of them. Where each colour
-// has one member in each, or where choosing one pair after another never runs into a contradiction, there is a pairing, which
-// whoever says "the same" has to check. Files that differ are paired from what is alike in them outwards.
+// changes: colour refinement. Where each colour has as many members in both files, equal ones are paired one after another, and
+// colours refined again; where no such pairing is found, files are paired from what is alike in them outwards. Whether they are
+// the same but for names the program says, and not the pairing.
 
 import { APART, Growing } from "./models.mjs";
 
@@ -20,9 +20,6 @@ const CONTEXTS = [
   [false, false, true],
   [false, true, false],
 ];
-export const SAME = "same";
-export const DIFFERENT = "different";
-export const UNDECIDED = "undecided";
 
 /** Numbers in their order. */
 function rising(numbers) {
@@ -271,10 +268,7 @@ function* alone(graph, numbers, nodes) {
 
 // --- Classes of both files, split until nothing changes ---
 
-/**
- * Classes of nodes with as many members in the one file as in the other: in each file those of a class stand side by side. A
- * split is kept, so that it can be taken back.
- */
+/** Classes of nodes with as many members in the one file as in the other: in each file those of a class stand side by side. */
 class Classes {
   constructor(graph, groups) {
     this.graph = graph;
@@ -283,10 +277,8 @@ class Classes {
     this.of = new Int32Array(graph.length).fill(NONE);
     this.first = [];
     this.size = [];
-    this.splits = [];
     this.isWaiting = [];
     this.waiting = [];
-    this.visits = 0;
     for (const pair of groups) {
       this.first.push(this.members[0].length);
       this.size.push(pair[0].length);
@@ -356,21 +348,7 @@ class Classes {
     this.first.push(this.first[number] + this.size[number]);
     this.size.push(groups[0].length);
     this.isWaiting.push(false);
-    this.splits.push(number);
     return this.first.length - 1;
-  }
-
-  /** Takes all splits back but the first ones. */
-  takeBack(count) {
-    for (const number of this.waiting) this.isWaiting[number] = false;
-    this.waiting = [];
-    while (this.splits.length > count) {
-      const number = this.splits.pop();
-      for (const node of this.nodes(this.first.length - 1)) this.of[node] = number;
-      this.size[number] += this.size.pop();
-      this.first.pop();
-      this.isWaiting.pop();
-    }
   }
 
   /** Splits classes until nothing changes. False where no pairing can be. */
@@ -389,7 +367,6 @@ class Classes {
     const found = new Map();
     for (const node of nodes) {
       for (const edge of this.graph.referrers(node)) {
-        this.visits++;
         const source = this.graph.sources[edge];
         if (this.of[source] !== NONE) listOf(found, source).push(this.graph.label(edge));
       }
@@ -403,7 +380,6 @@ class Classes {
     for (const node of nodes) {
       const labels = this.graph.placesOf(node);
       this.graph.refs(node).forEach((target, at) => {
-        this.visits++;
         if (this.of[target] !== NONE) listOf(found, target).push(labels[at]);
       });
     }
@@ -445,77 +421,43 @@ function roundOf(graph, classes, colours) {
   return true;
 }
 
-/** A pair that was chosen of a class with several members, and what else could be chosen. */
-class Choice {
-  constructor(classes, number) {
-    this.mark = classes.splits.length;
-    this.number = number;
-    this.first = classes.members[0][classes.first[number]];
-    this.second = classes.members[1][classes.first[number]];
-    this.others = null;
-  }
-
-  /** Goes on to another pair, behind one with which there is no pairing. */
-  next(classes) {
-    classes.takeBack(this.mark);
-    if (!this.others) {
-      const begin = classes.first[this.number];
-      const members = classes.members[1].slice(begin, begin + classes.size[this.number]);
-      this.others = members.filter((node) => node !== this.second);
+/**
+ * Pairs the first members of each class that has several, and splits what follows from it. Says how many pairs were chosen, or
+ * nothing where no pairing goes on from them.
+ */
+function choosePairs(classes) {
+  let chosen = 0;
+  for (let number = 0; number < classes.first.length; ) {
+    if (classes.size[number] === 1) {
+      number++;
+      continue;
     }
-    if (this.others.length === 0) return false;
-    this.second = this.others.pop();
-    return true;
+    chosen++;
+    const [first, second] = classes.members.map((members) => members[classes.first[number]]);
+    classes.wait(classes.take(number, [first], [second]));
+    if (!classes.refine()) return null;
   }
-
-  /** Makes a class of the pair, and splits what follows from it. */
-  take(classes) {
-    classes.wait(classes.take(this.number, [this.first], [this.second]));
-    return classes.refine();
-  }
+  return chosen;
 }
 
-/** Chooses pairs until each class has one. Says what is known, and how many pairs were chosen. */
-function search(classes) {
-  const choices = [];
-  const most = classes.visits + 20 * classes.graph.targets.length + 100_000;
-  for (let at = 0; ; ) {
-    while (at < classes.first.length && classes.size[at] === 1) at++;
-    if (at === classes.first.length) return { verdict: SAME, chosen: choices.length };
-    choices.push(new Choice(classes, at));
-    while (!choices.at(-1).take(classes)) {
-      if (classes.visits > most) return { verdict: UNDECIDED, chosen: choices.length };
-      while (!choices.at(-1).next(classes)) {
-        choices.pop();
-        if (choices.length === 0) return { verdict: DIFFERENT, chosen: 0 };
-      }
-      at = choices.at(-1).number;
-    }
-  }
-}
-
-/** A pairing of files whose colours have equally many members, if one is found. */
+/** A pairing under which nothing differs, of files whose colours have equally many members, if one is found. */
 function paired(graph, colours) {
   const partner = new Int32Array(graph.length).fill(NONE);
-  for (const [first, second] of alone(graph, colours, colours.keys())) {
+  const put = (first, second) => {
     partner[first] = second;
     partner[second] = first;
-  }
+  };
+  for (const [first, second] of alone(graph, colours, colours.keys())) put(first, second);
   const groups = new Map();
   colours.forEach((colour, node) => {
     if (partner[node] === NONE) listsOf(groups, colour)[graph.isFirst(node) ? 0 : 1].push(node);
   });
   const classes = new Classes(graph, groups.values());
-  if (!roundOf(graph, classes, colours) || !classes.refine()) return { verdict: DIFFERENT, partner, chosen: 0 };
-  const { verdict, chosen } = search(classes);
-  if (verdict === SAME) {
-    classes.members[0].forEach((first, at) => {
-      const second = classes.members[1][at];
-      partner[first] = second;
-      partner[second] = first;
-    });
-  }
-  return { verdict, partner, chosen };
+  if (!roundOf(graph, classes, colours) || !classes.refine()) return null;
+  const ambiguous = choosePairs(classes);
+  if (ambiguous === null) return null;
+  classes.members[0].forEach((first, at) => put(first, classes.members[1][at]));
+  return isPairing(graph, partner) ? { partner, ambiguous } : null;
 }
 
 /** Does a node say what its partner says, and refer to the partners of what it refers to? */
@@ -908,25 +850,17 @@ function mostOf(counts) {
 // --- Both ---
 
 /**
- * A pairing of the two files of a graph: for each node its partner or -1, how many pairs could be others as well, and whether
- * the files are known to be the same up to names, known to differ, or neither. One of files that are the same is still to be
- * checked.
+ * A pairing of the two files of a graph: for each node its partner or -1, and how many pairs could be others as well. It is one under
+ * which nothing differs, where that is found.
  */
 export function pairing(graph) {
   const order = orderOf(graph);
   const below = coloursBelow(graph, order, graph.shapes);
   const colours = coloursAbove(graph, order, below);
-  let verdict = DIFFERENT;
-  if (!isUnbalanced(graph, colours)) {
-    const found = paired(graph, colours);
-    if (found.verdict === SAME && isPairing(graph, found.partner)) {
-      return { partner: found.partner, ambiguous: found.chosen, verdict: SAME };
-    }
-    verdict = found.verdict === SAME ? (found.chosen > 0 ? UNDECIDED : DIFFERENT) : found.verdict;
-  }
+  const found = isUnbalanced(graph, colours) ? null : paired(graph, colours);
+  if (found) return found;
   // A part that nothing refers to may hang on parts that differ: what is known from above is carried down once more.
   const matching = new Matching(graph, below, coloursAbove(graph, order, coloursBelow(graph, order, colours)));
   matching.run();
-  if (verdict === UNDECIDED && isPairing(graph, matching.partner)) verdict = SAME;
-  return { partner: matching.partner, ambiguous: matching.ambiguous, verdict };
+  return { partner: matching.partner, ambiguous: matching.ambiguous };
 }

@@ -303,11 +303,11 @@ class Job {
       const { error } = this.program.run(words, files, undefined, (bytes) => rows.hear(bytes));
       if (error) throw new Trouble(error);
     };
-    const isSame = (one, other) => {
+    const sameButForNames = (one, other) => {
       const files = { schema: first.served.text, first: new Text(one), second: new Text(other) };
-      return this.program.run(["same", "--", "schema", "first", "second"], files).status === 0;
+      return this.program.run(["same", "--names", "--", "schema", "first", "second"], files);
     };
-    this.compared = new Files({ attributes, lengths, diff, isSame, heard }, first.canonical, second.canonical);
+    this.compared = new Files({ attributes, lengths, diff, sameButForNames, heard }, first.canonical, second.canonical);
     this.owners = new Map();
     this.instances = this.compared.canonical.map(countInstances);
     return this.lists(this.asked);

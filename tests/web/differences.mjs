@@ -25,9 +25,9 @@ function compared(schemaPath, paths) {
     if (error) throw new Error(`${path}: ${error}`);
     return output;
   });
-  const isSame = (first, second) => {
+  const sameButForNames = (first, second) => {
     const files = { schema, first: new Text(first), second: new Text(second) };
-    return program.run(["same", "--", "schema", "first", "second"], files).status === 0;
+    return program.run(["same", "--names", "--", "schema", "first", "second"], files);
   };
   const diff = ([first, second], rows) => {
     const files = { schema, first: new Text(first), second: new Text(second) };
@@ -36,7 +36,7 @@ function compared(schemaPath, paths) {
     if (error) throw new Error(`${paths}: ${error}`);
   };
   const outline = new Outline(schema.bytes);
-  return { outline, files: new Files({ attributes, lengths: new Lengths(new Sets(outline)), diff, isSame }, ...canonical) };
+  return { outline, files: new Files({ attributes, lengths: new Lengths(new Sets(outline)), diff, sameButForNames }, ...canonical) };
 }
 
 /** The report of what differs. */
