@@ -693,9 +693,9 @@ def saved(page, name):
     return text
 
 
-def by_command_line(page):
-    """What the command line gives that stands beside the hash."""
-    line = page.browser.ask("[...document.querySelectorAll('.again')].at(-1).textContent")
+def by_command_line(page, selector=".again"):
+    """What the command line gives that stands beside the hash, or beside that of the numbered file."""
+    line = page.browser.ask(f"[...document.querySelectorAll('{selector}')].at(-1).textContent")
     done = subprocess.run(["bash", "-c", line], cwd=page.folder, env=page.with_program(), capture_output=True, text=True, check=False)
     return done.stdout.split(" ")[0]
 
@@ -713,6 +713,9 @@ def taken_along(page):
         shutil.copy(ROOT / "examples" / name, page.folder)
     rows = [f"#{number}=POINT($,1.,'two');" for number in range(1, 401)]
     page.tests.make("many.step", file_of("\n".join([*rows, "#401=NOTHING();"]), [("PRODUCT_MODEL", "DEMO")]))
+    page.tests.make("alike.step", file_of(ALIKE))
+    points = "\n".join(f"#{number}=POINT('{'p' * 100}',{number}.,1.);" for number in range(1, 20001))
+    page.tests.make("points.step", file_of(points, [("PRODUCT_MODEL", "DEMO")]))
     in_both(page, taken_along_in)
 
 
@@ -728,10 +731,17 @@ def taken_along_in(page, name):
     shown = chosen(page, "product.exp", "product.step")
     canonical = page.program("canon", "product.exp", "product.step")[0].encode("latin-1")
     digest = hashlib.sha256(canonical).hexdigest()
-    judge(f"the hash in {name}", [digest], ask("[...document.querySelectorAll('.hash code:not(.again)')].map((found) => found.textContent)"))
-    judge(f"the hash copied in {name}", digest, copied("Copy: the hash"))
+    numbered = page.program("canon", "--names", "product.exp", "product.step")[0]
+    of_numbered = hashlib.sha256(numbered.encode("latin-1")).hexdigest()
+    hashes = ask("[...document.querySelectorAll('.hash code:not([class])')].map((found) => found.textContent)")
+    judge(f"the hashes in {name}", [digest, of_numbered], hashes)
+    judge(f"the hashes copied in {name}", [digest, of_numbered], [copied("Copy: the hash"), copied("Copy: the hash of the numbered file")])
     judge(f"the hash by its command line in {name}", digest, by_command_line(page))
-    text = f"Accepted. product.step\n\nproduct.step by product.exp:\n{shown['files'][0]['line']}\nSHA-256 of the canonical file: {digest}\n"
+    judge(f"that of the numbered file in {name}", of_numbered, by_command_line(page, ".numbered-again"))
+    ask("[...document.querySelectorAll('.file button')].find((found) => found.textContent === 'Save the numbered file').click()")
+    judge(f"the numbered file in {name}", numbered, saved(page, "product.numbered.step"))
+    of_both = f"SHA-256 of the canonical file: {digest}\nSHA-256 of the numbered file: {of_numbered}"
+    text = f"Accepted. product.step\n\nproduct.step by product.exp:\n{shown['files'][0]['line']}\n{of_both}\n"
     judge(f"an answer copied in {name}", text, copied("Copy: the answer"))
     ask("[...document.querySelectorAll('.verdict button')].find((found) => found.textContent === 'Save').click()")
     judge(f"an answer saved in {name}", text, saved(page, "answer.txt"))
@@ -742,6 +752,15 @@ def taken_along_in(page, name):
     judge(f"differences copied in {name}", lines, copied("Copy as text: the differences"))
     judge(f"differences in the answer in {name}", True, f"by the names of instances:\n{lines}" in copied("Copy: the answer"))
     ask("document.querySelector('[data-slot=second] .remove').click()")
+    chosen(page, "product.exp", "alike.step")
+    said = "None: the model doesn’t tell #1 from another instance (59 Alike)."
+    judge(f"no numbered file in {name}", said, ask("document.querySelector('.numbered').textContent"))
+    chosen(page, "demo.exp", "points.step")
+    ask("[...document.querySelectorAll('.file button')].find((found) => found.textContent === 'Number it').click()")
+    page.browser.wait(f"document.querySelector('.numbered') !== null && {ANSWER}", MOST_SECONDS)
+    found = ask("document.querySelector('.numbered code').textContent")
+    judge(f"a larger file is numbered in {name}", by_command_line(page, ".numbered-again"), found)
+    judge(f"the focus is on its hash in {name}", True, ask("document.activeElement.matches('.numbered')"))
     shown = chosen(page, "demo.exp", "many.step")
     lines = page.tool("p21-where", "--all", "demo.exp", "many.step")
     judge(f"refusals copied in {name}", lines, copied("Copy as text: what is said of many.step").splitlines())

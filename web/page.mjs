@@ -20,6 +20,8 @@
 // The hash beside an accepted file is made by the browser (`crypto.subtle`), and beside it stands the command line that
 // makes it again, unless the listing was given another name. Where the browser has none, as on a page from a server
 // without TLS, it isn't shown.
+// Below it stands the hash of the numbered file, which the program makes at once where the canonical file has 2 MiB at
+// most, and of a larger one where that is asked for, since it takes many times as long and as much memory.
 //
 // After an answer the focus is on its heading, so that a keyboard and a screen reader go on from there, and on a small
 // screen it is brought into sight; where a choice of the answer led to it, the focus is on that choice. A link in front
@@ -99,8 +101,8 @@ let resting = null;
 // What begin() was called for last.
 let current = null;
 // How differences are listed where nothing is asked: those by names, with the header, and without a tolerance. `way` is which of the
-// lists is shown, and `focus` what had the focus when it was asked.
-const USUALLY_ASKED = { upToNames: false, data: false, tolerance: "", way: null, focus: null, report: null };
+// lists is shown, `focus` what had the focus when it was asked, and `numbered` whether large files are numbered too.
+const USUALLY_ASKED = { upToNames: false, data: false, tolerance: "", way: null, focus: null, report: null, numbered: false };
 
 // --- Parts of the page ---
 
@@ -639,7 +641,8 @@ async function answerAsText(title, more, shownFiles, found) {
 function fileAsText(file) {
   const by = file.schema ? ` by ${file.schema}` : "";
   const change = file.change ? [shown(file.change)] : [];
-  const hash = file.hash ? [`SHA-256 of the canonical file: ${file.hash}`] : [];
+  const numbered = file.numbered?.hash ? [`SHA-256 of the numbered file: ${file.numbered.hash}`] : [];
+  const hash = file.hash ? [`SHA-256 of the canonical file: ${file.hash}`, ...numbered] : [];
   const header = (file.header ?? []).map(([name, texts]) => `${name}: ${texts.join(", ")}`);
   const holds = (file.keywords ?? []).map(([key, count]) => `${count} ${key}`);
   const said = file.accepted ? [file.line, ...hash, ...header, ...holds] : linesOf(file, file.refusals.length);
@@ -688,13 +691,10 @@ function summaryOfDifferences({ names, upToNames, asked }, way) {
   const said = [...butFor({ names, upToNames }), `${count}${way === "shapes" && !ofShapes ? " by the names of instances" : ""}.`];
   if (names.onlyHeader) said.push("All of them stand in the header: the data is the same.");
   else if (upToNames?.word === "same") said.push("Up to the names of their instances the files are the same.");
+  else if (way === "shapes" || upToNames?.count === 0) said.push(...saidOfNoAnswer(upToNames));
   return said.join(" ");
 }
 
-  else if (way === "shapes" || upToNames?.count === 0) said.push(...saidOfNoAnswer(upToNames));
-/** How instances are told at first: by what they say where that was asked, or where most names are other. */
-function wayOf({ asked, upToNames }) {
-  return asked.way ?? (upToNames?.isRenamed ? "shapes" : "names");
 /** Why it isn't known whether two files are the same up to names, as a sentence; nothing where it is. */
 function saidOfNoAnswer({ alike, why }) {
   const question = "Whether they are the same up to names";
@@ -702,6 +702,9 @@ function saidOfNoAnswer({ alike, why }) {
   return why ? [`${question} isn’t known. ${WORDS[why] ?? `${why}.`}`] : [];
 }
 
+/** How instances are told at first: by what they say where that was asked, or where most names are other. */
+function wayOf({ asked, upToNames }) {
+  return asked.way ?? (upToNames?.isRenamed ? "shapes" : "names");
 }
 
 /** What is known where nothing is listed, since the header or small distances don't count. */
@@ -806,25 +809,45 @@ function fold(title, ...inner) {
 /** The hash of the canonical file, and the command line that makes it again. */
 function hashed(answer) {
   if (!answer.hash) return [];
-  const hash = element("div", { class: "hash" }, element("code", {}, answer.hash), copying("Copy", () => answer.hash, "the hash"));
-  const rows = [element("dt", {}, "SHA-256 of the canonical file"), element("dd", {}, hash)];
+  const row = (title, ...inner) => [element("dt", {}, title), element("dd", {}, ...inner)];
+  const rows = row("SHA-256 of the canonical file", withCopy(answer.hash, "the hash"));
   const line = commandLine(answer);
-  if (line) {
-    const again = element("div", { class: "hash" }, element("code", { class: "again" }, line), copying("Copy", () => line, "the command line"));
-    rows.push(element("dt", {}, "The same on a command line"), element("dd", {}, again));
-  }
+  if (line) rows.push(...row("The same on a command line", withCopy(line, "the command line", "again")));
+  rows.push(...row("SHA-256 of the numbered file, whatever the names of instances are", ...ofNumbered(answer)));
   return [element("dl", {}, ...rows)];
 }
 
-/** The command line that makes the hash of a canonical file again; null where it would want more than this. */
-function commandLine({ change, from: { listing, listingUnpackedBy, path, unpackedBy } }) {
+/** A word of code with a button that copies it. */
+function withCopy(text, what, kind = null) {
+  return element("div", { class: "hash" }, element("code", { class: kind }, text), copying("Copy", () => text, what));
+}
+
+/** The hash of the numbered file with its command line; or why there is none, or how to ask for it. */
+function ofNumbered({ name, numbered, ...answer }) {
+  if (!numbered) {
+    const ask = () => begin("", { ...(shownLists?.asked ?? USUALLY_ASKED), numbered: true, focus: ".numbered" });
+    return [button("Number it", ask), hint("With a file of this size that may take a minute and much memory.")];
+  }
+  const { hash, whole, why } = numbered;
+  const alike = /^refused 59 Alike in (#\d+)$/.exec(why)?.[1];
+  const said = alike ? `None: the model doesn’t tell ${alike} from another instance (59 Alike).` : `None: ${WORDS[why] ?? why}`;
+  if (why) return [element("p", { class: "numbered", tabindex: "-1" }, said)];
+  const made = [element("div", { class: "numbered", tabindex: "-1" }, withCopy(hash, "the hash of the numbered file"))];
+  const line = commandLine(answer, " --names");
+  if (line) made.push(withCopy(line, "its command line", "numbered-again"));
+  return [...made, saving("Save the numbered file", () => whole, name.replace(/(\.\w+)?$/, ".numbered.step"))];
+}
+
+/** The command line that makes the hash of a canonical file again, or with another word that of a numbered one; null where it would
+ *  want more than this. */
+function commandLine({ change, from: { listing, listingUnpackedBy, path, unpackedBy } }, word = "") {
   if (change || listingUnpackedBy) return null;
-  if (!unpackedBy) return `p21 canon ${asWord(listing)} ${asWord(path)} | sha256sum`;
+  if (!unpackedBy) return `p21 canon${word} ${asWord(listing)} ${asWord(path)} | sha256sum`;
   const { program, from, member } = unpackedBy;
   // Of an archive unzip takes patterns for the names in it.
   if (program === "unzip" && /[*?[\\]/.test(member)) return null;
   const unpack = program === "gunzip" ? `gunzip < ${asWord(from)}` : `unzip -p ${asWord(from)} ${asWord(member)}`;
-  return `${unpack} | p21 canon ${asWord(listing)} /dev/stdin | sha256sum`;
+  return `${unpack} | p21 canon${word} ${asWord(listing)} /dev/stdin | sha256sum`;
 }
 
 /** The name of a file as a word of a command line. What changes how it reads stands there by numbers, which bash reads. */

@@ -255,6 +255,18 @@ class Job {
   }
 
   /**
+   * What the program says of an accepted file whatever the names of its instances are: the hash of the numbered file, or why there is
+   * none. Of a large file it says so where it is asked.
+   */
+  async numbered({ name, canonical, served }) {
+    if (canonical.length > SMALL_ENOUGH && !this.asked.numbered) return null;
+    this.say({ progress: { name } });
+    const files = { schema: served.text, file: new Text(canonical) };
+    const { output, error, status } = this.program.run(["canon", "--names", "--", "schema", "file"], files);
+    return status === 0 ? { hash: await hashOf(output), whole: new Blob([output], { type: "text/plain" }) } : { why: error };
+  }
+
+  /**
    * What the program lists of a file, each refusal still without what is around it; the first one alone where there is no list, as
    * for want of memory.
    */
@@ -388,7 +400,10 @@ class Job {
   /** Does the job: says the answer, and behind it the places that aren't found yet. */
   async run() {
     const answer = this.answer();
-    for (const file of answer.files) if (file.canonical) file.hash = await hashOf(file.canonical);
+    for (const file of answer.files.filter(({ canonical }) => canonical)) {
+      file.hash = await hashOf(file.canonical);
+      file.numbered = await this.numbered(file);
+    }
     const kindsOf = ({ refusals = [], kinds = null }) => kinds?.map(([kind]) => kind) ?? refusals.map(({ line }) => kindOfLine(line));
     const kinds = [...answer.schemas, ...answer.files].flatMap(kindsOf);
     const numbers = kinds.map((kind) => /^(S?\d+) /.exec(kind)?.[1]).filter(Boolean);
