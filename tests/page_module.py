@@ -322,8 +322,9 @@ def marks(tests, _):
     the repository, with files in place of what is built."""
     copy = tests.here / "copy"
     shutil.copytree(ROOT / "crates", copy / "crates", ignore=shutil.ignore_patterns("must-fail", "out"))
-    for part in ("making", "platforms", "web", "tools", "examples"):
+    for part in ("making", "web", "tools", "examples"):
         shutil.copytree(ROOT / part, copy / part, ignore=shutil.ignore_patterns("__pycache__"))
+    shutil.copytree(ROOT / "platforms", copy / "platforms", ignore=shutil.ignore_patterns("out"))
     (copy / "docs").mkdir()
     for part in ("crates.txt", "HANDLES", "docs/SCHEMAS.md"):
         shutil.copy(ROOT / part, copy / part)

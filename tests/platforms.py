@@ -2,7 +2,7 @@
 """The program, its tools and its library for Windows and for Linux on AArch64, as making/build-for makes them, under Wine and under
 QEMU's user mode. What each answers is what the program for Linux on x86-64 answers, byte for byte.
 
-    tests/platforms.py [SYSTEM..]     x86_64-windows and aarch64-linux; both without any
+    tests/platforms.py [PART..]     x86_64-windows, aarch64-linux and tools-as-on-windows; all without any, side by side
 
 program.sh, every_refusal.py, two_ways.py, fuzz.py and hostile/large.py are run over each program; then names, pipes, streams in
 bytes, each allocation of some commands refused, less and less memory, the deepest texts on less stack, and the C programs of
@@ -23,6 +23,7 @@ packages wine64, qemu-user, gcc-mingw-w64-x86-64, gcc-aarch64-linux-gnu and libc
 # is, and one hung; a program of three lines hung once in 812 starts, and always answered. So the hang is Wine's, and of
 # the answer without a word it is believed and not shown. Three such runs in a row are a failure.
 
+import concurrent.futures
 import contextlib
 import hashlib
 import ntpath
@@ -51,7 +52,7 @@ from cases import DEMO, file_of, write_all  # noqa: E402
 from release import systems  # noqa: E402
 from rigged import OUT_OF_MEMORY, Rigged, Tally  # noqa: E402
 
-WINDOWS, ARM = "x86_64-windows", "aarch64-linux"
+WINDOWS, ARM, TOOLS_ALONE = "x86_64-windows", "aarch64-linux", "tools-as-on-windows"
 VERSION = b"p21 0.1.0 (canonical form 1)\n"
 FUZZED, TWO_WAYS = 2000, 300
 # The rows of program.sh that are otherwise: Wine makes text of a word that is none, and draws a terminal by itself.
@@ -655,25 +656,24 @@ def paths(made, tally):
     tally.part(f"{made.name}, paths of Windows")
 
 
-def tools_tests(made, tally):
+def tools_tests(tally):
     """The tests of the tools, as on Windows."""
     run_by = f"{sys.executable} {TESTS / 'platforms' / 'as_windows.py'}"
     environment = {**os.environ, "P21_TOOLS_RUN_BY": run_by, "P21_TOOLS_OTHERWISE": "|".join(TOOLS_OTHERWISE)}
     for name in TOOLS_TESTS:
         done = subprocess.run([TESTS / f"tools_{name}.py"], stdout=subprocess.PIPE, stderr=subprocess.STDOUT, check=False, env=environment, text=True)
         tally.check(f"tools_{name}.py: {done.stdout[-2000:] if done.returncode else ''}", done.returncode, 0)
-        tally.part(f"{made.name}, tools_{name}.py", f": {done.stdout.rstrip().rpartition(chr(10))[2][:100]}")
+        tally.part(f"{TOOLS_ALONE}, tools_{name}.py", f": {done.stdout.rstrip().rpartition(chr(10))[2][:100]}")
 
 
 PARTS = {
-    WINDOWS: (files, versions, scripts, names, bytes_as_they_are, closed_pipes, of_windows, starters, refusals, limits, stack, library, tools, paths, tools_tests),
+    WINDOWS: (files, versions, scripts, names, bytes_as_they_are, closed_pipes, of_windows, starters, refusals, limits, stack, library, tools, paths),
     ARM: (files, versions, scripts, names, bytes_as_they_are, closed_pipes, refusals, limits, stack, library),
 }
 
 
-def tried(name, tally):
+def tried_for(name, tally):
     """All parts for a system, in a folder of their own."""
-    subprocess.run([ROOT / "making" / "build-for", "--library", name], check=True, stdout=subprocess.DEVNULL)
     with tempfile.TemporaryDirectory(prefix="platforms-") as folder:
         made = Made(name, pathlib.Path(folder))
         here = made.folder / "here"
@@ -685,19 +685,37 @@ def tried(name, tally):
                 part(made, tally, *([here] if part.__code__.co_argcount == 3 else []))
 
 
+def tried(name):
+    """How many runs there are of what was asked for, and how many are wrong."""
+    tally = Tally()
+    if name in PARTS:
+        tried_for(name, tally)
+    else:
+        tools_tests(tally)
+    return tally.all_runs, tally.all_wrong
+
+
 def main():
-    """Tries what is made for each system."""
-    asked = sys.argv[1:] or [WINDOWS, ARM]
-    needs.wanted("rt", "qemu-aarch64")
+    """Tries what was asked for, each in a process of its own."""
+    asked = sys.argv[1:] or [*PARTS, TOOLS_ALONE]
     for name in asked:
+        if name not in (*PARTS, TOOLS_ALONE):
+            sys.exit(f"platforms.py: there is no part {name}")
+    needs.wanted("rt", "qemu-aarch64")
+    built_for = [name for name in asked if name in PARTS]
+    for name in built_for:
         if why := systems.missing(systems.SYSTEMS[name]):
             needs.skipped(why)
     if not (shutil.which("wine64") or os.path.exists("/usr/lib/wine/wine64")):
         needs.skipped("there is no wine64")
     os.environ["P21"] = str(pathlib.Path(os.environ.get("P21", ROOT / "crates" / "p21" / "out" / "p21")).resolve())
+    if built_for:
+        subprocess.run([ROOT / "making" / "build-for", "--library", *built_for], check=True, stdout=subprocess.DEVNULL)
     tally = Tally()
-    for name in asked:
-        tried(name, tally)
+    with concurrent.futures.ProcessPoolExecutor(len(asked)) as processes:
+        for runs, wrong in processes.map(tried, asked):
+            tally.all_runs += runs
+            tally.all_wrong += wrong
     tally.end()
 
 

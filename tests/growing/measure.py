@@ -1,7 +1,7 @@
 #!/usr/bin/env python3
 """Measures how the program's time and memory grow with its input.
 
-  tests/growth.sh [--second SECONDS] [--table] [NAME..]
+  tests/growth.sh [--second SECONDS] [--jobs N] [--table] [NAME..]
 
 For each input a size is looked for at which a run takes as long as `--second` says (0.12 seconds of a processor, so that the
 last of three doublings takes one); then it is doubled three times, and the exponent of the growth of time over bytes is fitted.
@@ -12,9 +12,11 @@ alone (alone.c).
 
 An input that is over its bounds today has a mark in OPEN, with how many times over the bounds it is. The status is 1 where one
 without a mark is over the bounds, and where one with a mark is worse than its mark says. `--table` prints the marks as they
-would have to be. The program is that of the environment variable P21, else ./p21.
+would have to be. With `--jobs` so many inputs are measured side by side, and what is over its bounds then is measured once more, alone.
+The program is that of the environment variable P21, else ./p21.
 """
 import argparse
+import concurrent.futures
 import contextlib
 import math
 import os
@@ -234,6 +236,21 @@ def runs_of(launcher, row, a_byte, second):
     return runs
 
 
+def runs_of_all(launcher, rows, a_byte, second, jobs):
+    """The runs of each input, side by side in so many processes. Other work makes runs longer, so what is over its bounds beside others
+    is measured once more when these have ended."""
+    if jobs == 1:
+        for row in rows:
+            yield runs_of(launcher, row, a_byte, second)
+        return
+    with concurrent.futures.ProcessPoolExecutor(jobs) as processes:
+        begun = [processes.submit(runs_of, launcher, row, a_byte, second) for row in rows]
+        found = [it.result() for it in begun]
+    for row, runs in zip(rows, found):
+        is_over = judged(row, runs)[1]
+        yield runs_of(launcher, row, a_byte, second) if is_over else runs
+
+
 def judged(row, runs):
     """What is wrong with an input, and what there is to say of it."""
     if not runs:
@@ -253,6 +270,7 @@ def main():
     parser = argparse.ArgumentParser(prog="tests/growth.sh", description=__doc__.splitlines()[0])
     parser.add_argument("names", metavar="NAME", nargs="*", help="inputs; all without one")
     parser.add_argument("--second", type=float, default=0.12, help="the seconds that the first of four runs takes")
+    parser.add_argument("--jobs", type=int, default=1, help="how many inputs are measured side by side")
     parser.add_argument("--table", action="store_true", help="print the marks of what is over its bounds")
     given = parser.parse_args()
     known = {row.name: row for row in ROWS}
@@ -264,8 +282,8 @@ def main():
         launcher = built_launcher(folder)
         a_byte = seconds_of_sha(launcher)
         print(f"sha256sum: {a_byte * 1e9:.2f} ns a byte, so at most {SHA_TIMES * a_byte * 1e6:.2f} s a megabyte", flush=True)
-        for row in [known[name] for name in given.names] or ROWS:
-            runs = runs_of(launcher, row, a_byte, given.second)
+        rows = [known[name] for name in given.names] or ROWS
+        for row, runs in zip(rows, runs_of_all(launcher, rows, a_byte, given.second, given.jobs)):
             said, failed = judged(row, runs)
             fitted = exponent(runs or ())
             grown = f"exponent {fitted:.2f}" if fitted is not None else "too short for an exponent"
