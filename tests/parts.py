@@ -24,6 +24,8 @@ TESTS = pathlib.Path(__file__).resolve().parent
 # In the words of a part: the program, and how many processors there are for it.
 PROGRAM, PROCESSORS = "{program}", "{jobs}"
 ALL = sys.maxsize
+# A part that is broken off has so many seconds to end.
+SECONDS_TO_END = 10
 
 # A script below this folder with its words, the scripts that end before it begins, and how many processors it takes.
 Part = collections.namedtuple("Part", "script words behind takes", defaults=((), (), 1))
@@ -87,6 +89,7 @@ class Runs:
         self.jobs, self.logs = jobs, logs
         self.running = {}
         self.ended = []
+        self.is_broken_off = False
         self.change = threading.Condition()
 
     def may_begin(self, part):
@@ -119,8 +122,9 @@ class Runs:
         ended = Ended(part, how, round(time.monotonic() - begun), round(usage.ru_utime + usage.ru_stime), text)
         with self.change:
             del self.running[part]
-            self.ended.append(ended)
-            tell(ended)
+            if not self.is_broken_off:
+                self.ended.append(ended)
+                tell(ended)
             self.change.notify()
 
     def run(self):
@@ -133,12 +137,14 @@ class Runs:
                         self.begin(part)
                 self.change.wait()
 
-    def end(self):
+    def break_off(self):
         """Ends what runs, with all that it began."""
         with self.change:
-            for process in self.running.values():
-                os.killpg(process.pid, signal.SIGTERM)
-            self.waiting.clear()
+            self.is_broken_off = True
+            for how in (signal.SIGTERM, signal.SIGKILL):
+                for process in self.running.values():
+                    os.killpg(process.pid, how)
+                self.change.wait_for(lambda: not self.running, SECONDS_TO_END)
 
 
 def tell(ended):
@@ -173,7 +179,7 @@ def main():
         try:
             runs.run()
         finally:
-            runs.end()
+            runs.break_off()
     return int(tell_all(runs.ended, time.monotonic() - begun)["FAILED"] > 0)
 
 
