@@ -605,12 +605,13 @@ def many(tests):
     tests.judge(f"many refusals: {took:.1f} s", True, took < 60)
 
 
-# A file of so many bytes with one refusal takes at most so many times what `sha256sum` takes.
-LARGE, MOST_TIMES = 144_000_000, 4
+# A file of so many bytes with one refusal takes at most so many times what `sha256sum` takes. A machine that does other work may be slow in
+# some of so many rounds.
+LARGE, MOST_TIMES, ROUNDS = 144_000_000, 4, 8
 
 
 def speed(tests):
-    """The time for a large file with one refusal near its end, beside that of sha256sum in the same run; the best of three."""
+    """The time for a large file with one refusal near its end, beside that of sha256sum in the same run; the best of some rounds."""
     point = "#%d=CARTESIAN_POINT('',(%d.,0.,0.));"
     block = "\n".join(point % (number, number) for number in range(10_000_000, 10_001_000))
     count = LARGE // len(block)
@@ -622,7 +623,11 @@ def speed(tests):
         file.writelines(f"{text}\n" for text in blocks)
         file.write("#1=CARTESIAN_POINT('',(80,0.,0.));" + data[2])
     best = {}
-    for _ in range(3):
+
+    def times(name):
+        return best[name] / best["sha256sum"]
+
+    for _ in range(ROUNDS):
         for name, command in [
             ("sha256sum", ["sha256sum", path]),
             ("alone", ["tools/p21-where", "--format", "lines", SCHEMA, path]),
@@ -633,9 +638,10 @@ def speed(tests):
             best[name] = min(best.get(name, MOST_SECONDS), time.monotonic() - begun)
             if name != "sha256sum":
                 tests.judge(f"a large file, {name}", f"{path}:{count * 1000 + 8}:24: 49 WrongKind in #1", output.rpartition(": CARTESIAN")[0])
+        if max(times("alone"), times("all")) <= MOST_TIMES:
+            break
     for name in ("alone", "all"):
-        times = best[name] / best["sha256sum"]
-        tests.judge(f"a large file, {name}: {times:.1f} times the time of sha256sum", True, times <= MOST_TIMES)
+        tests.judge(f"a large file, {name}: {times(name):.1f} times the time of sha256sum", True, times(name) <= MOST_TIMES)
     print(f"p21-where, a file of {path.stat().st_size // 10**6} MB: " + ", ".join(f"{name} {took:.2f} s" for name, took in best.items()))
     path.unlink()
 
