@@ -88,7 +88,8 @@ def growth(tests, node):
 def refused_texts(tests):
     """The texts that tools/p21-where is tested by: schemas and files under them."""
     found = [[SCHEMA, str(path)] for path in sorted(pathlib.Path("examples/refused").iterdir())]
-    found += [words[1:] for _, words, _ in texts.faults(tests.here) if words[0] != "param"]
+    # The page has no parameters alone, and no files that are numbered.
+    found += [words for _, (command, *words), _ in texts.faults(tests.here) if command != "param" and words[0] != "--names"]
     for number, (_, instances, *_) in enumerate(tools_where.VALUES):
         text, *_ = tools_where.unmarked(file_of(instances, [("PRODUCT_MODEL", "DEMO")]))
         found.append([tools_where.DEMO, tests.make(f"value{number}.step", text)])
@@ -108,7 +109,7 @@ def places(tests, node):
     """What the page says of refused texts is what tools/p21-where prints, line by line, with the same status."""
     given = refused_texts(tests) + list(broken_files(tests))
     command = [*node, "tests/web/where.mjs", str(making.MODULE)]
-    done = subprocess.run(command, input=json.dumps(given), capture_output=True, text=True, check=True)
+    done = subprocess.run(command, input=json.dumps(given), stdout=subprocess.PIPE, text=True, check=True)
     for paths, (*found, of_all) in zip(given, json.loads(done.stdout), strict=True):
         output, error, status = tests.run(paths)
         tests.judge(" ".join(paths), [output.splitlines(), status], found if not error else error)

@@ -21,25 +21,25 @@ import time
 from needs import SKIPPED
 
 TESTS = pathlib.Path(__file__).resolve().parent
-# In the words of a part: the program, and how many processors there are for it.
-PROGRAM, PROCESSORS = "{program}", "{jobs}"
 ALL = sys.maxsize
 # A part that is broken off has so many seconds to end.
 SECONDS_TO_END = 10
 
-# A script below this folder with its words, the scripts that end before it begins, and how many processors it takes.
+# A script below this folder with its words, of which PROGRAM and JOBS stand for the program and the number of processors; the parts that
+# end before it begins, by their scripts or names; and how many processors it takes.
 Part = collections.namedtuple("Part", "script words behind takes", defaults=((), (), 1))
 # How a part ended, its seconds by the clock and of a processor, and what it wrote.
 Ended = collections.namedtuple("Ended", "part how seconds of_processor text")
 
-# What takes longest begins first. release.py packs what others build, and page.py and page_module.py build the same. What measures
-# time, or takes all processors by itself, has the machine for itself at the end.
+# What takes longest begins first. page_module.py takes the page that page.py builds, and release.py packs what others build, and builds it
+# once more. What measures time, or takes all processors by itself, has the machine for itself at the end.
 PARTS = [
-    Part("platforms.py", takes=3),
+    Part("platforms.py", ("build",)),
     Part("bindings.sh"),
     Part("page.py"),
+    *(Part("platforms.py", (name,), ("platforms.py build",)) for name in ("aarch64-linux", "x86_64-windows", "tools-as-on-windows")),
     Part("page_module.py", behind=("page.py",)),
-    Part("release.py", behind=("platforms.py", "bindings.sh", "page.py")),
+    Part("release.py", behind=("platforms.py", "bindings.sh", "page.py", "page_module.py")),
     *map(Part, ["fail_alloc.sh", "want_of_memory.sh", "numbering.py", "tools_where.py", "tools_names.py", "hostile/calls.py"]),
     *map(Part, ["hostile/allocations.py", "tools_diff.py", "tools_table.py", "edges.py", "hostile/larger.py"]),
     Part("fuzz.py", ("--cases", "10000", "--seed", "1")),
@@ -47,11 +47,11 @@ PARTS = [
     *map(Part, ["program.sh", "texts.py", "canonical_form.py", "definitions.py", "edits.py"]),
     Part("wrong_bodies.sh", ("--count",)),
     *map(Part, ["records.py", "refusals.py", "patterns.py", "library.py", "copies.py", "install.sh"]),
-    Part("pages.sh", (PROGRAM,)),
+    Part("pages.sh", ("PROGRAM",)),
     *map(Part, ["every_refusal.py", "record_places.py", "differences.py", "ranks.py", "room.py", "ways.py"]),
     *map(Part, ["hostile/devices.sh", "hostile/changing.py", "hostile/large.py", "hostile/stack.py", "hostile/memory.py"]),
     Part("held.py", takes=ALL),
-    Part("growth.sh", ("--jobs", PROCESSORS), takes=ALL),
+    Part("growth.sh", ("--jobs", "JOBS"), takes=ALL),
 ]
 
 
@@ -81,6 +81,11 @@ def chosen(names):
     return [part for part in parts if part.script in names] + [Part(name) for name in names if name not in {part.script for part in parts}]
 
 
+def name_of(part):
+    """A part in a line: its script, with the words that it is given."""
+    return " ".join([part.script, *part.words])
+
+
 class Runs:
     """The parts that run, those that wait, and how the others ended."""
 
@@ -94,7 +99,7 @@ class Runs:
 
     def may_begin(self, part):
         """Has all ended that a part waits for, and are there processors for it? One that takes more than there are has all."""
-        unended = {it.script for it in [*self.waiting, *self.running]}
+        unended = {name for it in [*self.waiting, *self.running] for name in (it.script, name_of(it))}
         return not unended.intersection(part.behind) and (not self.running or self.taken() + part.takes <= self.jobs)
 
     def taken(self):
@@ -103,8 +108,8 @@ class Runs:
 
     def begin(self, part):
         """Begins a part."""
-        words = [word.format(program=os.environ["P21"], jobs=self.jobs) for word in part.words]
-        path = self.logs / f"{part.script.replace('/', '-')}.log"
+        words = [{"PROGRAM": os.environ["P21"], "JOBS": str(self.jobs)}.get(word, word) for word in part.words]
+        path = self.logs / f"{name_of(part).replace('/', '-').replace(' ', '_')}.log"
         begun = time.monotonic()
         with open(path, "wb") as log:
             # A session of its own, so that it can be ended with all that it began.
@@ -150,7 +155,7 @@ class Runs:
 def tell(ended):
     """Prints how a part ended, and all that it wrote where it failed."""
     last = ended.text.rstrip().rpartition("\n")[2][:120]
-    print(f"{ended.part.script}: {ended.how}, {ended.seconds} s, {ended.of_processor} of a processor: {last}", flush=True)
+    print(f"{name_of(ended.part)}: {ended.how}, {ended.seconds} s, {ended.of_processor} of a processor: {last}", flush=True)
     if ended.how == "FAILED":
         print(ended.text, flush=True)
 
@@ -159,7 +164,7 @@ def tell_all(ended, seconds):
     """Prints what each part took, the longest first, and how many ended how."""
     print("\nseconds by the clock, and of a processor:")
     for it in sorted(ended, key=lambda it: -it.seconds):
-        print(f"{it.seconds:6} {it.of_processor:6}  {it.part.script}{'' if it.how == 'passed' else f': {it.how}'}")
+        print(f"{it.seconds:6} {it.of_processor:6}  {name_of(it.part)}{'' if it.how == 'passed' else f': {it.how}'}")
     counts = collections.Counter(it.how for it in ended)
     whole = sum(it.of_processor for it in ended)
     print(f"{counts['passed']} passed, {counts['FAILED']} failed, {counts['skipped']} skipped, {seconds:.0f} s, {whole} of a processor")

@@ -2,7 +2,8 @@
 """The program, its tools and its library for Windows and for Linux on AArch64, as making/build-for makes them, under Wine and under
 QEMU's user mode. What each answers is what the program for Linux on x86-64 answers, byte for byte.
 
-    tests/platforms.py [PART..]     x86_64-windows, aarch64-linux and tools-as-on-windows; all without any, side by side
+    tests/platforms.py [PART..]     x86_64-windows, aarch64-linux and tools-as-on-windows; all without any, side by side. With `build`
+                                    what is missing or old of the two systems is made, and nothing tried
 
 program.sh, every_refusal.py, two_ways.py, fuzz.py and hostile/large.py are run over each program; then names, pipes, streams in
 bytes, each allocation of some commands refused, less and less memory, the deepest texts on less stack, and the C programs of
@@ -52,7 +53,7 @@ from cases import DEMO, file_of, write_all  # noqa: E402
 from release import systems  # noqa: E402
 from rigged import OUT_OF_MEMORY, Rigged, Tally  # noqa: E402
 
-WINDOWS, ARM, TOOLS_ALONE = "x86_64-windows", "aarch64-linux", "tools-as-on-windows"
+WINDOWS, ARM, TOOLS_ALONE, BUILD = "x86_64-windows", "aarch64-linux", "tools-as-on-windows", "build"
 VERSION = b"p21 0.1.0 (canonical form 1)\n"
 FUZZED, TWO_WAYS = 2000, 300
 # The rows of program.sh that are otherwise: Wine makes text of a word that is none, and draws a terminal by itself.
@@ -699,10 +700,10 @@ def main():
     """Tries what was asked for, each in a process of its own."""
     asked = sys.argv[1:] or [*PARTS, TOOLS_ALONE]
     for name in asked:
-        if name not in (*PARTS, TOOLS_ALONE):
+        if name not in (*PARTS, TOOLS_ALONE, BUILD):
             sys.exit(f"platforms.py: there is no part {name}")
     needs.wanted("rt", "qemu-aarch64")
-    built_for = [name for name in asked if name in PARTS]
+    built_for = [name for name in PARTS if name in asked or BUILD in asked]
     for name in built_for:
         if why := systems.missing(systems.SYSTEMS[name]):
             needs.skipped(why)
@@ -711,6 +712,9 @@ def main():
     os.environ["P21"] = str(pathlib.Path(os.environ.get("P21", ROOT / "crates" / "p21" / "out" / "p21")).resolve())
     if built_for:
         subprocess.run([ROOT / "making" / "build-for", "--library", *built_for], check=True, stdout=subprocess.DEVNULL)
+    if BUILD in asked:
+        print(f"made for {' and '.join(built_for)}")
+        return
     tally = Tally()
     with concurrent.futures.ProcessPoolExecutor(len(asked)) as processes:
         for runs, wrong in processes.map(tried, asked):
