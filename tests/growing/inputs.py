@@ -840,7 +840,7 @@ NODES = (
 )
 
 
-def numbered(folder, lines):
+def numbers_of(folder, lines):
     return ["canon", "--names", schema_of(folder, [NODES]), data(folder, lines, "S")]
 
 
@@ -859,12 +859,12 @@ def numbers_of_points(n, folder):
 
 def numbers_along_a_path(n, folder):
     """Half as many rounds as nodes, each of which tells two."""
-    return numbered(folder, path(n))
+    return numbers_of(folder, path(n))
 
 
 def numbers_along_a_ruler(n, folder):
     """A path whose marks are those of a ruler: it is told apart by halves."""
-    return numbered(folder, path(n, lambda k: (k & -k).bit_length() % 2))
+    return numbers_of(folder, path(n, lambda k: (k & -k).bit_length() % 2))
 
 
 def numbers_on_a_circle(n, folder):
@@ -872,13 +872,13 @@ def numbers_on_a_circle(n, folder):
     word, more = "0", "01"
     while len(more) < n:
         word, more = more, more + word
-    return numbered(folder, (node(k, k % n + 1, mark=int(more[k - 1])) for k in range(1, n + 1)))
+    return numbers_of(folder, (node(k, k % n + 1, mark=int(more[k - 1])) for k in range(1, n + 1)))
 
 
 def numbers_of_a_de_bruijn_graph(n, folder):
     """A De Bruijn graph: in each round nearly all nodes are fresh."""
     whole = 1 << (n.bit_length() - 1)
-    return numbered(folder, (node(k + 1, 2 * k % whole + 1, (2 * k + 1) % whole + 1) for k in range(whole)))
+    return numbers_of(folder, (node(k + 1, 2 * k % whole + 1, (2 * k + 1) % whole + 1) for k in range(whole)))
 
 
 def numbers_of_a_grid(n, folder):
@@ -886,12 +886,12 @@ def numbers_of_a_grid(n, folder):
 
     def at(row, column):
         return row * side + column + 1 if row < side and column < side else 0
-    return numbered(folder, (node(at(row, column), at(row + 1, column), at(row, column + 1)) for row in range(side) for column in range(side)))
+    return numbers_of(folder, (node(at(row, column), at(row + 1, column), at(row, column + 1)) for row in range(side) for column in range(side)))
 
 
 def numbers_of_a_random_graph(n, folder):
     chance = random.Random(1)
-    return numbered(folder, (node(k, chance.randint(1, n), chance.randint(1, n)) for k in range(1, n + 1)))
+    return numbers_of(folder, (node(k, chance.randint(1, n), chance.randint(1, n)) for k in range(1, n + 1)))
 
 
 def numbers_on_a_comb(n, folder):
@@ -904,18 +904,18 @@ def numbers_on_a_comb(n, folder):
             for k in range(first + 1, behind):
                 yield node(k, k + 1 if k + 1 < behind else 0)
             first, length = behind, length + 1
-    return numbered(folder, teeth())
+    return numbers_of(folder, teeth())
 
 
 def numbers_below_hubs(n, folder):
     """Ten hubs in a circle, each of which holds all nodes of a path: no two of them are told apart, and it is refused."""
     held = ",".join("#%d" % k for k in range(11, n + 11))
     hubs = ("#%d=HUB((%s),#%d);\n" % (k, held, k % 10 + 1) for k in range(1, 11))
-    return numbered(folder, [*hubs, *(node(k + 10, k + 11 if k < n else 0) for k in range(1, n + 1))])
+    return numbers_of(folder, [*hubs, *(node(k + 10, k + 11 if k < n else 0) for k in range(1, n + 1))])
 
 
 def numbers_of_equal_pairs(n, folder):
-    return numbered(folder, (node(k, k + 1 if k % 2 else 0) for k in range(1, 2 * n + 1)))
+    return numbers_of(folder, (node(k, k + 1 if k % 2 else 0) for k in range(1, 2 * n + 1)))
 
 
 globals().update({name: of_lines(made) for name, made in LINES.items()})
