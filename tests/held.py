@@ -27,6 +27,8 @@ HELD = pathlib.Path(measure.__file__).with_name("held.tsv")
 INSTRUCTIONS_TIMES, MEMORY_TIMES = 1.25, 1.15
 # An input is held at the first size at which a run takes so many seconds.
 SECONDS = 0.015
+# Its memory is the least of so many runs: of the program's own file the system has more or fewer pages at hand.
+RUNS = 3
 COUNTING = ("valgrind", "--tool=cachegrind", "--cache-sim=no", "--cachegrind-out-file=/dev/null")
 
 Held = namedtuple("Held", "size instructions megabytes")
@@ -45,7 +47,7 @@ def taken(launcher, row, size):
     """What an input takes at a size."""
     with measure.input_of(row, size) as made:
         words = [measure.PROGRAM, *made.arguments]
-        return Held(size, instructions(words), measure.run(launcher, words)[1] / 1e6)
+        return Held(size, instructions(words), min(measure.run(launcher, words)[1] for _ in range(RUNS)) / 1e6)
 
 
 def size_to_hold(launcher, row):
