@@ -290,7 +290,7 @@ def up_to_names(page):
 
 def large_up_to_names(page):
     """Larger files: those that are numbered otherwise are told by what they say unasked, others by their names; and where both have
-    more than 32 MiB, what may be had by asking is said."""
+    more than 16 MiB, what may be had by asking is said."""
     rows = "\n".join(f"#{number}=POINT($,{number}.,1.);" for number in range(1, 40001))
     text = file_of(rows, [("PRODUCT_MODEL", "DEMO")])
     half = "\n".join(f"#{number}=POINT($,{number}.,{1 + (number > 20000)}.);" for number in range(1, 40001))
@@ -896,7 +896,9 @@ def without_schema_in(page, name):
         page.browser.choose("#first", page.folder / "alone.step")
         first = schema.split(" ")[0]
         page.browser.wait(f"{SAID}.startsWith('Now the schema is wanted: alone.step names {first}.')")
-        judge(f"where {first} is published, in {name}", address, ask("document.querySelector('#said a')?.getAttribute('href') ?? null"))
+        page.browser.wait("!document.getElementById('answer').hidden")
+        links = "['#said a', '.wanting a'].map((each) => document.querySelector(each)?.getAttribute('href') ?? null)"
+        judge(f"where {first} is published, in {name}", [address, address], ask(links))
     reopened()
     ask("document.querySelector('#comparisons button').click()")
     page.browser.wait(ANSWER)
@@ -936,7 +938,7 @@ def without_schema_in(page, name):
 
 # What can be pressed or typed into, as far as it is in sight; a choice is as large as its label, and a link in a sentence as its words.
 TARGETS = """[...document.querySelectorAll("a, button, summary, input, [tabindex='0']")]
-    .filter((found) => found.checkVisibility() && !found.closest("[inert]") && !found.matches("#skip, #said a"))"""
+    .filter((found) => found.checkVisibility() && !found.closest("[inert]") && !found.matches("#skip, .published a"))"""
 SMALL = f"""{TARGETS}.map((found) => found.matches("[type=radio], [type=checkbox]") ? found.closest("label") : found)
     .filter((found) => {{ const {{ width, height }} = found.getBoundingClientRect(); return width < 24 || height < 24; }})
     .map((found) => found.outerHTML.slice(0, 80))"""

@@ -18,6 +18,10 @@ const [CHANGED, CAME, WENT] = KINDS;
 // of so many it is said which product owns what differs.
 export const SMALL_ENOUGH = 1 << 21;
 const MOST_AS_GRAPH = 1 << 25;
+// Of two of more bytes together the program isn't asked whether they are the same but for names, since that takes some 30 times their
+// size in memory; what is said then.
+const MOST_ASKED_BUT_FOR_NAMES = 1 << 27;
+const NOT_NUMBERED = "files of more than 128 MiB are numbered on a command line alone, by p21 same --names";
 const [SAME, DIFFERENT, UNDECIDED, NO_ANSWER] = ["same", "different", "undecided", "no answer"];
 const WORDS_OF_VERDICTS = { [SAME]: "same", [DIFFERENT]: "different", [UNDECIDED]: "not decided", [NO_ANSWER]: "no answer" };
 const HEADLINES = { [SAME]: "the same", [DIFFERENT]: "what differs", [UNDECIDED]: "not decided", [NO_ANSWER]: "no answer" };
@@ -448,6 +452,7 @@ export class Files {
   }
 
   askButForNames() {
+    if (this.size > MOST_ASKED_BUT_FOR_NAMES) return { word: NO_ANSWER, why: NOT_NUMBERED };
     const [first, second] = this.canonical;
     const front = frontOf(second);
     try {

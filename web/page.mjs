@@ -13,7 +13,7 @@
 // first. Rows open to the whole; of three kinds or fewer the first of each is open. The text keeps the order of the
 // program.
 //
-// Up to names the page compares at once where both canonical files have 2 MiB together, or 32 MiB and fewer than half of
+// Up to names the page compares at once where both canonical files have 2 MiB together, or 16 MiB and fewer than half of
 // the instances say the same under one name; and others where it is asked to, since that takes some times as long as the
 // comparison by names. Of larger files that may be numbered otherwise it is said that less may differ so.
 //
@@ -21,7 +21,7 @@
 // makes it again, unless the listing was given another name. Where the browser has none, as on a page from a server
 // without TLS, it isn't shown.
 // Below it stands the hash of the numbered file, which the program makes at once where the canonical file has 2 MiB at
-// most, and of a larger one where that is asked for, since it takes many times as long and as much memory.
+// most, and of one of up to 64 MiB where that is asked for, since it takes many times as long and as much memory.
 //
 // After an answer the focus is on its heading, so that a keyboard and a screen reader go on from there, and on a small
 // screen it is brought into sight; where a choice of the answer led to it, the focus is on that choice. A link in front
@@ -51,6 +51,8 @@ const FEW_REFUSALS = 5;
 const SOME_REFUSALS = 30;
 const FEW_KINDS = 3;
 const FIRST_ROWS = 20;
+// Canonical files of so many bytes are numbered in the page at most.
+const MOST_NUMBERED = 1 << 26;
 // Of more differences than these there is a search, which waits so many milliseconds for the next letter.
 const FEW_DIFFERENCES = 5;
 const SEARCH_WAITS = 100;
@@ -576,10 +578,11 @@ function showAlone(answer) {
   const ofBoth = ["Both files are.", "One of the files is well formed, and one isn’t.", "Neither file is well formed."][refused.length];
   const more = answer.files.length === 2 ? ofBoth : refused.length > 0 ? answer.files[0].name : "Not checked by a schema yet.";
   files = answer.files;
+  const named = new Set(files.map(({ names }) => names).filter(Boolean));
   at("answer").replaceChildren(
     ofVerdict(title, more, mood, () => answerAsText(title, more, files, null)),
     ...files.map((file) => ofFile(file, answer.explained)),
-    element("p", { class: "hint wanting" }, WITH_A_SCHEMA),
+    element("p", { class: "hint wanting" }, WITH_A_SCHEMA, ...[...named].map(publishedAt)),
   );
   appear();
 }
@@ -813,7 +816,7 @@ function hashed(answer) {
   const rows = row("SHA-256 of the canonical file", withCopy(answer.hash, "the hash"));
   const line = commandLine(answer);
   if (line) rows.push(...row("The same on a command line", withCopy(line, "the command line", "again")));
-  rows.push(...row("SHA-256 of the numbered file, whatever the names of instances are", ...ofNumbered(answer)));
+  rows.push(...row("SHA-256 of the numbered file", hint("One for all files that are the same but for names."), ...ofNumbered(answer)));
   return [element("dl", {}, ...rows)];
 }
 
@@ -824,18 +827,19 @@ function withCopy(text, what, kind = null) {
 
 /** The hash of the numbered file with its command line; or why there is none, or how to ask for it. */
 function ofNumbered({ name, numbered, ...answer }) {
+  const line = commandLine(answer, " --names");
+  const again = line ? [withCopy(line, "its command line", "numbered-again")] : [];
+  if (!numbered && answer.canonical.size > MOST_NUMBERED) return [hint("A file of this size is numbered on a command line alone."), ...again];
   if (!numbered) {
     const ask = () => begin("", { ...(shownLists?.asked ?? USUALLY_ASKED), numbered: true, focus: ".numbered" });
-    return [button("Number it", ask), hint("With a file of this size that may take a minute and much memory.")];
+    return [button("Number it", ask), hint("With a file of this size that may take a minute and some gigabytes of memory.")];
   }
   const { hash, whole, why } = numbered;
   const alike = /^refused 59 Alike in (#\d+)$/.exec(why)?.[1];
   const said = alike ? `None: the model doesn’t tell ${alike} from another instance (59 Alike).` : `None: ${WORDS[why] ?? why}`;
   if (why) return [element("p", { class: "numbered", tabindex: "-1" }, said)];
-  const made = [element("div", { class: "numbered", tabindex: "-1" }, withCopy(hash, "the hash of the numbered file"))];
-  const line = commandLine(answer, " --names");
-  if (line) made.push(withCopy(line, "its command line", "numbered-again"));
-  return [...made, saving("Save the numbered file", () => whole, name.replace(/(\.\w+)?$/, ".numbered.step"))];
+  const made = element("div", { class: "numbered", tabindex: "-1" }, withCopy(hash, "the hash of the numbered file"));
+  return [made, ...again, saving("Save the numbered file", () => whole, name.replace(/(\.\w+)?$/, ".numbered.step"))];
 }
 
 /** The command line that makes the hash of a canonical file again, or with another word that of a numbered one; null where it would

@@ -31,7 +31,7 @@ const MOST_WHOLE = 2000;
 const FIRST_PLACES = 300;
 const BETWEEN_MESSAGES = 100;
 // Two canonical files of so many bytes together are compared up to names unasked, where they seem to be numbered otherwise.
-const MOST_UNASKED = 1 << 25;
+const MOST_UNASKED = 1 << 24;
 // Two canonical files of so many bytes together are kept for what else is asked of them.
 const MOST_KEPT = 1 << 27;
 // The style and the script of a report.
@@ -317,6 +317,7 @@ class Job {
     };
     const sameButForNames = (one, other) => {
       const files = { schema: first.served.text, first: new Text(one), second: new Text(other) };
+      this.say({ progress: { name: "whatever the names of instances are", compares: true } });
       return this.program.run(["same", "--names", "--", "schema", "first", "second"], files);
     };
     this.compared = new Files({ attributes, lengths, diff, sameButForNames, heard }, first.canonical, second.canonical);
