@@ -81,8 +81,8 @@ REFUSED = [
     ["frob"],
 ]
 MISTAKEN = [["frob"]]
-# A command of fewer allocations has each of them refused.
-FEW = 130
+# A command of fewer allocations has each of them refused, and so has a mistaken one, of which is counted what is done without.
+FEW = 200
 STACK = 8 << 20
 # As much as Wine gives a program at least.
 LESS_STACK = STACK // 8
@@ -527,7 +527,8 @@ def refusals(made, tally, here):
             # The first word is longer or shorter, and is the same for each command.
             further.add(own_counts.allocations - counts.allocations)
             unseen = [0, 0]
-            for at in range(1, own_counts.allocations + 1, 1 if own_counts.allocations < FEW else 3):
+            is_whole = own_counts.allocations < FEW or words in MISTAKEN
+            for at in range(1, own_counts.allocations + 1, 1 if is_whole else 3):
                 for on in (0, 1) if at % 10 == 1 else (0,):
                     found = fails_itself(own, words, REFUSE=at, REFUSE_ON=on)[0]
                     is_unseen = words in MISTAKEN and not on and found == plain
