@@ -46,7 +46,7 @@ def diff(
     tolerance: Optional[Union[str, float, decimal.Decimal]] = None,
 ) -> Differences:
     """What differs in two files: a list of the objects that ``p21-diff --format json`` prints, the verdict last. By names the program
-    lists it; up to names, and with a tolerance, it is unproved Python over canonical files.
+    lists it; up to names, and with a tolerance, unproved Python does over canonical files. That two files are the same the program says.
 
     Args:
         names: compare up to the names of instances.
