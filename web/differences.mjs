@@ -18,13 +18,22 @@ const [CHANGED, CAME, WENT] = KINDS;
 // of so many it is said which product owns what differs.
 export const SMALL_ENOUGH = 1 << 21;
 const MOST_AS_GRAPH = 1 << 25;
-// Of two of more bytes together the program isn't asked whether they are the same but for names, since that takes some 30 times their
-// size in memory; what is said then.
+// Two canonical files of so many bytes together are compared up to names unasked, where they seem to be numbered otherwise. Of larger ones
+// in which something differs by a pairing the program isn't asked whether they are the same but for names; and of still larger ones in no
+// case, since that takes some 60 times a file in memory. What is said then.
+export const AT_ONCE = 1 << 24;
 const MOST_ASKED_BUT_FOR_NAMES = 1 << 27;
 const NOT_NUMBERED = "files of more than 128 MiB are numbered on a command line alone, by p21 same --names";
-const [SAME, DIFFERENT, UNDECIDED, NO_ANSWER] = ["same", "different", "undecided", "no answer"];
-const WORDS_OF_VERDICTS = { [SAME]: "same", [DIFFERENT]: "different", [UNDECIDED]: "not decided", [NO_ANSWER]: "no answer" };
-const HEADLINES = { [SAME]: "the same", [DIFFERENT]: "what differs", [UNDECIDED]: "not decided", [NO_ANSWER]: "no answer" };
+// What two files are but for the names of their instances: by the program, but where it isn't asked or has no answer.
+const [SAME, DIFFERENT, UNDECIDED, NOT_ASKED, NO_ANSWER] = ["same", "different", "undecided", "not asked", "no answer"];
+const WORDS_OF_VERDICTS = {
+  [SAME]: "same",
+  [DIFFERENT]: "different",
+  [UNDECIDED]: "not decided",
+  [NOT_ASKED]: "what differs by a pairing",
+  [NO_ANSWER]: "no answer",
+};
+const HEADLINES = { ...WORDS_OF_VERDICTS, [SAME]: "the same", [DIFFERENT]: "what differs" };
 // What the program says of two files whose models don't tell their instances apart.
 const ALIKE = /^first: refused 59 Alike in #(\d+)$/;
 // What is said of a list that is empty where the files differ, or isn't where they are the same.
@@ -426,7 +435,7 @@ export class Files {
   /** What is known of files that differ, by names. */
   knownByNames({ all, inHeader }) {
     if (all === 0) return { word: SAME, pairs: 0, ambiguous: 0, butFor: [] };
-    const isRenumbered = all > inHeader && this.size <= SMALL_ENOUGH && this.butForNames.word === SAME;
+    const isRenumbered = all > inHeader && this.size <= SMALL_ENOUGH && this.butForNames().word === SAME;
     const header = inHeader > 0 && (all === inHeader || isRenumbered) ? ["the header"] : [];
     return { word: DIFFERENT, pairs: 0, ambiguous: 0, butFor: [...(isRenumbered ? ["numbering"] : []), ...header] };
   }
@@ -434,8 +443,8 @@ export class Files {
   knownUpToNames({ all, inHeader }, { near }) {
     const { ambiguous } = this.upToNames.pairing;
     const { pairs, alike } = this.upToNames.counted();
-    const told = this.butForNames;
     const hasEqualData = all === inHeader && near === 0;
+    const told = !hasEqualData && this.size > AT_ONCE ? { word: NOT_ASKED } : this.butForNames();
     if (told.word === (hasEqualData ? DIFFERENT : SAME)) throw new Trouble(NOT_PAIRED);
     const found = { ...told, pairs, ambiguous, butFor: [], isRenamed: 2 * alike < pairs };
     if (told.word !== SAME || inHeader === 0) return found;
@@ -446,7 +455,7 @@ export class Files {
    * What the program says of both files but for the names of their instances, under the header of the second one: a word; where it
    * isn't decided, an instance of the first one that the model doesn't tell from another; and why there is no answer.
    */
-  get butForNames() {
+  butForNames() {
     this.toldButForNames ??= this.askButForNames();
     return this.toldButForNames;
   }

@@ -10,8 +10,8 @@
 //
 // Several refusals are grouped by number. An exporter makes one mistake many times: so the page shows how often each
 // kind comes, what it means once, and a row for each with the instance, the line and what is wrong; 20 of a kind at
-// first. Rows open to the whole; of three kinds or fewer the first of each is open. The text keeps the order of the
-// program.
+// first, and 1,000 on paper. Rows open to the whole; of three kinds or fewer the first of each is open. The text keeps the
+// order of the program.
 //
 // Up to names the page compares at once where both canonical files have 2 MiB together, or 16 MiB and fewer than half of
 // the instances say the same under one name; and others where it is asked to, since that takes some times as long as the
@@ -61,6 +61,8 @@ const COMPARED_AT_ONCE = 1 << 22;
 const SEEM_RENAMED =
   "Fewer than half of the instances say the same under one name. Told by what they say, less may differ: with files of this size that may take some minutes.";
 const MORE_ROWS = 200;
+// So many of a kind are printed.
+const MOST_PRINTED = 1000;
 // So many refusals are looked through before the page does something else.
 const SOUGHT_AT_ONCE = 4000;
 // A job of so many milliseconds isn't shown to be under way.
@@ -991,11 +993,12 @@ function ofKind(answer, kind, total, explained, { isFew, isSome, countOfKinds })
     shownRows += rows.length;
     const left = total - shownRows;
     more.hidden = left === 0;
-    more.textContent = `Show ${Math.min(left, MORE_ROWS).toLocaleString("en")} more of ${total.toLocaleString("en")}`;
+    const further = ` ${Math.min(left, MORE_ROWS).toLocaleString("en")} more of ${total.toLocaleString("en")}`;
+    more.replaceChildren(element("span", { class: "on-screen" }, "Show"), further);
     return rows;
   };
   const more = button("", () => add(MORE_ROWS)[0]?.querySelector("summary").focus(), { class: "more" });
-  group.grow = () => shownRows < FIRST_ROWS && add(FIRST_ROWS - shownRows);
+  group.grow = (count = FIRST_ROWS) => shownRows < count && add(count - shownRows);
   made.append(more);
   return group;
 }
@@ -1360,6 +1363,13 @@ function dropped(item) {
   const handle = item.getAsFileSystemHandle?.().catch(() => null);
   return withHandle(item.getAsFile(), handle);
 }
+
+addEventListener("beforeprint", () => {
+  for (const group of files.flatMap(({ groups }) => [...(groups?.values() ?? [])])) {
+    group.made.open = true;
+    group.grow(MOST_PRINTED);
+  }
+});
 
 at("stop").addEventListener("click", () => {
   stop();

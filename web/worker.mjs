@@ -8,7 +8,7 @@
 import { adapted } from "./adapting.mjs";
 import { headerOf, keywordsOf, syntaxOf } from "./alone.mjs";
 import { toleranceOf } from "./decimals.mjs";
-import { Files, SMALL_ENOUGH, equalBytes, tableName, textsAround, whatOf } from "./differences.mjs";
+import { AT_ONCE, Files, SMALL_ENOUGH, equalBytes, tableName, textsAround, whatOf } from "./differences.mjs";
 import { GivenFile, refusalOf, toldOf } from "./files.mjs";
 import { Owners } from "./owners.mjs";
 import { kindOfLine } from "./kinds.mjs";
@@ -30,8 +30,6 @@ const SHOWN_DIFFERENCES = 1000;
 const MOST_WHOLE = 2000;
 const FIRST_PLACES = 300;
 const BETWEEN_MESSAGES = 100;
-// Two canonical files of so many bytes together are compared up to names unasked, where they seem to be numbered otherwise.
-const MOST_UNASKED = 1 << 24;
 // Two canonical files of so many bytes together are kept for what else is asked of them.
 const MOST_KEPT = 1 << 27;
 // The style and the script of a report.
@@ -332,7 +330,7 @@ class Job {
     const names = this.list(false, asked);
     const { size } = this.compared;
     const seemRenamed = this.seemRenamed(names);
-    const isUnasked = size <= SMALL_ENOUGH || (size <= MOST_UNASKED && seemRenamed);
+    const isUnasked = size <= SMALL_ENOUGH || (size <= AT_ONCE && seemRenamed);
     const upToNames = isUnasked || asked.upToNames ? this.list(true, asked) : null;
     return { asked, names, upToNames, seemRenamed, isKept: size <= MOST_KEPT };
   }
