@@ -6,3 +6,5 @@ pub mod LeavingOut
 pub mod Passing
 pub mod Fronts
 pub mod Breaking
+pub mod Openings
+pub mod GoingOn

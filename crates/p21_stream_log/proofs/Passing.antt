@@ -5,7 +5,7 @@ use Rattle.p21_spec_exchange.specs.Record.{Record}
 use Rattle.p21_spec_exchange.specs.Statement.{Statement, instance}
 use Rattle.p21_spec_schema.specs.Schema.{Schema}
 use Rattle.p21_spec_survey.specs.Landmark.{IsOpened}
-use Rattle.p21_stream_log.proofs.Stepping.{file-on, given-before, taken-on}
+use Rattle.p21_stream_log.proofs.Stepping.{began-on, file-on, given-before, taken-on}
 use Rattle.p21_stream_log.specs.Log.{Held, Known, Logs, PassGives, Point, behind_passed}
 use Rattle.p21_stream_statements.specs.PassingOver.{AreInstances, GivesPassed, with_instances}
 use Rattle.p21_stream_statements.specs.Reopening.{IsBetweenStatements}
@@ -35,6 +35,7 @@ passed-logs s limits known old new point bytes more n record_ logs none ahead_is
       gapped_whole = logs.gapped_whole;
       kept_whole = logs.kept_whole;
       tokens_are = logs.tokens_are;
+      began = began-on old.reader new.reader logs.gapped point.read.given limits_are logs.began;
     }
 
 pub pass-gives : (old : Held) (reader : statements.Held) (bytes buffer : List ℕ) → GivesPassed old.reader (length bytes) reader → IsBetweenStatements reader → limits_of reader ≡ limits_of old.reader → buffer ≡ old.buffer ++ bytes

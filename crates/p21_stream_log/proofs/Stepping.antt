@@ -9,7 +9,7 @@ use Rattle.p21_spec_schema.specs.Schema.{Schema}
 use Rattle.p21_spec_survey.specs.Landmark.{IsOpened}
 use Rattle.p21_spec_survey.specs.Survey.{IsRead}
 use Rattle.p21_spec_survey.specs.Survey as survey
-use Rattle.p21_stream_log.specs.Log.{BeginSo, Held, IsFileOf, Known, Logs, Point, StepGives, TakesToken, at_start, behind_piece}
+use Rattle.p21_stream_log.specs.Log.{BeganBehind, BeginSo, Held, IsFileOf, Known, Logs, Point, StepGives, TakesToken, at_start, behind_piece}
 use Rattle.p21_stream_resume.proofs.Standing.{not-opened}
 use Rattle.p21_stream_statements.specs.Reopening.{IsBetweenStatements, StepBegins}
 use Rattle.p21_stream_statements.specs.StatementReader as statements
@@ -18,9 +18,9 @@ use Rattle.p21_stream_statements.specs.declared.fault.Fault.{Fault}
 use Rattle.p21_stream_statements.specs.declared.fault.Fault.TheVariants.{NoMemory}
 
 -- nothing is read
-pub at-start : (s : Schema) (limits : Limits) (known : Known) (new : Held) (ahead : List ℕ) → statements.IsLive new.reader nothing_read → limits_of new.reader ≡ (limits.record_source, limits.file_source) → new.start ≡ 0 → new.buffer ≡ []
+pub at-start : (s : Schema) (limits : Limits) (known : Known) (new : Held) (ahead : List ℕ) → statements.IsLive new.reader nothing_read → IsBetweenStatements new.reader → limits_of new.reader ≡ (limits.record_source, limits.file_source) → new.start ≡ 0 → new.buffer ≡ []
     → new.opened ≡ false → BeginSo known ahead → Logs s limits known new (at_start ahead)
-at-start s limits known new ahead live limits_are start_is buffer_is opened_is begin = record {
+at-start s limits known new ahead live between limits_are start_is buffer_is opened_is begin = record {
   is_read = λ file of. survey.at_start;
   file_is = λ file of. let (rest, is) = begin file of in (rest, is ∙ ap (λ (l : List ℕ). l ++ (ahead ++ rest)) (sym buffer_is));
   start_is = start_is;
@@ -38,6 +38,17 @@ at-start s limits known new ahead live limits_are start_is buffer_is opened_is b
   gapped_whole = record { laid = ([], tt, refl); ends = tt };
   kept_whole = record { laid = ([], tt, refl); ends = tt };
   tokens_are = refl;
+  began = record { earlier = new.reader; between_statements = between; same_limits = refl; seen = None; was_live = live };
+}
+
+-- where the open statement began the same was held
+pub began-on : (held next : statements.Held) (taken : List ℕ) (given : List Statement) → limits_of next ≡ limits_of held → BeganBehind held taken given → BeganBehind next taken given
+began-on held next taken given same began = record {
+  earlier = began.earlier;
+  between_statements = began.between_statements;
+  same_limits = began.same_limits ∙ sym same;
+  seen = began.seen;
+  was_live = began.was_live;
 }
 
 module _ (s : Schema) (limits : Limits) (known : Known) (old new : Held) (point : Point) (more : List ℕ) (logs : Logs s limits known old point) (none : point.ended ≡ []) (start_is : new.start ≡ old.start) (opened_is : new.opened ≡ old.opened)
@@ -78,6 +89,7 @@ module _ (s : Schema) (limits : Limits) (known : Known) (old new : Held) (point 
     gapped_whole = logs.gapped_whole;
     kept_whole = logs.kept_whole;
     tokens_are = logs.tokens_are;
+    began = began-on old.reader new.reader logs.gapped point.read.given limits_are logs.began;
   }
 
   between-on : (piece : List ℕ) (count : ℕ) (event : Option Event) → StepBegins old.reader (Ok (Some (count, event))) new.reader → statements_of event ≢ [] → IsBetweenStatements new.reader
@@ -110,6 +122,7 @@ module _ (s : Schema) (limits : Limits) (known : Known) (old new : Held) (point 
           gapped_whole = logs.gapped_whole;
           kept_whole = logs.kept_whole;
           tokens_are = logs.tokens_are;
+          began = began-on old.reader new.reader logs.gapped point.read.given limits_are logs.began;
         };
       }
 

@@ -18,7 +18,7 @@ use Rattle.p21_spec_survey.specs.Survey.{AreStatement, BeginFile, IsRead, IsRigh
 use Rattle.p21_spec_survey.specs.Whole.{AreWhole, GoesOnBy, JoinedIsLaid, further_on, stays_there}
 use Rattle.p21_stream_log.proofs.Between.{between-whole, given-begin, place-live}
 use Rattle.p21_stream_log.proofs.Ends.{none-behind, opened-behind}
-use Rattle.p21_stream_log.specs.Log.{Closes, EndsWith, Held, IsFileOf, Known, Logs, Point, TakeGives, behind_taken}
+use Rattle.p21_stream_log.specs.Log.{BeganBehind, Closes, EndsWith, Held, IsFileOf, Known, Logs, Point, TakeGives, behind_taken}
 use Rattle.p21_stream_statements.specs.StatementReader as statements
 use Rattle.p21_stream_statements.specs.StatementReader.{limits_of}
 
@@ -91,6 +91,17 @@ module _ (s : Schema) (limits : Limits) (known : Known) (held : Held) (point : P
   pub begins : BeginFile (point.read.given ++ statement ∷ [])
   begins = subst BeginFile given (given-begin held.reader logs.history logs.live)
 
+  -- what is held behind it, with no statement open
+  began-here : (next : Reading) → next.given ≡ point.read.given ++ statement ∷ [] → (new : Held) → Closes held new → BeganBehind new.reader (logs.gapped ++ held.buffer) next.given
+  began-here next given_is new closes = record {
+    earlier = held.reader;
+    between_statements = logs.between (λ none. (let clash : statement ∷ [] ≡ [] = sym ended ∙ none in cc));
+    same_limits = ap limits_of (sym closes.reader);
+    seen = logs.history.seen;
+    was_live = subst (λ (l : List ℕ). statements.IsLive held.reader (record { taken = l; seen = logs.history.seen; given = next.given })) logs.taken_are
+        (subst (λ (sts : List Statement). statements.IsLive held.reader (record { taken = logs.history.taken; seen = logs.history.seen; given = sts })) (given ∙ sym given_is) logs.live);
+  }
+
   -- what is held behind it stands for each reading that has these bytes and this statement more
   module _ (joined : JoinedIsLaid) (last : EndsWith 59 held.buffer) (next : Reading) (bytes_is : next.bytes ≡ point.read.bytes ++ held.buffer) (kept_is : next.kept ≡ point.read.kept ++ held.buffer) (given_is : next.given ≡ point.read.given ++ statement ∷ [])
       (is_read : (file : List ℕ) → IsFileOf known file → IsRead s limits file next) (new : Held) (closes : Closes held new) where
@@ -129,6 +140,7 @@ module _ (s : Schema) (limits : Limits) (known : Known) (held : Held) (point : P
               ∙ (ap (λ (ts : List Token). ts ++ tokens_in own.more) logs.tokens_are
               ∙ (ap (λ (ts : List Token). flat_map statement_tokens point.read.given ++ ts) (own.tokens_are ∙ sym (append-nil (statement_tokens statement)))
               ∙ (sym (flat_map-append statement_tokens point.read.given (statement ∷ [])) ∙ ap (λ (sts : List Statement). flat_map statement_tokens sts) (sym given_is))));
+          began = began-here next given_is new closes;
         }
 
   -- it is right, and taken

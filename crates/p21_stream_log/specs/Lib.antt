@@ -1,3 +1,5 @@
 pub mod Log
 pub mod Front
 pub mod Broken
+pub mod Opening
+pub mod Going

@@ -54,6 +54,15 @@ pub record Point : Type 0 where
 abbrev pub at_start : List ℕ → Point
 at_start ahead = record { read = nothing_read; ended = []; seen = None; ahead = ahead }
 
+-- what the reader held where the open statement began, or the one that has ended: no statement was open, and it had taken these bytes and
+-- given these statements
+pub record BeganBehind (held : statements.Held) (taken : List ℕ) (given : List Statement) : Type 0 where
+  pub earlier : statements.Held
+  pub between_statements : IsBetweenStatements earlier
+  pub same_limits : limits_of earlier ≡ limits_of held
+  pub seen : Option ℕ
+  pub was_live : statements.IsLive earlier (record { taken = taken; seen = seen; given = given })
+
 -- What is held stands for this point in each file of which so much is known: so far it is read, and the buffer stands behind that, and the
 -- bytes ahead
 pub record Logs (s : Schema) (limits : Limits) (known : Known) (held : Held) (point : Point) : Type 0 where
@@ -75,6 +84,7 @@ pub record Logs (s : Schema) (limits : Limits) (known : Known) (held : Held) (po
   pub gapped_whole : AreWhole gapped lexemes
   pub kept_whole : AreWhole point.read.kept lexemes
   pub tokens_are : tokens_in lexemes ≡ flat_map statement_tokens point.read.given
+  pub began : BeganBehind held.reader gapped point.read.given
 
 -- each of the files begins with these bytes
 abbrev pub BeginSo : Known → List ℕ → Type 0

@@ -8,6 +8,8 @@
 
 mod front;
 mod log;
+mod opening;
 
 pub use front::is_front;
 pub use log::Log;
+pub use opening::{Opening, opening_of};

@@ -1,6 +1,7 @@
 ghost use Rattle.std.specs.Prelude.{◌≡◌, ◌++◌, IfOk, List, OnOk, ℕ};
 ghost use Rattle.p21_spec_schema.specs.Schema.{Schema};
 ghost use Rattle.p21_stream_log.specs.Broken.{BreaksOff};
+ghost use Rattle.p21_stream_log.specs.Going.{GoOnGives};
 ghost use Rattle.p21_stream_log.specs.Log.{BeginSo, BeginsBehind, Closes, Known, LeaveOutGives, Logs, PassGives, StepGives, TakeGives, at_start};
 ghost use Rattle.p21_stream_statements.specs.StatementReader.{TakesWithinPiece};
 
@@ -111,6 +112,22 @@ impl Log {
         let begins = self.begins();
         self.close();
         Some(begins)
+    }
+
+    /// Passes over what stands behind the last statement that was taken or left out, up to this place in the file, where a landmark begins;
+    /// says whether it does. It does where the file may have as many bytes. A refusal is forgotten, and the bytes from the place on are to
+    /// be offered next. It takes no memory.
+    pub fn go_on(&mut self, place: u64) -> bool
+        ensures { GoOnGives self.old place result self.new }
+    {
+        whole_laws();
+        if !self.reader.reopen(place) {
+            return false;
+        }
+        self.start = place;
+        self.buffer.clear();
+        self.opened = true;
+        true
     }
 
     /// The bytes behind the last statement that ended, with those of a piece behind them.
