@@ -1,8 +1,8 @@
-//! Files whose instances of some names are left out, in pieces of any size.
+//! Files whose instances of some names are left out, or whose statements are passed over, in pieces of any size.
 ghost use Rattle.std.specs.Prelude.{◌<◌};
 
 use p21_grammar::Event;
-use p21_stream_log::{Log, is_front};
+use p21_stream_log::{Log, Opening, is_front, opening_of};
 use p21_values::{Limits, Name, NoMemory};
 use std::alloc::Global;
 use std::process::Abort;
@@ -65,12 +65,22 @@ fn answer_of(alloc: Global, text: &str, name: u64, size: usize) -> Answer
     if !read(&mut log, HEAD.as_bytes(), Name(name), &mut answer) {
         return None;
     }
-    for piece in text.as_bytes().chunks(size) {
-        if !read(&mut log, piece, Name(name), &mut answer) {
-            return None;
-        }
+    if !read_in_pieces(&mut log, text, Name(name), size, &mut answer) {
+        return None;
     }
     answer
+}
+
+/// Takes each statement of a text but the instance of this name, in pieces of a size.
+fn read_in_pieces(log: &mut Log, text: &str, name: Name, size: usize, answer: &mut Answer) -> bool
+    requires { 0 < size }
+{
+    for piece in text.as_bytes().chunks(size) {
+        if !read(log, piece, name, answer) {
+            return false;
+        }
+    }
+    true
 }
 
 /// The first text of which something else comes, in pieces of some size.
@@ -203,4 +213,98 @@ fn first_other_front(alloc: Global, rows: Broken) -> Result<&'static str, NoMemo
 #[test]
 fn tells_what_is_broken(rt: HostRuntime) {
     assert_eq!(rt; first_other_front(rt.alloc(), BROKEN), Ok("none"));
+}
+
+/// Bytes behind a statement, and how they begin.
+const OPENINGS: &[(&str, Opening)] = &[
+    ("ENDSEC;", Opening::SectionEnd),
+    (" \n/* #1=A(); */ENDSEC", Opening::SectionEnd),
+    ("ENDSE", Opening::Untold),
+    ("", Opening::Untold),
+    ("\n /", Opening::Untold),
+    ("/* ENDSEC;", Opening::Untold),
+    ("#1=A();ENDSEC;", Opening::Statement),
+    ("/ENDSEC;", Opening::Statement),
+    (" ENDSCOPE;", Opening::Statement),
+    ("endsec;", Opening::Statement),
+];
+
+/// The first bytes of which something else is said.
+fn first_opening() -> &'static str {
+    for (bytes, wanted) in OPENINGS {
+        if opening_of(bytes.as_bytes()) != *wanted {
+            return bytes;
+        }
+    }
+    "none"
+}
+
+#[test]
+fn tells_how_bytes_begin(rt: HostRuntime) {
+    assert_eq!(rt; first_opening(), "none");
+}
+
+/// The bytes of a first instance, which is refused, up to where the reading goes on; those from there on; the name of another instance
+/// there, and how many bytes stand between. The last ones are whole instances with a signpost in a string.
+type GoneOn = &'static [(&'static str, &'static str, u64, usize)];
+
+const GONE_ON: GoneOn = &[
+    ("#1=A(nan);\n", "#2=A($);", 2, 0),
+    ("#1=A($;", "#2=A(); /* #3 */ #3=A();", 3, 17),
+    ("#1=A('x;y',nan);", "\n#1 =A();", 1, 1),
+    ("#1=A(');", "#2=A();#3=A(');", 2, 0),
+    ("#1=A(');\n", "#2=A('');\n#1=A($);#3=A(');", 1, 10),
+];
+
+/// Where the instance of this name begins behind a first one that is passed over.
+fn gone_on(alloc: Global, front: &str, behind: &str, name: u64, size: usize) -> Answer
+    requires { 0 < size }
+{
+    let mut log = Log::new(alloc, Limits::usual());
+    let mut answer = None;
+    if !read(&mut log, HEAD.as_bytes(), Name(1), &mut answer) {
+        return None;
+    }
+    if read_in_pieces(&mut log, front, Name(1), size, &mut answer) {
+        let is_whole = read_in_pieces(&mut log, behind, Name(1), size, &mut answer);
+        if is_whole && answer != Some(None) {
+            return None;
+        }
+    }
+    if !log.go_on(HEAD.len().saturating_add(front.len()) as u64) {
+        return None;
+    }
+    answer = None;
+    if !read_in_pieces(&mut log, behind, Name(name), size, &mut answer) {
+        return None;
+    }
+    answer
+}
+
+/// The first text behind which an instance begins elsewhere, in pieces of some size.
+fn first_gone_wrong(alloc: Global, rows: GoneOn) -> &'static str {
+    for (front, behind, name, count) in rows {
+        let begins = HEAD
+            .len()
+            .saturating_add(front.len())
+            .saturating_add(*count) as u64;
+        for size in 1..=behind.len() {
+            if gone_on(alloc, front, behind, *name, size) != Some(Some(begins)) {
+                return front;
+            }
+        }
+    }
+    "none"
+}
+
+#[test]
+fn goes_on_behind_a_statement(rt: HostRuntime) {
+    assert_eq!(rt; first_gone_wrong(rt.alloc(), GONE_ON), "none");
+}
+
+#[test]
+fn goes_on_in_no_longer_file(rt: HostRuntime) {
+    let mut log = Log::new(rt.alloc(), Limits::usual());
+    assert_eq!(rt; log.go_on(68_719_476_737), false);
+    assert_eq!(rt; log.go_on(68_719_476_736), true);
 }
