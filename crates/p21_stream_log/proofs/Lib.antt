@@ -8,3 +8,4 @@ pub mod Fronts
 pub mod Breaking
 pub mod Openings
 pub mod GoingOn
+pub mod Passages

@@ -3,3 +3,4 @@ pub mod Front
 pub mod Broken
 pub mod Opening
 pub mod Going
+pub mod Passage

@@ -9,7 +9,9 @@
 mod front;
 mod log;
 mod opening;
+mod passage;
 
 pub use front::is_front;
 pub use log::Log;
 pub use opening::{Opening, opening_of};
+pub use passage::Passage;

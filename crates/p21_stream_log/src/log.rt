@@ -3,12 +3,14 @@ ghost use Rattle.p21_spec_schema.specs.Schema.{Schema};
 ghost use Rattle.p21_stream_log.specs.Broken.{BreaksOff};
 ghost use Rattle.p21_stream_log.specs.Going.{GoOnGives};
 ghost use Rattle.p21_stream_log.specs.Log.{BeginSo, BeginsBehind, Closes, Known, LeaveOutGives, Logs, PassGives, StepGives, TakeGives, at_start};
+ghost use Rattle.p21_stream_log.specs.Passage.{PassToGives, PassageGives};
 ghost use Rattle.p21_stream_statements.specs.StatementReader.{TakesWithinPiece};
 
 use crate::front::front_of;
+use crate::passage::{Passage, is_file_mark};
 use p21_grammar::Event;
-use p21_spec_survey::whole_laws;
-use p21_stream_resume::signpost_in_string;
+use p21_spec_survey::{signpost_laws, whole_laws};
+use p21_stream_resume::{Seeker, Signpost, is_opened_behind, signpost_in_string};
 use p21_stream_statements::{Fault, StatementReader};
 use p21_transcribe::behind_separators;
 use p21_values::{Limits, NoMemory};
@@ -128,6 +130,55 @@ impl Log {
         self.buffer.clear();
         self.opened = true;
         true
+    }
+
+    /// Passes over a statement by its bytes up to what is refused, and by those from there on, up to where the reading goes on: by the first
+    /// signpost in a string of the statement, else by the first one behind it. Where it doesn't go on, nothing has changed.
+    ///
+    /// # Errors
+    ///
+    /// `NoMemory`.
+    pub fn pass(
+        &mut self,
+        alloc: Global,
+        statement: &[u8],
+        behind: &[u8],
+    ) -> Result<Passage, NoMemory>
+        ensures { IfOk result (λ passage. PassageGives self.old statement.now behind.now passage self.new) }
+    {
+        signpost_laws();
+        if let Some((count, signpost)) = signpost_in_string(statement) {
+            return Ok(self.pass_to(count, signpost));
+        }
+        let mut seeker = Seeker::new(alloc, is_opened_behind(self.opened, statement));
+        match seeker.seek(behind) {
+            Ok(Some((last, signpost))) => {
+                let size = seeker.signpost_bytes().len();
+                let count = (statement.len() + (last + 1)).saturating_sub(size);
+                Ok(self.pass_to(count, signpost))
+            }
+            Ok(None) => Ok(Passage::Sought(seeker)),
+            Err(AllocError) => Err(NoMemory),
+        }
+    }
+
+    /// Goes on at a signpost that stands behind so many bytes, unless it is that of a file.
+    fn pass_to(&mut self, count: usize, signpost: Signpost) -> Passage
+        ensures { PassToGives self.old count signpost result self.new }
+    {
+        if is_file_mark(signpost) {
+            return Passage::AtFileMark;
+        }
+        match self.start.checked_add(count as u64) {
+            None => Passage::TooLong,
+            Some(place) => {
+                if self.go_on(place) {
+                    Passage::GoesOn(count)
+                } else {
+                    Passage::TooLong
+                }
+            }
+        }
     }
 
     /// The bytes behind the last statement that ended, with those of a piece behind them.

@@ -1,0 +1,29 @@
+ghost use Rattle.std.specs.Prelude.{◌↔◌, IsTrue};
+ghost use Rattle.p21_stream_log.specs.Passage.{IsMark};
+
+use p21_stream_resume::{Seeker, Signpost};
+
+/// How a statement is passed over by bytes that are in hand.
+#[derive(Drop)]
+pub enum Passage {
+    /// The reading goes on behind so many of them. Those from there on are to be offered next.
+    GoesOn(usize),
+    /// A file begins or ends where it would go on.
+    AtFileMark,
+    /// The file may not have as many bytes.
+    TooLong,
+    /// No signpost is whole in them. The seeker has taken those from the refused byte on.
+    Sought(Seeker),
+}
+
+/// Whether a file begins or ends with a signpost.
+pub(crate) fn is_file_mark(signpost: Signpost) -> bool
+    ensures { IsTrue result ↔ IsMark signpost }
+{
+    match signpost {
+        Signpost::Instance(_, _) => false,
+        Signpost::SectionEnd(_) => false,
+        Signpost::FileBegin => true,
+        Signpost::FileEnd => true,
+    }
+}
