@@ -1,5 +1,5 @@
 -- A statement that a step refused is to be passed over.
-use Rattle.std.proofs.Common.{◌≡◌, inl, inr, ℕ, List, [], ◌++◌, take, drop, refl, sym, ap, subst, ◌∙◌, append_assoc, arith}
+use Rattle.std.proofs.Common.{◌≡◌, ◌<◌, inl, inr, ℕ, List, [], ◌++◌, length, length-drop, take, drop, refl, sym, ap, subst, ◌∙◌, append_assoc, arith}
 use Rattle.std.proofs.lemmas.List.{append_cancel_left, take-append-drop}
 use Rattle.std.specs.List.{AllByRecursion as Each}
 use Rattle.p21_spec_basics.proofs.Members.{Each-append, Each-back, Each-front}
@@ -37,6 +37,7 @@ empty-front bytes = record {
   };
   rest = bytes;
   bytes_are = refl;
+  some = λ other. absurd (other refl);
 }
 
 -- ---- what a refusal says
@@ -121,5 +122,10 @@ breaks-off alike held piece bytes front bytes_are is = (
       is-broken alike s limits known point held piece more fault refused ahead_is gone in_data front (subst (λ (l : List ℕ). IsFrontOf l front) bytes_are is),
 )
 
-pub taken-front : (bytes : List ℕ) (count : ℕ) → IsFront (take count bytes) → IsFrontOf bytes (take count bytes)
-taken-front bytes count is = record { is_front = is; rest = drop count bytes; bytes_are = sym (take-append-drop count bytes) }
+pub taken-front : (bytes : List ℕ) (count : ℕ) → count < length bytes → IsFront (take count bytes) → IsFrontOf bytes (take count bytes)
+taken-front bytes count low is = record {
+  is_front = is;
+  rest = drop count bytes;
+  bytes_are = sym (take-append-drop count bytes);
+  some = λ other none. (let left = ap length none in let size = length-drop count bytes in omega (arith, left, size, low));
+}

@@ -9,3 +9,4 @@ pub mod Breaking
 pub mod Openings
 pub mod GoingOn
 pub mod Passages
+pub mod BrokenBy

@@ -1,10 +1,12 @@
 -- How bytes behind a statement begin.
-use Rattle.std.proofs.Common.{◌≡◌, ◌⊎◌, inl, inr, ℕ, Bool, true, false, List, [], ◌∷◌, ◌++◌, refl, sym, ap, ◌∙◌, append_assoc, arith, lit<}
+use Rattle.std.proofs.Common.{◌≡◌, ◌⊎◌, ◌+◌, ◌-◌, ◌<◌, ◌^◌, inl, inr, ℕ, Bool, true, false, List, [], ◌∷◌, ◌++◌, length, length-append, refl, sym, ap, subst, ◌∙◌, append_assoc, append-nil, arith, lit<}
 use Rattle.std.specs.Prelude.{codes}
 use Rattle.p21_spec_basics.proofs.Members.{head_is, tail_is}
 use Rattle.p21_spec_exchange.proofs.OneGap.{HasNoSeparator, gap-one}
 use Rattle.p21_spec_exchange.specs.Separator.{blank, comment}
 use Rattle.p21_spec_survey.specs.Survey.{BeginsWithEnd}
+use Rattle.p21_stream_log.specs.Broken.{BeginsIn}
+use Rattle.p21_stream_log.specs.Log.{Held}
 use Rattle.p21_stream_log.specs.Opening.{IsFrontOfAll, MayBecome, OpensAs}
 use Rattle.p21_stream_log.specs.declared.opening.Opening.TheVariants.{SectionEnd, Statement, Untold}
 use Rattle.p21_tokens_automaton.proofs.OnePending.{begins-no_separator}
@@ -68,3 +70,28 @@ opens-statement bytes rest passes other not = (
 
     not-front : (more : List ℕ) → ¬ IsFrontOfAll (codes "ENDSEC") (rest ++ more)
     not-front more (behind, is) = elim (front-of-other rest more (codes "ENDSEC") behind is) [ inl long ↦ other long | inr short ↦ not (inl short) ]
+
+-- ---- where it begins
+
+pub begins-in : (held : Held) (bytes rest : List ℕ) (begins : ℕ) → PassesSeparators bytes rest → (held.start + (length bytes - length rest) < 2 ^ 64 → begins ≡ held.start + (length bytes - length rest)) → BeginsIn held bytes begins
+begins-in held bytes rest begins passes is file behind read start low file_is told = record {
+  gap = passes.gap;
+  rest = rest ++ behind;
+  file_is = file_is ∙ ap (λ (l : List ℕ). read.bytes ++ l) (ap (λ (l : List ℕ). l ++ behind) passes.bytes_are ∙ append_assoc passes.gap rest behind);
+  separates = passes.is_gap;
+  no_more = elim told [
+    | inl begun ↦ (
+        let own : HasNoSeparator begun.rest = subst HasNoSeparator (append-nil begun.rest) (begun.no_more []) in
+        let same : begun.rest ≡ rest = gap-one begun.gap passes.gap begun.rest rest begun.separates passes.is_gap own passes.ends (sym begun.bytes_are ∙ passes.bytes_are) in
+        subst (λ (l : List ℕ). HasNoSeparator (l ++ behind)) same (begun.no_more behind))
+    | inr none ↦ subst HasNoSeparator (sym (append-nil rest) ∙ ap (λ (l : List ℕ). rest ++ l) (sym none)) passes.ends
+  ];
+  begins_is =
+      let sizes = ap length passes.bytes_are in
+      let parts = length-append passes.gap rest in
+      let front = length-append read.bytes passes.gap in
+      let all = length-append read.bytes bytes in
+      let within : held.start + (length bytes - length rest) < 2 ^ 64 = omega (arith, sizes, parts, all, low, start) in
+      let begins_ = is within in
+      omega (arith, begins_, sizes, parts, front, start);
+}

@@ -4,3 +4,4 @@ pub mod Broken
 pub mod Opening
 pub mod Going
 pub mod Passage
+pub mod Laws

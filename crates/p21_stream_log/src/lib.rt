@@ -7,11 +7,13 @@
 #![tactic(auto)]
 
 mod front;
+mod laws;
 mod log;
 mod opening;
 mod passage;
 
 pub use front::is_front;
+pub use laws::log_laws;
 pub use log::Log;
 pub use opening::{Opening, opening_of};
 pub use passage::Passage;

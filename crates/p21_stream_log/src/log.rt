@@ -1,6 +1,6 @@
 ghost use Rattle.std.specs.Prelude.{◌≡◌, ◌++◌, IfOk, List, OnOk, ℕ};
 ghost use Rattle.p21_spec_schema.specs.Schema.{Schema};
-ghost use Rattle.p21_stream_log.specs.Broken.{BreaksOff};
+ghost use Rattle.p21_stream_log.specs.Broken.{BeginsIn, BreaksOff, IsFrontOf};
 ghost use Rattle.p21_stream_log.specs.Going.{GoOnGives};
 ghost use Rattle.p21_stream_log.specs.Log.{BeginSo, BeginsBehind, Closes, Known, LeaveOutGives, Logs, PassGives, StepGives, TakeGives, at_start};
 ghost use Rattle.p21_stream_log.specs.Passage.{PassToGives, PassageGives};
@@ -212,13 +212,24 @@ impl Log {
         bytes: &'a [u8],
         place: u64,
     ) -> Result<&'a [u8], NoMemory>
-        ensures { IfOk result (λ front. (piece : List ℕ) → bytes.now ≡ self.now.buffer ++ piece → BreaksOff self.now piece front.now) }
+        ensures front { IfOk result (λ front. IsFrontOf bytes.now front.now) }
+        ensures breaks_off { IfOk result (λ front. (piece : List ℕ) → bytes.now ≡ self.now.buffer ++ piece → BreaksOff self.now piece front.now) }
     {
         whole_laws();
         match front_of(alloc, limits, bytes, place.saturating_sub(self.start)) {
             Ok(front) => Ok(front),
             Err(NoMemory) => Err(NoMemory),
         }
+    }
+
+    /// How many bytes of the file stand in front of the statement that begins with these bytes behind the last one that ended, separators
+    /// apart. It takes no memory.
+    pub fn begins_in(&self, bytes: &[u8]) -> u64
+        ensures { BeginsIn self.now bytes.now result }
+    {
+        let statement = behind_separators(bytes);
+        let gap = bytes.len().saturating_sub(statement.len());
+        self.start.saturating_add(gap as u64)
     }
 
     /// How many bytes of the file stand in front of the open statement.

@@ -1,0 +1,41 @@
+-- What a caller of a log goes by.
+use Rattle.std.specs.Prelude.{◌≡◌, ℕ, suc, List, [], ◌∷◌, ◌++◌}
+use Rattle.p21_spec_basics.specs.Limits.{Limits}
+use Rattle.p21_spec_exchange.specs.Record.{Record}
+use Rattle.p21_spec_exchange.specs.Statement.{instance}
+use Rattle.p21_spec_schema.specs.Schema.{Schema}
+use Rattle.p21_spec_survey.specs.Resuming.{HasNoneInside}
+use Rattle.p21_spec_survey.specs.Survey.{BeginsAt, EndsReading, IsGoneOnBehind, IsInData, IsRefusedInstance, Subject, at_statement, in_instance}
+use Rattle.p21_stream_log.specs.Broken.{IsFrontOf}
+use Rattle.p21_stream_log.specs.Log.{EndsWith, Held, IsFileOf, IsRefused, Known, Logs, Point}
+use Rattle.p21_stream_log.specs.Opening.{OpensAs}
+use Rattle.p21_stream_log.specs.Passage.{IsBrokenBy}
+use Rattle.p21_stream_log.specs.declared.opening.Opening.TheVariants.{Statement}
+use Rattle.p21_stream_resume.specs.Seeking as seeking
+use Rattle.p21_stream_resume.specs.Seeking.{Seeks}
+use Rattle.p21_stream_statements.specs.Fault.{fault_number}
+use Rattle.p21_stream_statements.specs.declared.fault.Fault.{Fault}
+
+-- so many bytes stand in front of the next statement in each file
+abbrev pub BeginsInEach : Known → Point → ℕ → Type 0
+BeginsInEach known point begins = (file : List ℕ) → IsFileOf known file → BeginsAt file point.read begins
+
+-- In a data section a step refused some of the piece, with a refusal that a survey goes on behind: where the bytes begin a statement that
+-- doesn't begin with ENDSEC, it is broken by its front
+abbrev pub RefusedIsBroken : Type 0
+RefusedIsBroken = (s : Schema) (limits : Limits) (known : Known) (point : Point) (held : Held) (piece front behind more : List ℕ) (fault : Fault) (begins : ℕ) → IsRefused s limits known point piece fault held → point.ended ≡ []
+    → point.ahead ≡ piece ++ more → IsGoneOnBehind (fault_number fault) → IsInData point.read.given → held.buffer ++ piece ≡ front ++ behind → IsFrontOf (held.buffer ++ piece) front → OpensAs (held.buffer ++ piece) Statement
+    → BeginsInEach known point begins → IsBrokenBy s limits known point held front behind more (fault_number fault) (at_statement (suc point.read.count)) begins
+
+-- so is an instance that has ended and is refused, with a signpost in a string of it, by all its bytes
+abbrev pub WrongIsBroken : Type 0
+WrongIsBroken = (s : Schema) (limits : Limits) (known : Known) (point : Point) (held : Held) (n : ℕ) (record_ : Record) (number begins : ℕ) → Logs s limits known held point → point.ended ≡ instance n record_ ∷ [] → EndsWith 59 held.buffer
+    → IsRefusedInstance s point.read.given n record_ number → ((behind : List ℕ) → ¬ HasNoneInside held.buffer behind) → IsInData point.read.given → OpensAs held.buffer Statement → BeginsInEach known point begins
+    → IsBrokenBy s limits known point held held.buffer [] point.ahead number (in_instance n) begins
+
+-- where no signpost stands inside a broken statement, and a seeker has taken what stands behind it up to the end of the file, the reading
+-- ends there
+abbrev pub SoughtEnds : Type 0
+SoughtEnds = (s : Schema) (limits : Limits) (known : Known) (point : Point) (held : Held) (statement behind : List ℕ) (number : ℕ) (subject : Subject) (begins : ℕ) (seeker : seeking.Held)
+    → IsBrokenBy s limits known point held statement behind [] number subject begins → Seeks (point.read.bytes ++ statement) behind seeker → ((rest : List ℕ) → HasNoneInside statement (behind ++ rest))
+    → (file : List ℕ) → IsFileOf known file → file ≡ point.read.bytes ++ (statement ++ behind) → EndsReading s limits file point.read number subject

@@ -1,0 +1,14 @@
+//! What a caller of a log goes by, from the definitions alone.
+ghost use Rattle.p21_stream_log.specs.Laws.{RefusedIsBroken, SoughtEnds, WrongIsBroken};
+
+use p21_spec_survey::whole_laws;
+
+/// A statement of which a step refused some is broken by its front, and a wrong instance with a signpost in a string of it by its own
+/// bytes: so `Log::pass` passes it over. Where a seeker has taken all bytes behind it up to the end of the file, the reading ends there.
+pub fn log_laws()
+    ensures refused { RefusedIsBroken }
+    ensures wrong { WrongIsBroken }
+    ensures sought { SoughtEnds }
+{
+    whole_laws();
+}
