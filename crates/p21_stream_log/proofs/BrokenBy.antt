@@ -111,13 +111,13 @@ none-by before statement behind passed rest signpost none none_behind (further_o
     (subst (λ (l : List ℕ). StandsAt ((before ++ statement) ++ skipped) l signpost) (same ∙ ap (λ (l : List ℕ). byte ∷ l) (sym (append-nil back))) first.stands)
 
 pub sought-ends : SoughtEnds
-sought-ends s limits known point held statement behind number subject begins seeker broken seeks none file of file_is =
+sought-ends s limits known point held statement behind number subject begins seeker broken sought file of file_is =
     let next = broken.next_in file of in
     let passes : IsToBePassed s limits file point.read number subject = next.to_pass in
     let own : passes.statement ++ passes.behind ≡ statement ++ behind = append_cancel_left point.read.bytes (passes.statement ++ passes.behind) (statement ++ behind) (sym passes.next_are ∙ file_is) in
     let behind_is : passes.behind ≡ behind = append_cancel_left statement passes.behind behind (ap (λ (l : List ℕ). l ++ passes.behind) (sym next.statement_is) ∙ own) in
     no_landmark number subject passes
     (λ passed rest signpost goes. absurd
-    (none-by point.read.bytes statement behind passed rest signpost (subst (λ (l : List ℕ). HasNoneInside statement l) (append-nil behind) (none [])) (none-whole (point.read.bytes ++ statement) behind seeker seeks)
+    (none-by point.read.bytes statement behind passed rest signpost (subst (λ (l : List ℕ). HasNoneInside statement l) (append-nil behind) (sought.1 [])) (none-whole (point.read.bytes ++ statement) behind seeker sought.0)
     (subst (λ (l : List ℕ). GoesBy point.read.bytes statement l passed signpost rest) behind_is
     (subst (λ (l : List ℕ). GoesBy point.read.bytes l passes.behind passed signpost rest) next.statement_is goes))))

@@ -31,10 +31,10 @@ leads : (held : grammar_held.Held) (parsing : GrammarHistory) → grammar.Stands
 unfolding grammar.Stands
 leads held parsing stands alive = (stands.2 alive).leads
 
-reader-leads : (held : statements.Held) (reading : StatementHistory) → statements.IsLive held reading → walk reading.given stage.Start ≡ Ok held.parser.stage
+pub reader-leads : (held : statements.Held) (reading : StatementHistory) → statements.IsLive held reading → walk reading.given stage.Start ≡ Ok held.parser.stage
 reader-leads held reading live = subst (λ (sts : List Statement). walk sts stage.Start ≡ Ok held.parser.stage) live.given_are (leads held.parser live.parsing live.parser live.parser_open)
 
-same-stage : (p q : Stage) → (let found : Result Stage GrammarFault = Ok p in found) ≡ Ok q → p ≡ q
+pub same-stage : (p q : Stage) → (let found : Result Stage GrammarFault = Ok p in found) ≡ Ok q → p ≡ q
 same-stage p q same = cc
 
 then-none : (found : Result Stage GrammarFault) → then_walk (walk []) found ≡ found
@@ -98,6 +98,9 @@ module _ (s : Schema) (limits : Limits) (known : Known) (point : Point) (old : H
         stage = stage-stays point.read.given point.ended began.earlier.parser.stage stood.before.parser.stage stood.of_instance (reader-leads began.earlier _ began.was_live)
             (subst (λ (sts : List Statement). walk sts stage.Start ≡ Ok stood.before.parser.stage) stood.logs.given_are (reader-leads stood.before stood.logs.history stood.logs.live));
       }
+
+  pub stage-is : stood.logs.began.earlier.parser.stage ≡ old.reader.parser.stage
+  stage-is = (stood.stays stood.logs.began.earlier began-at).stage
 
   limits-held : limits_of old.reader ≡ (limits.record_source, limits.file_source)
   limits-held = sym (stood.stays stood.logs.began.earlier began-at).limits ∙ (stood.logs.began.same_limits ∙ stood.logs.limits_are)

@@ -10,3 +10,4 @@ pub mod Openings
 pub mod GoingOn
 pub mod Passages
 pub mod BrokenBy
+pub mod InSection

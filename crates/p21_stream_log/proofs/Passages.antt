@@ -1,5 +1,5 @@
 -- A statement is passed over up to the signpost by which the reading goes.
-use Rattle.std.proofs.Common.{◌≡◌, ◌↔◌, ◌+◌, ◌-◌, ◌<◌, ◌≤◌, inl, inr, ℕ, IsTrue, List, [], ◌∷◌, ◌++◌, length, length-append, take, drop, Some, None, refl, sym, ap, subst, ◌∙◌, append_assoc, append-nil, arith}
+use Rattle.std.proofs.Common.{◌≡◌, ◌↔◌, ◌+◌, ◌-◌, ◌^◌, ◌<◌, ◌≤◌, inl, inr, ℕ, IsTrue, List, [], ◌∷◌, ◌++◌, length, length-append, take, drop, Some, None, refl, sym, ap, subst, ◌∙◌, append_assoc, append-nil, arith}
 use Rattle.std.proofs.lemmas.List.{append_cancel_left, drop_at, length-take-le, take-append-drop, take_at}
 use Rattle.p21_spec_basics.proofs.Members.{head_is, tail_is}
 use Rattle.p21_spec_basics.specs.Limits.{Limits}
@@ -13,7 +13,7 @@ use Rattle.p21_stream_log.proofs.GoingOn.{passed-front}
 use Rattle.p21_stream_log.proofs.LeavingOut.{FindsLexed}
 use Rattle.p21_stream_log.specs.Going.{GoesOnBehind}
 use Rattle.p21_stream_log.specs.Log.{Held, IsFileOf, Known, Point}
-use Rattle.p21_stream_log.specs.Passage.{IsBrokenBy, IsMark, IsPassedTooFar, IsTooMany, PassToGives, PassageGives}
+use Rattle.p21_stream_log.specs.Passage.{AheadIs, FurtherGives, IsBrokenBy, IsMark, IsPassedTooFar, IsTooFarAt, IsTooMany, PassToGives, PassageFor, PassageGives, StaysAt}
 use Rattle.p21_stream_log.specs.declared.passage.Passage.{Passage}
 use Rattle.p21_stream_log.specs.declared.passage.Passage.TheVariants.{AtFileMark, GoesOn, Sought, TooLong}
 use Rattle.p21_stream_resume.specs.Seeking.{IsFound, Seeks, SeeksOn}
@@ -98,36 +98,59 @@ string-passes before statement behind place signpost no_remark stands first =
       );
     }
 
--- behind it
-seeker-passes : (before statement behind : List ℕ) (last : ℕ) (own : code.Signpost) (held : seeking.Held) → last < length behind → ((more : List ℕ) → HasNoneInside statement (behind ++ more)) → (is : IsFound (before ++ statement) [] behind last own held)
-    → (count : ℕ) → count ≡ length statement + (last + 1) - length held.begun → PassesTo before statement behind count is.signpost
-seeker-passes before statement behind last own held low none is count count_is =
-    let taken : List ℕ = take (last + 1) behind in
-    let left : List ℕ = drop (last + 1) behind in
-    let sign : List ℕ = signpost_bytes is.signpost in
-    let skipped : List ℕ = is.skipped in
-    let taken_is : taken ≡ skipped ++ sign =
-    sym (append-nil taken) ∙ ((is.first []).bytes_are ∙ ap (λ (l : List ℕ). skipped ++ l) (append-nil sign)) in
-    let behind_is : behind ≡ skipped ++ (sign ++ left) = sym (take-append-drop (last + 1) behind) ∙ (ap (λ (l : List ℕ). l ++ left) taken_is ∙ append_assoc skipped sign left) in
-    let passed : List ℕ = statement ++ skipped in
-    let whole : statement ++ behind ≡ passed ++ (sign ++ left) = ap (λ (l : List ℕ). statement ++ l) behind_is ∙ sym (append_assoc statement skipped (sign ++ left)) in
-    let size : length passed ≡ count =
-    (let a = length-append statement skipped in
-    let b = ap length taken_is in
-    let d = length-append skipped sign in
-    let e = length-take-le (last + 1) behind (omega (arith, low)) in
-    let f = ap length is.bytes_are in
-    omega (arith, a, b, d, e, f, count_is)) in
-    let same : take count (statement ++ behind) ≡ passed = ap (λ (l : List ℕ). take count l) whole ∙ take_at passed (sign ++ left) count size in
-    record {
-      within = let all = ap length whole in let sum = length-append passed (sign ++ left) in omega (arith, all, sum, size);
-      opened = subst (λ (l : List ℕ). IsOpened (before ++ l)) (sym same) (subst IsOpened (append_assoc before statement skipped) (is.first []).stands.opened);
-      goes = λ more.
-          let first : IsFirstSignpost (before ++ statement) (behind ++ more) skipped is.signpost (left ++ more) =
-          subst (λ (l : List ℕ). IsFirstSignpost (before ++ statement) l skipped is.signpost (left ++ more))
-          (sym (append_assoc taken left more) ∙ ap (λ (l : List ℕ). l ++ more) (take-append-drop (last + 1) behind)) (is.first (left ++ more)) in
-          (left ++ more, subst (λ (l : List ℕ). GoesBy before statement (behind ++ more) l is.signpost (left ++ more)) (sym same) (further_on skipped is.signpost (left ++ more) (none more) first));
-    }
+-- behind it, where a seeker has taken these bytes and then some of a piece
+module _ (before statement behind piece : List ℕ) (last : ℕ) (own : code.Signpost) (held : seeking.Held) (low : last < length piece) (none : (more : List ℕ) → HasNoneInside statement ((behind ++ piece) ++ more)) (is : IsFound (before ++ statement) behind piece last own held)
+    (count : ℕ) (count_is : count ≡ length (statement ++ behind) + (last + 1) - length held.begun) where
+  abbrev piece_front : List ℕ
+  piece_front = take (last + 1) piece
+
+  abbrev left : List ℕ
+  left = drop (last + 1) piece
+
+  abbrev sign : List ℕ
+  sign = signpost_bytes is.signpost
+
+  abbrev front : List ℕ
+  front = statement ++ is.skipped
+
+  taken-is : behind ++ piece_front ≡ is.skipped ++ sign
+  taken-is = ap (λ (l : List ℕ). behind ++ l) (sym (append-nil piece_front)) ∙ ((is.first []).bytes_are ∙ ap (λ (l : List ℕ). is.skipped ++ l) (append-nil sign))
+
+  whole-is : statement ++ (behind ++ piece) ≡ front ++ (sign ++ left)
+  whole-is =
+      let behind_is : behind ++ piece ≡ is.skipped ++ (sign ++ left) =
+      ap (λ (l : List ℕ). behind ++ l) (sym (take-append-drop (last + 1) piece))
+      ∙ (sym (append_assoc behind piece_front left) ∙ (ap (λ (l : List ℕ). l ++ left) taken-is ∙ append_assoc is.skipped sign left)) in
+      ap (λ (l : List ℕ). statement ++ l) behind_is ∙ sym (append_assoc statement is.skipped (sign ++ left))
+
+  front-size : length front ≡ count
+  front-size =
+      let a = length-append statement is.skipped in
+      let b = ap length taken-is in
+      let d = length-append is.skipped sign in
+      let e = length-take-le (last + 1) piece (omega (arith, low)) in
+      let f = ap length is.bytes_are in
+      let g = length-append behind piece_front in
+      let h = length-append statement behind in
+      omega (arith, a, b, d, e, f, g, h, count_is)
+
+  same-front : take count (statement ++ (behind ++ piece)) ≡ front
+  same-front = ap (λ (l : List ℕ). take count l) whole-is ∙ take_at front (sign ++ left) count front-size
+
+  seeker-passes : PassesTo before statement (behind ++ piece) count is.signpost
+  seeker-passes = record {
+    within = let all = ap length whole-is in let sum = length-append front (sign ++ left) in let size = front-size in omega (arith, all, sum, size);
+    opened = subst (λ (l : List ℕ). IsOpened (before ++ l)) (sym same-front) (subst IsOpened (append_assoc before statement is.skipped) (is.first []).stands.opened);
+    goes = λ more.
+        let first : IsFirstSignpost (before ++ statement) ((behind ++ piece) ++ more) is.skipped is.signpost (left ++ more) =
+        subst (λ (l : List ℕ). IsFirstSignpost (before ++ statement) l is.skipped is.signpost (left ++ more))
+        (ap (λ (l : List ℕ). behind ++ l) (sym (append_assoc piece_front left more) ∙ ap (λ (l : List ℕ). l ++ more) (take-append-drop (last + 1) piece)) ∙ sym (append_assoc behind piece more)) (is.first (left ++ more)) in
+        (left ++ more, subst (λ (l : List ℕ). GoesBy before statement ((behind ++ piece) ++ more) l is.signpost (left ++ more)) (sym same-front) (further_on is.skipped is.signpost (left ++ more) (none more) first));
+  }
+
+  -- what stands behind the bytes that are passed are those of the signpost, and the rest of the piece
+  seeker-ahead : drop count (statement ++ (behind ++ piece)) ≡ held.begun ++ left
+  seeker-ahead = ap (λ (l : List ℕ). drop count l) whole-is ∙ (drop_at front (sign ++ left) count front-size ∙ ap (λ (l : List ℕ). l ++ left) (sym is.bytes_are))
 
 -- ---- signposts of files
 
@@ -169,34 +192,34 @@ mark-same file_end (landmark (landmarks.section_end blanks)) rest other_rest mar
 
 module _ (s : Schema) (limits : Limits) (known : Known) (point : Point) (old : Held) (statement behind more : List ℕ) (number : ℕ) (subject : Subject) (begins : ℕ) (broken : IsBrokenBy s limits known point old statement behind more number subject begins) (count : ℕ)
     (signpost : Signpost) (passes : PassesTo point.read.bytes statement behind count signpost) where
-  abbrev bytes : List ℕ
-  bytes = statement ++ behind
+  abbrev all_bytes : List ℕ
+  all_bytes = statement ++ behind
 
   abbrev passed : List ℕ
-  passed = take count bytes
+  passed = take count all_bytes
 
   -- so it is passed over in each file, and what stands ahead begins with the signpost
-  over-in : (file : List ℕ) → IsFileOf known file → (last rest : List ℕ) × IsPassedOver s limits file point.read passed signpost last number subject × (signpost_bytes signpost ++ last ≡ (drop count bytes ++ more) ++ rest)
+  over-in : (file : List ℕ) → IsFileOf known file → (last rest : List ℕ) × IsPassedOver s limits file point.read passed signpost last number subject × (signpost_bytes signpost ++ last ≡ (drop count all_bytes ++ more) ++ rest)
   over-in file of =
       let next = broken.next_in file of in
       let (last, goes) = passes.goes (more ++ next.rest) in
       let goes_by : GoesBy point.read.bytes next.to_pass.statement next.to_pass.behind passed signpost last =
       subst (λ (l : List ℕ). GoesBy point.read.bytes l next.to_pass.behind passed signpost last) (sym next.statement_is)
       (subst (λ (l : List ℕ). GoesBy point.read.bytes statement l passed signpost last) (sym next.behind_are) goes) in
-      let parts : next.to_pass.statement ++ next.to_pass.behind ≡ passed ++ ((drop count bytes ++ more) ++ next.rest) =
+      let parts : next.to_pass.statement ++ next.to_pass.behind ≡ passed ++ ((drop count all_bytes ++ more) ++ next.rest) =
       ap (λ (l : List ℕ). l ++ next.to_pass.behind) next.statement_is
       ∙ (ap (λ (l : List ℕ). statement ++ l) next.behind_are
       ∙ (sym (append_assoc statement behind (more ++ next.rest))
-      ∙ (ap (λ (l : List ℕ). l ++ (more ++ next.rest)) (sym (take-append-drop count bytes))
-      ∙ (append_assoc passed (drop count bytes) (more ++ next.rest) ∙ ap (λ (l : List ℕ). passed ++ l) (sym (append_assoc (drop count bytes) more next.rest)))))) in
+      ∙ (ap (λ (l : List ℕ). l ++ (more ++ next.rest)) (sym (take-append-drop count all_bytes))
+      ∙ (append_assoc passed (drop count all_bytes) (more ++ next.rest) ∙ ap (λ (l : List ℕ). passed ++ l) (sym (append_assoc (drop count all_bytes) more next.rest)))))) in
       let front = passed-front point.read.bytes next.to_pass.statement next.to_pass.behind passed last signpost goes_by in (
         last,
         next.rest,
         record { passes = next.to_pass; goes_by = goes_by },
-        append_cancel_left passed (signpost_bytes signpost ++ last) ((drop count bytes ++ more) ++ next.rest) (sym front ∙ parts),
+        append_cancel_left passed (signpost_bytes signpost ++ last) ((drop count all_bytes ++ more) ++ next.rest) (sym front ∙ parts),
       )
 
-  pub goes-behind : (other : Landmark) → signpost ≡ landmark other → (file : List ℕ) → IsFileOf known file → GoesOnBehind s limits file point.read passed (drop count bytes ++ more) number subject begins
+  pub goes-behind : (other : Landmark) → signpost ≡ landmark other → (file : List ℕ) → IsFileOf known file → GoesOnBehind s limits file point.read passed (drop count all_bytes ++ more) number subject begins
   goes-behind other same file of =
       let (last, rest, over, ahead_are) = over-in file of in
       record {
@@ -224,7 +247,7 @@ module _ (s : Schema) (limits : Limits) (known : Known) (point : Point) (old : H
   place-is : old.start + count ≡ length (point.read.bytes ++ passed)
   place-is =
       let start = broken.stood.logs.start_is in
-      let size = length-take-le count bytes passes.within in
+      let size = length-take-le count all_bytes passes.within in
       let sum = length-append point.read.bytes passed in
       omega (arith, start, size, sum)
 
@@ -240,57 +263,54 @@ module _ (s : Schema) (limits : Limits) (known : Known) (point : Point) (old : H
       }
 
 -- what is told of the bytes in front of which the signpost stands is told of the statement
-pub passage-gives : GoesByOnePlace → (old new : Held) (statement behind : List ℕ) (count : ℕ) (own : code.Signpost) (passage : Passage)
-    → ((s : Schema) (limits : Limits) (known : Known) (point : Point) (more : List ℕ) (number : ℕ) (subject : Subject) (begins : ℕ) → IsBrokenBy s limits known point old statement behind more number subject begins
-    → (signpost : Signpost) × Describes own signpost × PassesTo point.read.bytes statement behind count signpost) → PassToGives old count own passage new → PassageGives old statement behind passage new
-passage-gives one_place old new statement behind count own (GoesOn there) passes (there_is, none, gives) =
-    subst (λ (n : ℕ). PassageGives old statement behind (GoesOn n) new) (sym there_is)
-    (λ s limits known point more number subject begins broken.
-    let (signpost, describes, to) = passes s limits known point more number subject begins broken in
-    let (other, same) = no-mark own signpost describes none in
-    gives s limits known point (take count (statement ++ behind)) (drop count (statement ++ behind) ++ more) number subject begins broken.stood
-    (place-is s limits known point old statement behind more number subject begins broken count signpost to) to.opened
-    (goes-behind s limits known point old statement behind more number subject begins broken count signpost to other same))
-passage-gives one_place old new statement behind count own AtFileMark passes (same, mark) = (
-  same,
-  λ s limits known point more number subject begins broken file of.
-      let (signpost, describes, to) = passes s limits known point more number subject begins broken in
-      ends-there s limits known point old statement behind more number subject begins broken count signpost to one_place (mark-of own signpost describes mark) file of,
-)
-passage-gives one_place old new statement behind count own TooLong passes (same, none, many) = (
-  same,
-  λ s limits known point more number subject begins broken file of.
-      let (signpost, describes, to) = passes s limits known point more number subject begins broken in
+reach-stays : (old new : Held) (count : ℕ) (own : code.Signpost) (passage : Passage) → PassToGives old count own passage new → StaysAt passage old new
+reach-stays old new count own (GoesOn there) gives = tt
+reach-stays old new count own AtFileMark gives = gives.0
+reach-stays old new count own TooLong gives = gives.0
+reach-stays old new count own (Sought seeker) gives = absurd gives
+
+module _ (one_place : GoesByOnePlace) (s : Schema) (limits : Limits) (known : Known) (point : Point) (old new : Held) (statement behind more : List ℕ) (number : ℕ) (subject : Subject) (begins : ℕ)
+    (broken : IsBrokenBy s limits known point old statement behind more number subject begins) (count : ℕ) (own : code.Signpost) (signpost : Signpost) (describes : Describes own signpost) (to : PassesTo point.read.bytes statement behind count signpost) where
+  reach-gives : (passage : Passage) → PassToGives old count own passage new → PassageFor s limits known point statement behind more number subject begins passage new
+  reach-gives (GoesOn there) (there_is, none, gives) =
+      let (other, same) = no-mark own signpost describes none in
+      subst (λ (n : ℕ). PassageFor s limits known point statement behind more number subject begins (GoesOn n) new) (sym there_is)
+      (gives s limits known point (take count (statement ++ behind)) (drop count (statement ++ behind) ++ more) number subject begins broken.stood
+      (place-is s limits known point old statement behind more number subject begins broken count signpost to) to.opened
+      (goes-behind s limits known point old statement behind more number subject begins broken count signpost to other same))
+  reach-gives AtFileMark (same, mark) = ends-there s limits known point old statement behind more number subject begins broken count signpost to one_place (mark-of own signpost describes mark)
+  reach-gives TooLong (same, none, many) =
       let (other, is) = no-mark own signpost describes none in
-      too-far s limits known point old statement behind more number subject begins broken count signpost to other is (many s limits known point broken.stood) file of,
-)
-passage-gives one_place old new statement behind count own (Sought seeker) passes never = absurd never
+      too-far s limits known point old statement behind more number subject begins broken count signpost to other is (many s limits known point broken.stood)
+  reach-gives (Sought seeker) never = absurd never
 
 -- ---- the ways to it
 
-abbrev pub IsOpenedBy : Held → List ℕ → Type 0
-IsOpenedBy held before = IsTrue held.opened ↔ IsOpened before
-
 pub by-string : GoesByOnePlace → (old new : Held) (statement behind : List ℕ) (count : ℕ) (own : code.Signpost) (passage : Passage) → FindsLexed statement (Some (count, own)) → PassToGives old count own passage new → PassageGives old statement behind passage new
-by-string one_place old new statement behind count own passage found =
-    passage-gives one_place old new statement behind count own passage
-    (λ s limits known point more number subject begins broken.
-    let ((signpost, stands, describes), first) = found broken.state broken.lexed in
-    (signpost, describes, string-passes point.read.bytes statement behind count signpost broken.no_remark stands first))
+by-string one_place old new statement behind count own passage found gives = (
+  reach-stays old new count own passage gives,
+  λ s limits known point more number subject begins broken.
+      let ((signpost, stands, describes), first) = found broken.state broken.lexed in
+      reach-gives one_place s limits known point old new statement behind more number subject begins broken count own signpost describes
+      (string-passes point.read.bytes statement behind count signpost broken.no_remark stands first) passage gives,
+)
 
 none-further : (statement behind more : List ℕ) → EndsInNoRemark statement behind → FindsInString statement None → HasNoneInside statement (behind ++ more)
 none-further statement behind more no_remark none = none-in-front statement (behind ++ more) (further-behind statement behind more no_remark) none
 
+abbrev pub IsOpenedBy : Held → List ℕ → Type 0
+IsOpenedBy held before = IsTrue held.opened ↔ IsOpened before
+
 pub by-seeker : GoesByOnePlace → (old new : Held) (statement behind : List ℕ) (last count : ℕ) (own : code.Signpost) (held : seeking.Held) (passage : Passage) → FindsLexed statement None → last < length behind
     → ((before : List ℕ) → IsOpenedBy old before → IsFound (before ++ statement) [] behind last own held) → count ≡ length statement + (last + 1) - length held.begun → PassToGives old count own passage new → PassageGives old statement behind passage new
-by-seeker one_place old new statement behind last count own held passage none low found count_is =
-    passage-gives one_place old new statement behind count own passage
-    (λ s limits known point more number subject begins broken.
-    let is = found point.read.bytes broken.stood.logs.opens in (
-      is.signpost,
-      is.describes,
-      seeker-passes point.read.bytes statement behind last own held low (λ further. none-further statement behind further broken.no_remark (none broken.state broken.lexed)) is count count_is,
-    ))
+by-seeker one_place old new statement behind last count own held passage none low found count_is gives = (
+  reach-stays old new count own passage gives,
+  λ s limits known point more number subject begins broken.
+      let is = found point.read.bytes broken.stood.logs.opens in
+      let size_is : count ≡ length (statement ++ []) + (last + 1) - length held.begun = count_is ∙ ap (λ (l : List ℕ). length l + (last + 1) - length held.begun) (sym (append-nil statement)) in
+      reach-gives one_place s limits known point old new statement behind more number subject begins broken count own is.signpost is.describes
+      (seeker-passes point.read.bytes statement [] behind last own held low (λ further. none-further statement behind further broken.no_remark (none broken.state broken.lexed)) is count size_is) passage gives,
+)
 
 pub by-none : (old new : Held) (statement behind : List ℕ) (held : seeking.Held) → new ≡ old → FindsLexed statement None → ((before : List ℕ) → IsOpenedBy old before → Seeks (before ++ statement) behind held) → PassageGives old statement behind (Sought held) new
 by-none old new statement behind held same none seeks = (
@@ -300,3 +320,45 @@ by-none old new statement behind held same none seeks = (
     λ further. none-further statement behind further broken.no_remark (none broken.state broken.lexed),
   ),
 )
+
+-- ---- the next piece
+
+further-none : (statement behind piece : List ℕ) → ((rest : List ℕ) → HasNoneInside statement (behind ++ rest)) → (rest : List ℕ) → HasNoneInside statement ((behind ++ piece) ++ rest)
+further-none statement behind piece none rest = subst (λ (l : List ℕ). HasNoneInside statement l) (sym (append_assoc behind piece rest)) (none (piece ++ rest))
+
+pub further-taken : (old : Held) (seeker after : seeking.Held) (taken : ℕ) (piece : List ℕ) → SeeksOn seeker piece None after → FurtherGives old seeker taken piece None old after
+further-taken old seeker after taken piece gives = (refl, λ point statement behind sought. ((gives (point.read.bytes ++ statement) behind sought.0).0, further-none statement behind piece sought.1))
+
+-- what stands ahead where it goes on
+ahead-of : (old new : Held) (count : ℕ) (own : code.Signpost) (passage : Passage) (bytes ahead : List ℕ) → PassToGives old count own passage new → drop count bytes ≡ ahead → AheadIs passage bytes ahead
+ahead-of old new count own (GoesOn there) bytes ahead gives is = ap (λ (n : ℕ). drop n bytes) gives.0 ∙ is
+ahead-of old new count own AtFileMark bytes ahead gives is = tt
+ahead-of old new count own TooLong bytes ahead gives is = tt
+ahead-of old new count own (Sought seeker) bytes ahead gives is = absurd gives
+
+pub further-found : GoesByOnePlace → (old new : Held) (seeker after : seeking.Held) (taken last count : ℕ) (piece : List ℕ) (own : code.Signpost) (passage : Passage) → last < length piece → SeeksOn seeker piece (Some (last, own)) after
+    → count ≡ taken + (last + 1) - length after.begun → PassToGives old count own passage new → FurtherGives old seeker taken piece (Some (last + 1, passage)) new after
+further-found one_place old new seeker after taken last count piece own passage low found count_is gives = (
+  reach-stays old new count own passage gives,
+  λ s limits known point statement behind more number subject begins taken_is sought broken.
+      let is = found (point.read.bytes ++ statement) behind sought.0 in
+      let none = further-none statement behind piece sought.1 in
+      let size_is : count ≡ length (statement ++ behind) + (last + 1) - length after.begun = count_is ∙ ap (λ (n : ℕ). n + (last + 1) - length after.begun) taken_is in (
+        reach-gives one_place s limits known point old new statement (behind ++ piece) more number subject begins broken count own is.signpost is.describes
+            (seeker-passes point.read.bytes statement behind piece last own after low none is count size_is) passage gives,
+        ahead-of old new count own passage (statement ++ (behind ++ piece)) (after.begun ++ drop (last + 1) piece) gives
+            (seeker-ahead point.read.bytes statement behind piece last own after low none is count size_is),
+      ),
+)
+
+-- a signpost that no place of 64 bits is in front of
+far-gives : (old : Held) (count : ℕ) (own : code.Signpost) (passage : Passage) → IsTooFarAt own passage → 2 ^ 64 ≤ count → PassToGives old count own passage old
+far-gives old count own AtFileMark mark far = (refl, mark)
+far-gives old count own TooLong none far = (refl, none, λ s limits known point stood. inr (omega (arith, far)))
+far-gives old count own (GoesOn there) never far = absurd never
+far-gives old count own (Sought seeker) never far = absurd never
+
+pub further-far : GoesByOnePlace → (old : Held) (seeker after : seeking.Held) (taken last : ℕ) (piece : List ℕ) (own : code.Signpost) (passage : Passage) → last < length piece → SeeksOn seeker piece (Some (last, own)) after
+    → 2 ^ 64 ≤ taken + (last + 1) - length after.begun → IsTooFarAt own passage → FurtherGives old seeker taken piece (Some (last + 1, passage)) old after
+further-far one_place old seeker after taken last piece own passage low found far is =
+    further-found one_place old old seeker after taken last (taken + (last + 1) - length after.begun) piece own passage low found refl (far-gives old (taken + (last + 1) - length after.begun) own passage is far)

@@ -1,11 +1,11 @@
 -- How a log goes on behind a statement that is passed over (this project's own, on the tokens of ISO 10303-21).
-use Rattle.std.specs.Prelude.{◌≡◌, ◌⊎◌, ◌<◌, ℕ, Bool, true, false, List, [], ◌∷◌, ◌++◌, length, None}
+use Rattle.std.specs.Prelude.{◌≡◌, ◌⊎◌, ◌↔◌, ◌<◌, ℕ, Bool, true, false, IsTrue, List, [], ◌∷◌, ◌++◌, length, None}
 use Rattle.p21_spec_basics.specs.Limits.{Limits}
 use Rattle.p21_spec_exchange.specs.Record.{Record}
 use Rattle.p21_spec_exchange.specs.Statement.{Statement, instance}
 use Rattle.p21_spec_schema.specs.Schema.{Schema}
 use Rattle.p21_spec_survey.specs.Landmark.{IsOpened, Landmark, landmark, landmark_bytes}
-use Rattle.p21_spec_survey.specs.Survey.{BeginsAt, IsPassedOver, Reading, Subject, passing_over}
+use Rattle.p21_spec_survey.specs.Survey.{BeginsAt, IsInData, IsPassedOver, Reading, Subject, passing_over}
 use Rattle.p21_stream_log.specs.Log.{Held, IsFileOf, Known, Logs, Point}
 use Rattle.p21_stream_statements.specs.Reopening.{StaysInStatement}
 use Rattle.p21_stream_statements.specs.StatementReader as statements
@@ -42,3 +42,7 @@ GoOnGives old place true new =
     → IsOpened (point.read.bytes ++ passed) → ((file : List ℕ) → IsFileOf known file → GoesOnBehind s limits file point.read passed ahead number subject begins)
     → Logs s limits known new (behind_stretch point passed number subject begins ahead)
 GoOnGives old place false new = (new ≡ old) × ((s : Schema) (limits : Limits) (known : Known) (point : Point) → StoodFor s limits known point old → limits.file_source < place)
+
+-- of each point that was stood for, whether a data section is open behind the statements given
+abbrev pub TellsData : Held → Bool → Type 0
+TellsData held found = (s : Schema) (limits : Limits) (known : Known) (point : Point) → StoodFor s limits known point held → (IsTrue found ↔ IsInData point.read.given)

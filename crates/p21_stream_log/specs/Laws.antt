@@ -9,10 +9,9 @@ use Rattle.p21_spec_survey.specs.Survey.{BeginsAt, EndsReading, IsGoneOnBehind, 
 use Rattle.p21_stream_log.specs.Broken.{IsFrontOf}
 use Rattle.p21_stream_log.specs.Log.{EndsWith, Held, IsFileOf, IsRefused, Known, Logs, Point}
 use Rattle.p21_stream_log.specs.Opening.{OpensAs}
-use Rattle.p21_stream_log.specs.Passage.{IsBrokenBy}
+use Rattle.p21_stream_log.specs.Passage.{IsBrokenBy, IsSoughtBy}
 use Rattle.p21_stream_log.specs.declared.opening.Opening.TheVariants.{Statement}
 use Rattle.p21_stream_resume.specs.Seeking as seeking
-use Rattle.p21_stream_resume.specs.Seeking.{Seeks}
 use Rattle.p21_stream_statements.specs.Fault.{fault_number}
 use Rattle.p21_stream_statements.specs.declared.fault.Fault.{Fault}
 
@@ -37,5 +36,5 @@ WrongIsBroken = (s : Schema) (limits : Limits) (known : Known) (point : Point) (
 -- ends there
 abbrev pub SoughtEnds : Type 0
 SoughtEnds = (s : Schema) (limits : Limits) (known : Known) (point : Point) (held : Held) (statement behind : List ℕ) (number : ℕ) (subject : Subject) (begins : ℕ) (seeker : seeking.Held)
-    → IsBrokenBy s limits known point held statement behind [] number subject begins → Seeks (point.read.bytes ++ statement) behind seeker → ((rest : List ℕ) → HasNoneInside statement (behind ++ rest))
+    → IsBrokenBy s limits known point held statement behind [] number subject begins → IsSoughtBy point statement behind seeker
     → (file : List ℕ) → IsFileOf known file → file ≡ point.read.bytes ++ (statement ++ behind) → EndsReading s limits file point.read number subject

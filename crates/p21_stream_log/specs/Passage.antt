@@ -1,5 +1,5 @@
 -- How a statement is passed over by bytes that are in hand (this project's own, on the tokens of ISO 10303-21).
-use Rattle.std.specs.Prelude.{◌≡◌, ◌⊎◌, ◌<◌, ◌≤◌, ◌+◌, ◌^◌, ℕ, true, List, [], ◌++◌, length, take, drop}
+use Rattle.std.specs.Prelude.{◌≡◌, ◌⊎◌, ◌<◌, ◌≤◌, ◌+◌, ◌-◌, ◌^◌, ℕ, true, List, [], ◌++◌, length, take, drop, Option, Some, None}
 use Rattle.p21_spec_basics.specs.Limits.{Limits}
 use Rattle.p21_spec_schema.specs.Schema.{Schema}
 use Rattle.p21_spec_survey.specs.Landmark.{Landmark, landmark}
@@ -10,6 +10,7 @@ use Rattle.p21_stream_log.specs.Log.{Held, IsFileOf, Known, Logs, Point}
 use Rattle.p21_stream_log.specs.declared.passage.Passage.{Passage}
 use Rattle.p21_stream_log.specs.declared.passage.Passage.TheVariants.{GoesOn, AtFileMark, TooLong, Sought}
 use Rattle.p21_stream_resume.specs.Lexing.{AreLexed}
+use Rattle.p21_stream_resume.specs.Seeking as seeking
 use Rattle.p21_stream_resume.specs.Seeking.{Seeks}
 use Rattle.p21_stream_resume.specs.declared.signpost.Signpost as code
 use Rattle.p21_stream_resume.specs.declared.signpost.Signpost.TheVariants.{FileBegin, FileEnd}
@@ -51,22 +52,57 @@ pub record IsPassedTooFar (s : Schema) (limits : Limits) (file : List ℕ) (read
   pub over : IsPassedOver s limits file read passed (landmark found) rest number subject
   pub too_many : IsTooMany limits (length (read.bytes ++ passed))
 
--- What is given of each point of which the statement is broken so. It is passed over in the reading that is stood for; or nothing has
--- changed: the reading ends there in each file; the file may not have as many bytes; or no signpost stands inside the statement, and a
--- seeker has taken the bytes behind it
+-- no signpost stands inside the statement, and a seeker has taken these bytes behind it
+abbrev pub IsSoughtBy : Point → List ℕ → List ℕ → seeking.Held → Type 0
+IsSoughtBy point statement behind seeker = Seeks (point.read.bytes ++ statement) behind seeker × ((rest : List ℕ) → HasNoneInside statement (behind ++ rest))
+
+-- where it isn't passed over nothing has changed
+abbrev pub StaysAt : Passage → Held → Held → Type 0
+StaysAt (GoesOn count) old new = Unit {0}
+StaysAt other old new = new ≡ old
+
+-- What is given of a point of which the statement is broken so. It is passed over in the reading that is stood for; or in each file the
+-- reading ends there, or the file may not have as many bytes; or a seeker has taken the bytes behind it
+abbrev pub PassageFor : (s : Schema) (limits : Limits) (known : Known) (point : Point) (statement behind more : List ℕ) (number : ℕ) (subject : Subject) (begins : ℕ) → Passage → Held → Type 0
+PassageFor s limits known point statement behind more number subject begins (GoesOn count) new =
+    Logs s limits known new (behind_stretch point (take count (statement ++ behind)) number subject begins (drop count (statement ++ behind) ++ more))
+PassageFor s limits known point statement behind more number subject begins AtFileMark new = (file : List ℕ) → IsFileOf known file → EndsReading s limits file point.read number subject
+PassageFor s limits known point statement behind more number subject begins TooLong new = (file : List ℕ) → IsFileOf known file → IsPassedTooFar s limits file point.read number subject
+PassageFor s limits known point statement behind more number subject begins (Sought seeker) new = IsSoughtBy point statement behind seeker
+
 abbrev pub PassageGives : Held → List ℕ → List ℕ → Passage → Held → Type 0
-PassageGives old statement behind (GoesOn count) new =
-    (s : Schema) (limits : Limits) (known : Known) (point : Point) (more : List ℕ) (number : ℕ) (subject : Subject) (begins : ℕ) → IsBrokenBy s limits known point old statement behind more number subject begins
-    → Logs s limits known new (behind_stretch point (take count (statement ++ behind)) number subject begins (drop count (statement ++ behind) ++ more))
-PassageGives old statement behind AtFileMark new =
-    (new ≡ old) × ((s : Schema) (limits : Limits) (known : Known) (point : Point) (more : List ℕ) (number : ℕ) (subject : Subject) (begins : ℕ) → IsBrokenBy s limits known point old statement behind more number subject begins
-    → (file : List ℕ) → IsFileOf known file → EndsReading s limits file point.read number subject)
-PassageGives old statement behind TooLong new =
-    (new ≡ old) × ((s : Schema) (limits : Limits) (known : Known) (point : Point) (more : List ℕ) (number : ℕ) (subject : Subject) (begins : ℕ) → IsBrokenBy s limits known point old statement behind more number subject begins
-    → (file : List ℕ) → IsFileOf known file → IsPassedTooFar s limits file point.read number subject)
-PassageGives old statement behind (Sought seeker) new =
-    (new ≡ old) × ((s : Schema) (limits : Limits) (known : Known) (point : Point) (more : List ℕ) (number : ℕ) (subject : Subject) (begins : ℕ) → IsBrokenBy s limits known point old statement behind more number subject begins
-    → Seeks (point.read.bytes ++ statement) behind seeker × ((rest : List ℕ) → HasNoneInside statement (behind ++ rest)))
+PassageGives old statement behind passage new =
+    StaysAt passage old new
+    × ((s : Schema) (limits : Limits) (known : Known) (point : Point) (more : List ℕ) (number : ℕ) (subject : Subject) (begins : ℕ) → IsBrokenBy s limits known point old statement behind more number subject begins
+    → PassageFor s limits known point statement behind more number subject begins passage new)
+
+-- what stands behind the bytes that are passed
+abbrev pub AheadIs : Passage → List ℕ → List ℕ → Type 0
+AheadIs (GoesOn count) bytes ahead = drop count bytes ≡ ahead
+AheadIs other bytes ahead = Unit {0}
+
+-- What the next piece gives, where a seeker has taken what stands behind a broken statement, with it so many bytes. It has taken the piece
+-- too; or behind so many bytes of the piece the signpost ends whose bytes it holds
+abbrev pub FurtherGives : Held → seeking.Held → ℕ → List ℕ → Option (ℕ × Passage) → Held → seeking.Held → Type 0
+FurtherGives old seeker taken piece None new after =
+    (new ≡ old) × ((point : Point) (statement behind : List ℕ) → IsSoughtBy point statement behind seeker → IsSoughtBy point statement (behind ++ piece) after)
+FurtherGives old seeker taken piece (Some (count, passage)) new after =
+    StaysAt passage old new
+    × ((s : Schema) (limits : Limits) (known : Known) (point : Point) (statement behind more : List ℕ) (number : ℕ) (subject : Subject) (begins : ℕ) → taken ≡ length (statement ++ behind) → IsSoughtBy point statement behind seeker
+    → IsBrokenBy s limits known point old statement (behind ++ piece) more number subject begins
+    → PassageFor s limits known point statement (behind ++ piece) more number subject begins passage new × AheadIs passage (statement ++ (behind ++ piece)) (after.begun ++ drop count piece))
+
+-- how many bytes stand in front of a signpost of so many bytes, where these are taken and it ends behind so many others; more than 64 bits
+-- can say, or so many
+abbrev pub IsFrontSize : ℕ → ℕ → ℕ → Option ℕ → Type 0
+IsFrontSize taken count size None = 2 ^ 64 ≤ taken + count - size
+IsFrontSize taken count size (Some front) = front ≡ taken + count - size
+
+-- of a signpost that no place of 64 bits is in front of
+abbrev pub IsTooFarAt : code.Signpost → Passage → Type 0
+IsTooFarAt signpost AtFileMark = IsMark signpost
+IsTooFarAt signpost TooLong = IsMark signpost → ⊥
+IsTooFarAt signpost other = ⊥
 
 -- so many bytes behind those that are read a signpost stands: the reading goes on there, or it is that of a file, or it is too far
 abbrev pub PassToGives : Held → ℕ → code.Signpost → Passage → Held → Type 0

@@ -4,6 +4,12 @@
 //! A `Log` feeds a reader of statements, and keeps the bytes of the statement that is open. Where this one ends the caller judges it, and
 //! says what is done with it. The clauses speak of each reading that the log stands for (`Logs`): the reader stands for a history in which
 //! the kept bytes stand, with separators in the place of those that are passed over (`specs/Log`).
+//!
+//! Where a step is refused, `bytes_with` has the statement and what stands behind it, `opening_of` says whether it begins with ENDSEC,
+//! `broken_front` which bytes stand in front of what is refused, and `pass` passes it over, with `pass_on` for the pieces that come. So it is
+//! done too with an instance that `leave_out` leaves as it is. `log_laws` says that both are broken as `pass` wants it. A clause speaks of
+//! each file that begins with known bytes, and so of whatever pieces come: a caller that goes from piece to piece says of all bytes to come
+//! that the log stands for the reading, with these ahead.
 #![tactic(auto)]
 
 mod front;

@@ -1,17 +1,17 @@
-ghost use Rattle.std.specs.Prelude.{◌≡◌, ◌++◌, IfOk, List, OnOk, ℕ};
+ghost use Rattle.std.specs.Prelude.{◌≡◌, ◌≤◌, ◌++◌, IfOk, IfSome, List, OnOk, length, ℕ};
 ghost use Rattle.p21_spec_schema.specs.Schema.{Schema};
 ghost use Rattle.p21_stream_log.specs.Broken.{BeginsIn, BreaksOff, IsFrontOf};
-ghost use Rattle.p21_stream_log.specs.Going.{GoOnGives};
+ghost use Rattle.p21_stream_log.specs.Going.{GoOnGives, TellsData};
 ghost use Rattle.p21_stream_log.specs.Log.{BeginSo, BeginsBehind, Closes, Known, LeaveOutGives, Logs, PassGives, StepGives, TakeGives, at_start};
-ghost use Rattle.p21_stream_log.specs.Passage.{PassToGives, PassageGives};
+ghost use Rattle.p21_stream_log.specs.Passage.{FurtherGives, PassToGives, PassageGives};
 ghost use Rattle.p21_stream_statements.specs.StatementReader.{TakesWithinPiece};
 
 use crate::front::front_of;
-use crate::passage::{Passage, is_file_mark};
+use crate::passage::{Passage, front_size, is_file_mark, too_far};
 use p21_grammar::Event;
 use p21_spec_survey::{signpost_laws, whole_laws};
 use p21_stream_resume::{Seeker, Signpost, is_opened_behind, signpost_in_string};
-use p21_stream_statements::{Fault, StatementReader};
+use p21_stream_statements::{Fault, StatementReader, reader_laws};
 use p21_transcribe::behind_separators;
 use p21_values::{Limits, NoMemory};
 use std::alloc::{AllocError, Global};
@@ -162,6 +162,37 @@ impl Log {
         }
     }
 
+    /// Looks for where the reading goes on in the next piece, where a seeker has taken what stands behind a statement, with the statement so
+    /// many bytes. Where it goes on, or ends, so many bytes of the piece end a signpost: the bytes that the seeker holds are to be offered
+    /// next, and then the rest of the piece. Else the seeker has taken the piece.
+    ///
+    /// # Errors
+    ///
+    /// `NoMemory`.
+    pub fn pass_on(
+        &mut self,
+        seeker: &mut Seeker,
+        taken: usize,
+        piece: &[u8],
+    ) -> Result<Option<(usize, Passage)>, NoMemory>
+        ensures within { IfOk result (λ found. IfSome found (λ f. f.0 ≤ length piece.now)) }
+        ensures gives { IfOk result (λ found. FurtherGives self.old seeker.old taken piece.now found self.new seeker.new) }
+    {
+        signpost_laws();
+        match seeker.seek(piece) {
+            Ok(None) => Ok(None),
+            Ok(Some((last, signpost))) => {
+                let count = last + 1;
+                let size = seeker.signpost_bytes().len();
+                let Some(passed) = front_size(taken, count, size) else {
+                    return Ok(Some((count, too_far(signpost))));
+                };
+                Ok(Some((count, self.pass_to(passed, signpost))))
+            }
+            Err(AllocError) => Err(NoMemory),
+        }
+    }
+
     /// Goes on at a signpost that stands behind so many bytes, unless it is that of a file.
     fn pass_to(&mut self, count: usize, signpost: Signpost) -> Passage
         ensures { PassToGives self.old count signpost result self.new }
@@ -197,6 +228,14 @@ impl Log {
             return Err(NoMemory);
         };
         Ok(bytes)
+    }
+
+    /// Whether it stands in a data section, also where a step was refused. It takes no memory.
+    pub fn is_in_data(&self) -> bool
+        ensures { TellsData self.now result }
+    {
+        reader_laws();
+        self.reader.is_in_data()
     }
 
     /// Of the bytes behind the last statement that ended, with those of the piece of which a step refused some, the ones that stand in front

@@ -1,5 +1,5 @@
 ghost use Rattle.std.specs.Prelude.{◌↔◌, IsTrue};
-ghost use Rattle.p21_stream_log.specs.Passage.{IsMark};
+ghost use Rattle.p21_stream_log.specs.Passage.{IsFrontSize, IsMark, IsTooFarAt};
 
 use p21_stream_resume::{Seeker, Signpost};
 
@@ -25,5 +25,28 @@ pub(crate) fn is_file_mark(signpost: Signpost) -> bool
         Signpost::SectionEnd(_) => false,
         Signpost::FileBegin => true,
         Signpost::FileEnd => true,
+    }
+}
+
+/// What comes of a signpost that no place of 64 bits is in front of.
+pub(crate) fn too_far(signpost: Signpost) -> Passage
+    ensures { IsTooFarAt signpost result }
+{
+    if is_file_mark(signpost) {
+        Passage::AtFileMark
+    } else {
+        Passage::TooLong
+    }
+}
+
+/// How many bytes stand in front of a signpost of so many, where these are taken and it ends behind so many others; none where 64 bits
+/// can't say it.
+pub(crate) fn front_size(taken: usize, count: usize, size: usize) -> Option<usize>
+    ensures { IsFrontSize taken count size result }
+{
+    if count < size {
+        Some(taken.saturating_sub(size - count))
+    } else {
+        taken.checked_add(count - size)
     }
 }
