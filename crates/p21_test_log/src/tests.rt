@@ -2,7 +2,8 @@
 ghost use Rattle.std.specs.Prelude.{◌<◌};
 
 use p21_grammar::Event;
-use p21_stream_log::{Log, Opening, is_front, opening_of};
+use p21_stream_log::{Log, Opening, Passage, is_front, opening_of};
+use p21_stream_resume::Seeker;
 use p21_values::{Limits, Name, NoMemory};
 use std::alloc::Global;
 use std::process::Abort;
@@ -38,15 +39,21 @@ fn read(log: &mut Log, piece: &[u8], name: Name, answer: &mut Answer) -> bool {
             return true;
         };
         rest = &rest[count..];
-        if let Some(event) = event {
-            if is_named(&event, name) {
-                *answer = Some(log.leave_out());
-            } else {
-                log.take();
-            }
-        }
+        judge(log, event, name, answer);
     }
     false
+}
+
+/// Takes a statement that has ended, or leaves out the instance of this name.
+fn judge(log: &mut Log, event: Option<Event>, name: Name, answer: &mut Answer) {
+    let Some(event) = event else {
+        return;
+    };
+    if is_named(&event, name) {
+        *answer = Some(log.leave_out());
+    } else {
+        log.take();
+    }
 }
 
 fn is_named(event: &Event, wanted: Name) -> bool {
@@ -307,4 +314,147 @@ fn goes_on_in_no_longer_file(rt: HostRuntime) {
     let mut log = Log::new(rt.alloc(), Limits::usual());
     assert_eq!(rt; log.go_on(68_719_476_737), false);
     assert_eq!(rt; log.go_on(68_719_476_736), true);
+}
+
+/// A statement that is refused and what stands behind it; how many bytes stand in front of what is refused; and the name of an instance
+/// behind where the reading goes on, with how many bytes stand in front of it; or none, where the reading doesn't go on.
+type Passed = &'static [(&'static str, usize, u64, Option<usize>)];
+
+const PASSED: Passed = &[
+    ("#1=A(nan);\n#2=A($);", 5, 2, Some(11)),
+    ("#1=A($\n#2 = A();#3=A();", 7, 3, Some(16)),
+    ("#1=A('x,$);\n#2=A('y');#3=A(');", 18, 2, Some(12)),
+    (" #1=A(nan);#1=B(#4);\n/* #5= */#2=A();", 6, 2, Some(30)),
+    ("#1=A(nan)#2=B(#3);", 5, 2, Some(9)),
+    ("#1=A(nan), #2=B(#3);", 5, 2, None),
+    ("#1=A(nan);ISO-10303-21;#2=A();", 5, 2, None),
+];
+
+/// A stretch that is looked through, and how many bytes of it are taken.
+type Stretch = Option<(Seeker, usize)>;
+
+/// Passes over a statement of which a step refused some of these bytes, up to a landmark in them, behind which statements are taken but the
+/// instance of this name; says whether it goes on, or may.
+fn pass(
+    alloc: Global,
+    log: &mut Log,
+    rest: &[u8],
+    place: usize,
+    name: Name,
+    stretch: &mut Stretch,
+    answer: &mut Answer,
+) -> Result<bool, NoMemory> {
+    let bytes = log.bytes_with(alloc, rest)?;
+    let place = HEAD.len().saturating_add(place) as u64;
+    let front = log.broken_front(alloc, Limits::usual(), &bytes, place)?;
+    let behind = &bytes[front.len().min(bytes.len())..];
+    match log.pass(alloc, front, behind)? {
+        Passage::GoesOn(count) => Ok(read(log, &bytes[count.min(bytes.len())..], name, answer)),
+        Passage::Sought(seeker) => {
+            *stretch = Some((seeker, bytes.len()));
+            Ok(true)
+        }
+        _ => Ok(false),
+    }
+}
+
+/// Goes on behind a stretch in the next piece, if a landmark ends in it.
+fn pass_on(
+    log: &mut Log,
+    piece: &[u8],
+    name: Name,
+    stretch: &mut Stretch,
+    answer: &mut Answer,
+) -> Result<bool, NoMemory> {
+    let Some((mut seeker, taken)) = stretch.take() else {
+        return Ok(false);
+    };
+    match log.pass_on(&mut seeker, taken, piece)? {
+        None => {
+            *stretch = Some((seeker, taken.saturating_add(piece.len())));
+            Ok(true)
+        }
+        Some((count, Passage::GoesOn(_))) => Ok(
+            read(log, seeker.signpost_bytes(), name, answer)
+                && read(log, &piece[count.min(piece.len())..], name, answer),
+        ),
+        Some(_) => Ok(false),
+    }
+}
+
+/// Where the instance of this name begins behind a statement that is passed over, with so many bytes in front of what is refused, in pieces
+/// of a size.
+fn passed(
+    alloc: Global,
+    text: &str,
+    place: usize,
+    name: Name,
+    size: usize,
+) -> Result<Answer, NoMemory>
+    requires { 0 < size }
+{
+    let mut log = Log::new(alloc, Limits::usual());
+    let mut answer = None;
+    let mut stretch = None;
+    if !read(&mut log, HEAD.as_bytes(), name, &mut answer) {
+        return Ok(None);
+    }
+    for piece in text.as_bytes().chunks(size) {
+        let goes = if stretch.is_some() {
+            pass_on(&mut log, piece, name, &mut stretch, &mut answer)?
+        } else {
+            let rest = refused_in(&mut log, piece, name, &mut answer);
+            rest.is_empty()
+                || pass(
+                    alloc,
+                    &mut log,
+                    rest,
+                    place,
+                    name,
+                    &mut stretch,
+                    &mut answer,
+                )?
+        };
+        if !goes {
+            return Ok(None);
+        }
+    }
+    Ok(answer)
+}
+
+/// Takes each statement of a piece but the instance of this name, up to a step that is refused: what is left of the piece then, or nothing.
+fn refused_in<'a>(log: &mut Log, piece: &'a [u8], name: Name, answer: &mut Answer) -> &'a [u8] {
+    let mut rest = piece;
+    for _ in 0..=piece.len().saturating_mul(2) {
+        match log.step(rest) {
+            Ok(None) => return &rest[..0],
+            Ok(Some((count, event))) => {
+                rest = &rest[count..];
+                judge(log, event, name, answer);
+            }
+            Err(_) => return rest,
+        }
+    }
+    rest
+}
+
+/// The first text behind which an instance begins elsewhere, in pieces of some size, or memory was refused.
+fn first_passed_wrong(alloc: Global, rows: Passed) -> Result<&'static str, NoMemory> {
+    for (text, place, name, wanted) in rows {
+        let wanted = match wanted {
+            Some(count) => Some(Some(HEAD.len().saturating_add(*count) as u64)),
+            None => None,
+        };
+        for size in 1..=text.len() {
+            if passed(alloc, text, *place, Name(*name), size)? != wanted {
+                return Ok(text);
+            }
+        }
+    }
+    Ok("none")
+}
+
+#[test]
+fn passes_over_a_statement(rt: HostRuntime) {
+    assert_eq!(rt; first_passed_wrong(rt.alloc(), PASSED), Ok("none"));
 }
