@@ -392,7 +392,8 @@ def tried(parts, where, shell, release, folder, package):
     for (command, wanted), found in zip(steps, answers):
         parts.judge(f"{where}, {package}: {command}", "\n".join(wanted), "\n".join(wanted) if texts.is_shown(wanted, found) else found)
     if package == "whl":
-        parts.judge(f"{where}, {package}: the lines in Python", ["128", "True"], answers[len(steps)].split())
+        wanted = ["128", "True", "Block ['PRODUCT_DEFINITION']"]
+        parts.judge(f"{where}, {package}: the lines in Python", wanted, answers[len(steps)].strip().splitlines())
 
 
 def removed(parts, shell, root):
