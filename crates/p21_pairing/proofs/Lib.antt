@@ -1,0 +1,6 @@
+pub mod MorePairs
+pub mod Holding
+pub mod Leaving
+pub mod KindRows
+pub mod JointNodes
+pub mod Matched

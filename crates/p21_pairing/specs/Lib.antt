@@ -1,0 +1,7 @@
+pub mod Population
+pub mod Kinds
+pub mod Pairs
+pub mod Holders
+pub mod Left
+pub mod Partners
+pub mod Clauses

@@ -1,0 +1,68 @@
+//! The partners of instances.
+ghost use Rattle.std.specs.List.{AllByRecursion as Each};
+ghost use Rattle.std.specs.Prelude.{◌≡◌, ◌<◌, ◌+◌, ℕ, Some, length, IfOk};
+ghost use Rattle.p21_numbering.specs.Instances.{Instance as InstanceOf, file_instances};
+ghost use Rattle.p21_numbering.specs.NodesOf.{HasKnownParts};
+ghost use Rattle.p21_pairing.specs.Clauses.{AreWithin, Matched};
+ghost use Rattle.p21_pairing.specs.Pairs.{partner_at};
+ghost use Rattle.p21_pairing.specs.Partners.{ArePartners};
+
+use crate::alone::pair_alone;
+use crate::around::pair_around;
+use crate::kinds::kinds;
+use crate::left::pair_left;
+use crate::pairs::{Pairs, no_pairs};
+use crate::population::joint_nodes;
+use p21_express_tables::Schema;
+use p21_numbering::{Instance, Node, ranks};
+use p21_values::NoMemory;
+use std::alloc::{AllocError, Global};
+
+/// For each instance of the first file the position of its partner in the second one, if it has one: what is alone in its rank among
+/// both, then what is alone in what it says and what is around it, and at last what is left of each set of entities, in order.
+///
+/// # Errors
+///
+/// `NoMemory`.
+pub fn partners(
+    alloc: Global,
+    schema: &Schema,
+    first: &[Instance<'_>],
+    second: &[Instance<'_>],
+) -> Result<Vec<Option<usize>>, NoMemory>
+    requires first { Each (λ (i : InstanceOf). HasKnownParts schema.now i.typed) (file_instances first.now) }
+    requires second { Each (λ (i : InstanceOf). HasKnownParts schema.now i.typed) (file_instances second.now) }
+    ensures size { IfOk result (λ found. length found.items ≡ length first.now) }
+    ensures within { IfOk result (λ found. (i j : ℕ) → partner_at found.items i ≡ Some j → j < length second.now) }
+    ensures pairing { IfOk result (λ found. ArePartners schema.now (file_instances first.now) (file_instances second.now) found.items) }
+{
+    schema.well_formed();
+    let nodes = joint_nodes(alloc, schema, first, second)?;
+    let ranks = ranks(alloc, &nodes)?;
+    let kinds = kinds(alloc, first, second)?;
+    let found = matched(alloc, &nodes, &ranks, &kinds, first.len(), second.len())?;
+    Ok(found.partners)
+}
+
+/// The pairs of so many instances in each file, by their nodes, their ranks and their kinds.
+fn matched(
+    alloc: Global,
+    nodes: &[Node],
+    ranks: &[usize],
+    kinds: &[usize],
+    first: usize,
+    second: usize,
+) -> Result<Pairs, AllocError>
+    requires nodes { length nodes.now ≡ first + second }
+    requires ranks { length ranks.now ≡ first + second }
+    requires kinds { length kinds.now ≡ first + second }
+    requires ranks_within { AreWithin ranks.now }
+    requires kinds_within { AreWithin kinds.now }
+    ensures { IfOk result (λ found. Matched ranks.now kinds.now first second found) }
+{
+    let none = no_pairs(alloc, first, second)?;
+    let alone = pair_alone(alloc, ranks, kinds, none)?;
+    let near = pair_around(alloc, nodes, kinds, alone)?;
+    let left = pair_left(alloc, kinds, kinds, near)?;
+    Ok(left)
+}
