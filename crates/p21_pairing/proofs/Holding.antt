@@ -1,15 +1,15 @@
 -- What holds a key among some instances and one more, and pairs of those that hold keys alone.
-use Rattle.std.specs.Prelude.{◌≡◌, ◌≢◌, ◌⊎◌, ◌<◌, ◌≤◌, ◌+◌, ℕ, List, Option, Some, None, length, slice_set, refl}
-use Rattle.std.proofs.Common.{arith, ap, sym, subst, ◌∙◌, inl, inr, length-set}
+use Rattle.std.specs.Prelude.{◌≡◌, ◌⊎◌, ◌<◌, ◌+◌, ℕ, List, Option, Some, None, length, slice_set, refl}
+use Rattle.std.proofs.Common.{arith, ap, sym, subst, ◌∙◌, inl, inr}
 use Rattle.std.proofs.lemmas.Bool.{cases_eq}
 use Rattle.std.proofs.lemmas.List.{get_or-set_same, get_or-set_other}
-use Rattle.std.proofs.lemmas.Option.{none-some, same_Some}
+use Rattle.std.proofs.lemmas.Option.{none-some}
 use Rattle.p21_numbering.specs.Arrays.{rank_at}
 use Rattle.p21_pairing.specs.declared.alone.Holder.{Holder}
 use Rattle.p21_pairing.specs.declared.alone.Holder.TheVariants.{Nobody, One, Several}
 use Rattle.p21_pairing.specs.Holders.{AreHolders, HasKey, Hold, Holds, holder_at, more_held}
 use Rattle.p21_pairing.specs.Pairs.{AreMore, ArePairs, IsAloneIn, IsFree, partner_at}
-use Rattle.p21_pairing.proofs.MorePairs.{free_owner-before, has-or_free, kept-owners, more-more}
+use Rattle.p21_pairing.proofs.MorePairs.{has-or_free, more-more}
 
 split_last : (m n : ℕ) → m < n + 1 → (m < n) ⊎ (m ≡ n)
 split_last m n low = grind arith
@@ -30,18 +30,24 @@ module _ (keys : List ℕ) (start : ℕ) (partners : List (Option ℕ)) where
     | inl before ↦ holds n before
     | inr same ↦ lacks (let P : ℕ → Type 0 = λ k. HasKey keys start partners (count + 1) key k in subst P same has)
   ]
-  other-holds count key (One n) lacks (own, alone) = (has-more count key n own, λ k has. elim (has-cases count key k has) [
-    | inl before ↦ alone k before
-    | inr same ↦ absurd (lacks (let P : ℕ → Type 0 = λ i. HasKey keys start partners (count + 1) key i in subst P same has))
-  ])
+  other-holds count key (One n) lacks (own, alone) = (
+    has-more count key n own,
+    λ k has. elim (has-cases count key k has) [
+      | inl before ↦ alone k before
+      | inr same ↦ absurd (lacks (let P : ℕ → Type 0 = λ i. HasKey keys start partners (count + 1) key i in subst P same has))
+    ],
+  )
   other-holds count key Several lacks (m, n, differ, own, own_) = (m, n, differ, has-more count key m own, has-more count key n own_)
 
   -- and one that does is counted
   own-holds : (count key : ℕ) (h : Holder) → HasKey keys start partners (count + 1) key count → Holds keys start partners count key h → Holds keys start partners (count + 1) key (more_held h count)
-  own-holds count key Nobody has holds = (has, λ k own. elim (has-cases count key k own) [
-    | inl before ↦ absurd (holds k before)
-    | inr same ↦ same
-  ])
+  own-holds count key Nobody has holds = (
+    has,
+    λ k own. elim (has-cases count key k own) [
+      | inl before ↦ absurd (holds k before)
+      | inr same ↦ same
+    ],
+  )
   own-holds count key (One n) has (own, alone) = (n, count, (λ same. (let below = own.below in omega (arith, below, same))), has-more count key n own, has)
   own-holds count key Several has (m, n, differ, own, own_) = (m, n, differ, has-more count key m own, has-more count key n own_)
 

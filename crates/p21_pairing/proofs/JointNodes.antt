@@ -26,7 +26,6 @@ use Rattle.p21_spec_pairing.proofs.Parity.{at-even, at-odd, by_parity}
 use Rattle.p21_spec_pairing.proofs.Together.{names-joined, proper-joined, proper-renamed}
 use Rattle.p21_spec_pairing.specs.Joined.{joined, of_first, of_second}
 use Rattle.p21_spec_schema.specs.Schema.{Schema}
-use Rattle.p21_numbering.specs.Arrays.{rank_at}
 use Rattle.p21_numbering.specs.Instances.{AreInstancesOf, Instance, IsInstanceOf, instance_at, names_of, no_instance}
 use Rattle.p21_numbering.specs.Nodes.{HaveRanks, Node, name_at, names as node_names, no_node, node_at}
 use Rattle.p21_numbering.specs.NodesOf.{AreNodesOf, IsNodeOf, row_of_texts}

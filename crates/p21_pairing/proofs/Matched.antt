@@ -1,7 +1,6 @@
 -- Partners are a pairing of the files.
-use Rattle.std.specs.Prelude.{◌≡◌, ◌≢◌, ◌⊎◌, ◌<◌, ◌+◌, ℕ, List, Option, Some, None, map, length, Contains}
+use Rattle.std.specs.Prelude.{◌≡◌, ◌⊎◌, ◌<◌, ◌+◌, ℕ, List, Option, Some, None, length, Contains}
 use Rattle.std.proofs.Common.{arith, ap, sym, subst, ◌∙◌, inl, inr}
-use Rattle.std.proofs.lemmas.List.{length-map}
 use Rattle.std.proofs.lemmas.Option.{none-some, same_Some}
 use Rattle.p21_spec_basics.proofs.Members.{Contains-at, Contains-unmapped}
 use Rattle.p21_spec_file.specs.File.{FileMeaning}
@@ -20,7 +19,7 @@ use Rattle.p21_pairing.specs.Left.{AreMatched}
 use Rattle.p21_pairing.specs.Pairs.{ArePairs, HasOwnRank, IsAloneIn, partner_at}
 use Rattle.p21_pairing.specs.Partners.{AreNamesBy}
 use Rattle.p21_pairing.specs.Population.{AreJointRanks}
-use Rattle.p21_pairing.proofs.JointNodes.{among-own, member-at, own-among, own-once}
+use Rattle.p21_pairing.proofs.JointNodes.{member-at, own-among, own-once}
 use Rattle.p21_pairing.proofs.MorePairs.{below-some, has-or_free}
 
 -- where a name stands
@@ -66,6 +65,7 @@ module _ (ranking : Ranking) (a b : FileMeaning) (proper : IsProper a) (proper_ 
     where
       one : Stands first m
       one = stands a proper first are m among
+
       other : Stands first n
       other = stands a proper first are n among_
 
@@ -116,6 +116,7 @@ module _ (ranking : Ranking) (a b : FileMeaning) (proper : IsProper a) (proper_ 
     where
       one : Stands first n
       one = stands a proper first are n among
+
       other : Stands second m
       other = stands b proper_ second are_ m among_
 
@@ -142,6 +143,7 @@ module _ (ranking : Ranking) (a b : FileMeaning) (proper : IsProper a) (proper_ 
     where
       one : Stands first n
       one = stands a proper first are n h.first
+
       other : Stands second m
       other = stands b proper_ second are_ m h.second
 

@@ -1,6 +1,6 @@
 -- Pairs, and those with one more.
 use Rattle.std.specs.Prelude.{◌≡◌, ◌≢◌, ◌⊎◌, ◌<◌, ◌≤◌, ◌+◌, ◌-◌, ℕ, zero, suc, List, [], ◌∷◌, ◌++◌, Option, Some, None, length, slice_set, refl}
-use Rattle.std.proofs.Common.{arith, ap, sym, subst, ◌∙◌, get_or, inl, inr, length-set}
+use Rattle.std.proofs.Common.{arith, ap, sym, ◌∙◌, get_or, inl, inr, length-set}
 use Rattle.std.proofs.lemmas.Bool.{cases_eq}
 use Rattle.std.proofs.lemmas.List.{get_or-append_right, get_or-set_same, get_or-set_other, get_or_append_left, get_or_past}
 use Rattle.std.proofs.lemmas.Option.{none-some, same_Some}
@@ -36,19 +36,25 @@ module _ (kinds : List ℕ) where
 
   -- who is free now was free before
   pub free-before : (ps os qs rs : List (Option ℕ)) → AreMore kinds ps os qs rs → (i : ℕ) → IsFree qs i → IsFree ps i
-  free-before ps os qs rs more i (low, none) = (omega (arith, low, more.as_many), elim (has-or_free (partner_at ps i)) [
-    | inl free ↦ free
-    | inr (j, at) ↦ absurd (none-some j (sym none ∙ more.kept i j at))
-  ])
+  free-before ps os qs rs more i (low, none) = (
+    omega (arith, low, more.as_many),
+    elim (has-or_free (partner_at ps i)) [
+      | inl free ↦ free
+      | inr (j, at) ↦ absurd (none-some j (sym none ∙ more.kept i j at))
+    ],
+  )
 
   pub kept-owners : (ps os qs rs : List (Option ℕ)) → ArePairs kinds ps os → AreMore kinds ps os qs rs → (j i : ℕ) → partner_at os j ≡ Some i → partner_at rs j ≡ Some i
   kept-owners ps os qs rs pairs more j i at = more.pairs.there i j (more.kept i j (pairs.back j i at))
 
   pub free_owner-before : (ps os qs rs : List (Option ℕ)) → ArePairs kinds ps os → AreMore kinds ps os qs rs → (j : ℕ) → IsFree rs j → IsFree os j
-  free_owner-before ps os qs rs pairs more j (low, none) = (omega (arith, low, more.as_many_owners), elim (has-or_free (partner_at os j)) [
-    | inl free ↦ free
-    | inr (i, at) ↦ absurd (none-some i (sym none ∙ kept-owners ps os qs rs pairs more j i at))
-  ])
+  free_owner-before ps os qs rs pairs more j (low, none) = (
+    omega (arith, low, more.as_many_owners),
+    elim (has-or_free (partner_at os j)) [
+      | inl free ↦ free
+      | inr (i, at) ↦ absurd (none-some i (sym none ∙ kept-owners ps os qs rs pairs more j i at))
+    ],
+  )
 
   module _ (one other : ℕ) (ps os : List (Option ℕ)) (pairs : ArePairs kinds ps os) where
     -- nothing is joined, where one isn't free or they are of two kinds

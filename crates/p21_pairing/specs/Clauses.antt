@@ -1,5 +1,5 @@
 -- What calls say of pairs.
-use Rattle.std.specs.Prelude.{◌≡◌, ◌⊎◌, ◌<◌, ◌+◌, ℕ, List, [], ◌++◌, map, Option, Some, None, length, Contains}
+use Rattle.std.specs.Prelude.{◌≡◌, ◌⊎◌, ◌<◌, ◌+◌, ℕ, List, ◌++◌, map, Some, None, length, Contains}
 use Rattle.p21_numbering.specs.Arrays.{rank_at}
 use Rattle.p21_numbering.specs.Instances.{Instance}
 use Rattle.p21_pairing.specs.declared.alone.Holder.{Holder}

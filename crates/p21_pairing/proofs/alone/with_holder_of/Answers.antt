@@ -1,6 +1,5 @@
-use Rattle.std.specs.Prelude.{◌≡◌, ◌⊎◌, ◌+◌, ℕ, List, Option, Some, None, length}
-use Rattle.std.proofs.Common.{ap, sym, subst, ◌∙◌, inl, inr}
-use Rattle.p21_pairing.specs.declared.alone.Holder.{Holder}
+use Rattle.std.specs.Prelude.{◌≡◌, ◌+◌, ℕ, List, Option, Some, length}
+use Rattle.std.proofs.Common.{ap, sym, ◌∙◌, inl, inr}
 use Rattle.p21_pairing.specs.declared.alone.Holder.TheVariants.{One}
 use Rattle.p21_numbering.specs.Arrays.{rank_at}
 use Rattle.p21_pairing.specs.Pairs.{partner_at}

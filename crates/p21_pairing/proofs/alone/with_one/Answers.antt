@@ -1,5 +1,5 @@
 use Rattle.std.specs.Prelude.{◌≡◌, ◌<◌, ◌+◌, ℕ, List, length, slice_set}
-use Rattle.std.proofs.Common.{arith, rules, ap, sym, subst, ◌∙◌, length-set}
+use Rattle.std.proofs.Common.{arith, ap, sym, subst, ◌∙◌}
 use Rattle.std.proofs.lemmas.List.{get_or_read_under}
 use Rattle.p21_numbering.specs.Arrays.{rank_at}
 use Rattle.p21_pairing.specs.declared.alone.Holder.{Holder}

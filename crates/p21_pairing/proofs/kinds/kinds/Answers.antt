@@ -1,6 +1,6 @@
 use Rattle.std.specs.Global.{Vec}
 use Rattle.std.specs.Prelude.{◌≡◌, ◌++◌, ℕ, List, map}
-use Rattle.std.proofs.Common.{ap, sym, ◌∙◌}
+use Rattle.std.proofs.Common.{ap, ◌∙◌}
 use Rattle.p21_numbering.specs.Instances.{Instance, file_instances}
 use Rattle.p21_numbering.specs.Rows.{held_rows, rank_among}
 use Rattle.p21_pairing.proofs.KindRows.{kinds-are, rows}

@@ -3,7 +3,7 @@ use Rattle.std.proofs.Common.{arith}
 use Rattle.std.proofs.lemmas.List.{length-map}
 use Rattle.std.proofs.lemmas.Result.{IfOk-weaker}
 use Rattle.p21_numbering.specs.Rows.{lent_rows}
-use Rattle.p21_numbering.proofs.Telling.{ranks-long, ranks-within}
+use Rattle.p21_numbering.proofs.Telling.{ranks-within}
 use Rattle.p21_pairing.proofs.kinds.ranks_of_lent.Goals as goal
 use denote.Ref.{Bor}
 

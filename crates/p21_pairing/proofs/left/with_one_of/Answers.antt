@@ -1,9 +1,9 @@
-use Rattle.std.specs.Prelude.{◌≡◌, ◌++◌, ◌∷◌, [], ℕ, List, Option, None, Contains}
+use Rattle.std.specs.Prelude.{◌∷◌, [], ℕ, List, Option, Contains}
 use Rattle.std.proofs.Common.{arith, ap, sym, subst, ◌∙◌}
 use Rattle.std.proofs.lemmas.List.Elements.{Contains-append_right}
 use Rattle.p21_spec_basics.proofs.Members.{Contains-first}
 use Rattle.p21_pairing.specs.Pairs.{partner_at}
-use Rattle.p21_pairing.proofs.Leaving.{IsTried, one-tried}
+use Rattle.p21_pairing.proofs.Leaving.{one-tried}
 use Rattle.p21_pairing.proofs.left.with_one_of.Goals as goal
 
 pub with_pair-more-requires-clause-other : goal.with_pair-more-requires-clause-other

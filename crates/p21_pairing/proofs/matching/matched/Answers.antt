@@ -1,5 +1,5 @@
 use Rattle.std.specs.Prelude.{◌≡◌, ◌+◌, ℕ, List, Option, length}
-use Rattle.std.proofs.Common.{arith, ap, sym, subst, ◌∙◌}
+use Rattle.std.proofs.Common.{ap, sym, subst, ◌∙◌}
 use Rattle.p21_numbering.specs.Arrays.{rank_at}
 use Rattle.p21_pairing.specs.Left.{NoneLeft}
 use Rattle.p21_pairing.specs.Pairs.{HasOwnRank}

@@ -1,5 +1,5 @@
-use Rattle.std.specs.Prelude.{◌≡◌, ◌+◌, ℕ, List, Option, Some, None, length}
-use Rattle.std.proofs.Common.{arith, ap, sym, subst, ◌∙◌}
+use Rattle.std.specs.Prelude.{◌≡◌, ◌+◌, ℕ, List, Option, length}
+use Rattle.std.proofs.Common.{arith, ap, sym, ◌∙◌}
 use Rattle.p21_numbering.specs.Arrays.{rank_at}
 use Rattle.p21_pairing.specs.Pairs.{partner_at}
 use Rattle.p21_pairing.proofs.MorePairs.{joined-is, refused}

@@ -1,9 +1,9 @@
-use Rattle.std.specs.Prelude.{◌≡◌, ◌<◌, ◌+◌, ℕ, List, length}
-use Rattle.std.proofs.Common.{arith, ap, sym, subst, ◌∙◌}
+use Rattle.std.specs.Prelude.{◌≡◌, ◌+◌, ℕ, List, length}
+use Rattle.std.proofs.Common.{arith, ap, sym, subst}
 use Rattle.std.proofs.lemmas.List.{length-map}
 use Rattle.p21_numbering.specs.declared.graph.Node.{Node as Made}
 use Rattle.p21_numbering.specs.Instances.{Instance, file_instance, file_instances, instance_at}
-use Rattle.p21_numbering.specs.Nodes.{Node, held_nodes, node_at}
+use Rattle.p21_numbering.specs.Nodes.{Node, held_nodes}
 use Rattle.p21_pairing.specs.Population.{AreMovedNodes, IsMovedNode}
 use Rattle.p21_pairing.proofs.population.joint_nodes.Goals as goal
 

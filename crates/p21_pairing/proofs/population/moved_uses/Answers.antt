@@ -1,12 +1,10 @@
-use Rattle.std.specs.Prelude.{◌≡◌, ◌++◌, [], ℕ, List}
+use Rattle.std.specs.Prelude.{◌≡◌, [], ℕ, List}
 use Rattle.std.proofs.Common.{arith, ap, ◌∙◌, sym}
-use Rattle.p21_numbering.specs.declared.uses.PlacedUse.{PlacedUse}
 use Rattle.p21_numbering.specs.NewNames.{new_name}
 use Rattle.p21_numbering.proofs.Renamings.{all-taken, none-taken, one-taken}
 use Rattle.p21_numbering.proofs.LabelRows.{nothing-left}
 use Rattle.p21_spec_numbering.proofs.Lists.{map-mapped}
 use Rattle.p21_spec_numbering.proofs.Uses.{moved_use}
-use Rattle.p21_spec_numbering.specs.Uses.{Use}
 use Rattle.p21_pairing.proofs.JointNodes.{held_use, moved_held}
 use Rattle.p21_pairing.proofs.population.moved_uses.Goals as goal
 

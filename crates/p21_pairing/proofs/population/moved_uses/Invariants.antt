@@ -1,5 +1,4 @@
 use Rattle.std.proofs.Common.{length}
-use Rattle.p21_numbering.specs.declared.uses.PlacedUse.{PlacedUse}
 use Rattle.p21_numbering.specs.NewNames.{new_name}
 use Rattle.p21_numbering.proofs.Renamings.{Halfway}
 use Rattle.p21_pairing.proofs.JointNodes.{held_use, moved_held}

@@ -1,6 +1,6 @@
 use Rattle.std.specs.BTreeMap.{Updates}
 use Rattle.std.specs.Ordering.{nat_cmp}
-use Rattle.std.specs.Prelude.{◌≡◌, ◌<◌, ◌+◌, ℕ, List, Some, length}
+use Rattle.std.specs.Prelude.{◌≡◌, ◌+◌, ℕ, List, Some, length}
 use Rattle.std.proofs.Common.{arith, ap, sym, subst, ◌∙◌, get_or}
 use Rattle.std.proofs.lemmas.List.{get_or-map, length-map}
 use Rattle.p21_numbering.specs.declared.instances.Instance.{Instance as Code}

@@ -1,5 +1,5 @@
 use Rattle.std.specs.Prelude.{◌≡◌, ◌<◌, ◌+◌, ◌∷◌, ◌++◌, [], ℕ, List, length}
-use Rattle.std.proofs.Common.{arith, rules, ap, sym, subst, ◌∙◌, get_or}
+use Rattle.std.proofs.Common.{arith, rules, ap, sym, subst, ◌∙◌}
 use Rattle.std.proofs.lemmas.List.{get_or-map, get_or_append_left, length-map, map-append}
 use Rattle.p21_spec_numbering.specs.Ordered.{position}
 use Rattle.p21_numbering.specs.declared.graph.Node.{Node as Made}
