@@ -780,7 +780,8 @@ def on_paper(page):
     seen = "(selector) => [...document.querySelectorAll(selector)].filter((found) => found.checkVisibility()).length"
     for selector, count in (("#choose", 0), ("button:not(.more)", 0), (".search", 0), ("#verdict", 1), (".refusals > li summary", 21), ("#checksum", 1)):
         page.tests.judge(f"on paper: {selector}", count, page.browser.ask(f"({seen})({json.dumps(selector)})"))
-    page.browser.ask("(document.querySelectorAll('.kind').forEach((found) => { found.open = false; }), dispatchEvent(new Event('beforeprint')))")
+    page.browser.ask("document.querySelectorAll('.kind').forEach((found) => { found.open = false; })")
+    page.browser.ask("dispatchEvent(new Event('beforeprint'))")
     rows = page.browser.ask(f"({seen})('.refusals > li summary')")
     page.tests.judge("all refusals are printed", (401, 0), (rows, page.browser.ask(f"({seen})('.more')")))
     page.tests.judge("what is hard to read on paper", [], page.browser.ask(FAINT))

@@ -380,7 +380,8 @@ def undecided(tests):
         tests.judge(f"undecided: {name}, an object", ("undecided", 1), (last["verdict"], last.get("alike")))
         page, _, status = tests.run(["--names", "--format", "html", SCHEMA, *paths])
         tests.judge(f"undecided: {name}, a page", (True, 3), ("<h1>Not decided</h1>" in page, status))
-    tests.expect("undecided, but the same name by name", ["--names", SCHEMA, first, first], 0, ["same up to names: 4 pairs; 1 pair chosen where others could be"])
+    lines = ["same up to names: 4 pairs; 1 pair chosen where others could be"]
+    tests.expect("undecided, but the same name by name", ["--names", SCHEMA, first, first], 0, lines)
     paths = [first, tests.make("b.step", shuffled(file_of(LEAVES), 1)[0])]
     output, _, status = tests.run(["--names", SCHEMA, *paths])
     tests.judge("told apart in one file alone", ("different", 1), (output.splitlines()[-1].partition(":")[0], status))

@@ -831,7 +831,8 @@ function withCopy(text, what, kind = null) {
 function ofNumbered({ name, numbered, ...answer }) {
   const line = commandLine(answer, " --names");
   const again = line ? [withCopy(line, "its command line", "numbered-again")] : [];
-  if (!numbered && answer.canonical.size > MOST_NUMBERED) return [hint("A file of this size is numbered on a command line alone."), ...again];
+  const isTooLarge = answer.canonical.size > MOST_NUMBERED;
+  if (!numbered && isTooLarge) return [hint("A file of this size is numbered on a command line alone."), ...again];
   if (!numbered) {
     const ask = () => begin("", { ...(shownLists?.asked ?? USUALLY_ASKED), numbered: true, focus: ".numbered" });
     return [button("Number it", ask), hint("With a file of this size that may take a minute and some gigabytes of memory.")];
