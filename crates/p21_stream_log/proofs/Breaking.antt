@@ -79,7 +79,7 @@ module _ (alike : BeginsNoneAlike) (s : Schema) (limits : Limits) (known : Known
       (Each-back IsByte held.buffer (piece ++ (more ++ rest)) (Each-back IsByte point.read.bytes (held.buffer ++ (piece ++ (more ++ rest))) (subst (λ (l : List ℕ). Each IsByte l) is of.0)))
 
   -- no file begins with the kept bytes, the buffer and the piece
-  none-begins : IsGoneOnBehind (fault_number fault) → (file : List ℕ) → IsFileOf known file → BeginsNone (point.read.kept ++ (held.buffer ++ piece))
+  pub none-begins : IsGoneOnBehind (fault_number fault) → (file : List ℕ) → IsFileOf known file → BeginsNone (point.read.kept ++ (held.buffer ++ piece))
   none-begins gone file of =
       let count = refused.refuses.count in
       let logs = refused.logs in

@@ -3,6 +3,8 @@ use Rattle.std.proofs.Common.{◌≡◌, ◌+◌, ◌<◌, ◌≤◌, inl, inr, 
 use Rattle.p21_grammar.specs.Held as grammar_held
 use Rattle.p21_grammar.specs.Histories as grammar
 use Rattle.p21_grammar.specs.Histories.{GrammarHistory}
+use Rattle.std.specs.List.{AllByRecursion as Each}
+use Rattle.p21_grammar.specs.Sound.{IsSound}
 use Rattle.p21_grammar.specs.Stage.{after, then_walk, walk}
 use Rattle.p21_grammar.specs.declared.fault.GrammarFault.{GrammarFault}
 use Rattle.p21_grammar.specs.declared.stage.Stage.{Stage}
@@ -33,6 +35,13 @@ leads held parsing stands alive = (stands.2 alive).leads
 
 pub reader-leads : (held : statements.Held) (reading : StatementHistory) → statements.IsLive held reading → walk reading.given stage.Start ≡ Ok held.parser.stage
 reader-leads held reading live = subst (λ (sts : List Statement). walk sts stage.Start ≡ Ok held.parser.stage) live.given_are (leads held.parser live.parsing live.parser live.parser_open)
+
+sound : (held : grammar_held.Held) (parsing : GrammarHistory) → grammar.Stands held parsing → parsing.refusal ≡ None → Each IsSound parsing.given
+unfolding grammar.Stands
+sound held parsing stands alive = (stands.2 alive).sound
+
+pub reader-sound : (held : statements.Held) (reading : StatementHistory) → statements.IsLive held reading → Each IsSound reading.given
+reader-sound held reading live = subst (λ (sts : List Statement). Each IsSound sts) live.given_are (sound held.parser live.parsing live.parser live.parser_open)
 
 pub same-stage : (p q : Stage) → (let found : Result Stage GrammarFault = Ok p in found) ≡ Ok q → p ≡ q
 same-stage p q same = cc

@@ -11,3 +11,4 @@ pub mod GoingOn
 pub mod Passages
 pub mod BrokenBy
 pub mod InSection
+pub mod Told

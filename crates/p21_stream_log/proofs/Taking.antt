@@ -22,7 +22,7 @@ use Rattle.p21_stream_log.specs.Log.{BeganBehind, Closes, EndsWith, Held, IsFile
 use Rattle.p21_stream_statements.specs.StatementReader as statements
 use Rattle.p21_stream_statements.specs.StatementReader.{limits_of}
 
-tokens-append : (ls ms : List Lexeme) → tokens_in (ls ++ ms) ≡ tokens_in ls ++ tokens_in ms
+pub tokens-append : (ls ms : List Lexeme) → tokens_in (ls ++ ms) ≡ tokens_in ls ++ tokens_in ms
 tokens-append [] ms = refl
 tokens-append (l ∷ ls) ms = ap (λ (ts : List Token). l.token ∷ ts) (tokens-append ls ms)
 

@@ -10,7 +10,7 @@ use Rattle.p21_stream_log.specs.Broken.{IsFrontOf}
 use Rattle.p21_stream_log.specs.Log.{EndsWith, Held, IsFileOf, IsRefused, Known, Logs, Point}
 use Rattle.p21_stream_log.specs.Opening.{OpensAs}
 use Rattle.p21_stream_log.specs.Passage.{IsBrokenBy, IsSoughtBy}
-use Rattle.p21_stream_log.specs.declared.opening.Opening.TheVariants.{Statement}
+use Rattle.p21_stream_log.specs.declared.opening.Opening.TheVariants.{Statement, Untold}
 use Rattle.p21_stream_resume.specs.Seeking as seeking
 use Rattle.p21_stream_statements.specs.Fault.{fault_number}
 use Rattle.p21_stream_statements.specs.declared.fault.Fault.{Fault}
@@ -38,3 +38,9 @@ abbrev pub SoughtEnds : Type 0
 SoughtEnds = (s : Schema) (limits : Limits) (known : Known) (point : Point) (held : Held) (statement behind : List ℕ) (number : ℕ) (subject : Subject) (begins : ℕ) (seeker : seeking.Held)
     → IsBrokenBy s limits known point held statement behind [] number subject begins → IsSoughtBy point statement behind seeker
     → (file : List ℕ) → IsFileOf known file → file ≡ point.read.bytes ++ (statement ++ behind) → EndsReading s limits file point.read number subject
+
+-- in a data section no step refuses bytes of which it isn't told how they begin, with a refusal that a survey goes on behind: some file
+-- begins with the kept bytes and these
+abbrev pub RefusedIsTold : Type 0
+RefusedIsTold = (s : Schema) (limits : Limits) (known : Known) (point : Point) (held : Held) (piece more : List ℕ) (fault : Fault) (file : List ℕ) → IsRefused s limits known point piece fault held → point.ended ≡ [] → point.ahead ≡ piece ++ more
+    → IsGoneOnBehind (fault_number fault) → IsInData point.read.given → IsFileOf known file → ¬ OpensAs (held.buffer ++ piece) Untold
