@@ -7,12 +7,13 @@ use Rattle.p21_spec_exchange.specs.Statement.{instance}
 use Rattle.p21_spec_survey.specs.Landmark as landmarks
 use Rattle.p21_spec_survey.specs.Landmark.{BeginsNoSignpost, Signpost, StandsAt, file_begin, file_end, landmark, signpost_bytes}
 use Rattle.p21_spec_survey.specs.Resuming.{EndsInRemark, GoesBy, HasNoneInside, further_on, within_text}
-use Rattle.p21_spec_survey.specs.Survey.{IsToBePassed, at_statement, no_landmark, wrong_record}
+use Rattle.p21_spec_survey.specs.Survey.{IsToBePassed, at_statement, no_landmark, too_long, wrong_record}
 use Rattle.p21_spec_survey.specs.Whole.{BeginsNoneAlike}
 use Rattle.p21_stream_log.proofs.Breaking.{is-broken}
+use Rattle.p21_stream_log.proofs.GoingOn.{passed-front}
 use Rattle.p21_stream_log.proofs.Taking as taking
 use Rattle.p21_stream_log.proofs.Taking.{has-ended}
-use Rattle.p21_stream_log.specs.Laws.{RefusedIsBroken, SoughtEnds, WrongIsBroken}
+use Rattle.p21_stream_log.specs.Laws.{RefusedIsBroken, SoughtEnds, TooFarEnds, WrongIsBroken}
 use Rattle.p21_stream_log.specs.Log.{IsFileOf}
 use Rattle.p21_stream_log.specs.Passage.{IsNextIn}
 use Rattle.p21_stream_resume.proofs.Finding.{none-whole}
@@ -121,3 +122,12 @@ sought-ends s limits known point held statement behind number subject begins see
     (none-by point.read.bytes statement behind passed rest signpost (subst (λ (l : List ℕ). HasNoneInside statement l) (append-nil behind) (sought.1 [])) (none-whole (point.read.bytes ++ statement) behind seeker sought.0)
     (subst (λ (l : List ℕ). GoesBy point.read.bytes statement l passed signpost rest) behind_is
     (subst (λ (l : List ℕ). GoesBy point.read.bytes l passes.behind passed signpost rest) next.statement_is goes))))
+
+-- ---- a file that is too long
+
+pub too-far_ends : TooFarEnds
+too-far_ends s limits file read number subject within far =
+    let over = far.over in
+    let rest : List ℕ = signpost_bytes (landmark far.found) ++ far.rest in
+    let front = passed-front read.bytes over.passes.statement over.passes.behind far.passed far.rest (landmark far.found) over.goes_by in
+    too_long far.passed rest (over.passes.next_are ∙ ap (λ (l : List ℕ). read.bytes ++ l) front) (elim far.too_many [ inl low ↦ low | inr many ↦ omega (arith, within, many) ])

@@ -1,15 +1,15 @@
 -- What a caller of a log goes by.
-use Rattle.std.specs.Prelude.{◌≡◌, ℕ, suc, List, [], ◌∷◌, ◌++◌}
+use Rattle.std.specs.Prelude.{◌≡◌, ◌<◌, ◌^◌, ℕ, suc, List, [], ◌∷◌, ◌++◌}
 use Rattle.p21_spec_basics.specs.Limits.{Limits}
 use Rattle.p21_spec_exchange.specs.Record.{Record}
 use Rattle.p21_spec_exchange.specs.Statement.{instance}
 use Rattle.p21_spec_schema.specs.Schema.{Schema}
 use Rattle.p21_spec_survey.specs.Resuming.{HasNoneInside}
-use Rattle.p21_spec_survey.specs.Survey.{BeginsAt, EndsReading, IsGoneOnBehind, IsInData, IsRefusedInstance, Subject, at_statement, in_instance}
+use Rattle.p21_spec_survey.specs.Survey.{BeginsAt, EndsReading, IsGoneOnBehind, IsInData, IsRefusedInstance, Reading, Subject, at_statement, in_instance}
 use Rattle.p21_stream_log.specs.Broken.{IsFrontOf}
 use Rattle.p21_stream_log.specs.Log.{EndsWith, Held, IsFileOf, IsRefused, Known, Logs, Point}
 use Rattle.p21_stream_log.specs.Opening.{OpensAs}
-use Rattle.p21_stream_log.specs.Passage.{IsBrokenBy, IsSoughtBy}
+use Rattle.p21_stream_log.specs.Passage.{IsBrokenBy, IsPassedTooFar, IsSoughtBy}
 use Rattle.p21_stream_log.specs.declared.opening.Opening.TheVariants.{Statement, Untold}
 use Rattle.p21_stream_resume.specs.Seeking as seeking
 use Rattle.p21_stream_statements.specs.Fault.{fault_number}
@@ -44,3 +44,8 @@ SoughtEnds = (s : Schema) (limits : Limits) (known : Known) (point : Point) (hel
 abbrev pub RefusedIsTold : Type 0
 RefusedIsTold = (s : Schema) (limits : Limits) (known : Known) (point : Point) (held : Held) (piece more : List ℕ) (fault : Fault) (file : List ℕ) → IsRefused s limits known point piece fault held → point.ended ≡ [] → point.ahead ≡ piece ++ more
     → IsGoneOnBehind (fault_number fault) → IsInData point.read.given → IsFileOf known file → ¬ OpensAs (held.buffer ++ piece) Untold
+
+-- where the next statement is passed over up to a landmark that stands too far, the file is too long
+abbrev pub TooFarEnds : Type 0
+TooFarEnds = (s : Schema) (limits : Limits) (file : List ℕ) (read : Reading) (number : ℕ) (subject : Subject) → limits.file_source < 2 ^ 64 → IsPassedTooFar s limits file read number subject
+    → EndsReading s limits file read 23 (at_statement (suc read.count))

@@ -132,8 +132,8 @@ impl Log {
         true
     }
 
-    /// Passes over a statement by its bytes up to what is refused, and by those from there on, up to where the reading goes on: by the first
-    /// signpost in a string of the statement, else by the first one behind it. Where it doesn't go on, nothing has changed.
+    /// Passes over a statement by its bytes up to what is refused, and by those from there on, up to where the reading goes on: at the
+    /// first signpost in a string of the statement, else at the first one behind it. Where it doesn't go on, nothing has changed.
     ///
     /// # Errors
     ///
@@ -162,9 +162,9 @@ impl Log {
         }
     }
 
-    /// Looks for where the reading goes on in the next piece, where a seeker has taken what stands behind a statement, with the statement so
-    /// many bytes. Where it goes on, or ends, so many bytes of the piece end a signpost: the bytes that the seeker holds are to be offered
-    /// next, and then the rest of the piece. Else the seeker has taken the piece.
+    /// Looks for where the reading goes on in the next piece, where a seeker has taken what stands behind a statement, with the statement
+    /// so many bytes. Where it goes on, or ends, a signpost ends behind so many bytes of the piece: the bytes that the seeker holds are to
+    /// be offered next, and then the rest of the piece. Else the seeker has taken the piece.
     ///
     /// # Errors
     ///

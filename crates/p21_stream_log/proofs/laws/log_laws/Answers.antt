@@ -1,6 +1,6 @@
-use Rattle.p21_stream_log.proofs.BrokenBy.{refused-broken, sought-ends, wrong-broken}
+use Rattle.p21_stream_log.proofs.BrokenBy.{refused-broken, sought-ends, too-far_ends, wrong-broken}
 use Rattle.p21_stream_log.proofs.Told.{refused-told}
 use Rattle.p21_stream_log.proofs.laws.log_laws.Goals as goal
 
 pub returns : goal.returns
-returns c = record { refused = refused-broken c.whole_laws.ensures.begins_none; told = refused-told c.whole_laws.ensures.begins_none c.whole_laws.ensures.joined; wrong = wrong-broken; sought = sought-ends }
+returns c = record { refused = refused-broken c.whole_laws.ensures.begins_none; told = refused-told c.whole_laws.ensures.begins_none c.whole_laws.ensures.joined; wrong = wrong-broken; sought = sought-ends; too_far = too-far_ends }
