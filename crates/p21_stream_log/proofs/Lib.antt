@@ -12,3 +12,4 @@ pub mod Passages
 pub mod BrokenBy
 pub mod InSection
 pub mod Told
+pub mod Ending

@@ -5,3 +5,4 @@ pub mod Opening
 pub mod Going
 pub mod Passage
 pub mod Laws
+pub mod Ending

@@ -1,6 +1,7 @@
 ghost use Rattle.std.specs.Prelude.{◌≡◌, ◌≤◌, ◌++◌, IfOk, IfSome, List, OnOk, length, ℕ};
 ghost use Rattle.p21_spec_schema.specs.Schema.{Schema};
 ghost use Rattle.p21_stream_log.specs.Broken.{BeginsIn, BreaksOff, IsFrontOf};
+ghost use Rattle.p21_stream_log.specs.Ending.{EndGives};
 ghost use Rattle.p21_stream_log.specs.Going.{GoOnGives, TellsData};
 ghost use Rattle.p21_stream_log.specs.Log.{BeginSo, BeginsBehind, Closes, Known, LeaveOutGives, Logs, PassGives, StepGives, TakeGives, at_start};
 ghost use Rattle.p21_stream_log.specs.Passage.{FurtherGives, PassToGives, PassageGives};
@@ -210,6 +211,20 @@ impl Log {
                 }
             }
         }
+    }
+
+    /// Whether the kept bytes, with those behind the last statement that ended, are a file. A byte that was looked at has to be offered
+    /// first.
+    ///
+    /// # Errors
+    ///
+    /// The reader's.
+    pub fn finish(self) -> Result<(), Fault>
+        ensures { EndGives self result }
+    {
+        whole_laws();
+        let Log { reader, .. } = self;
+        reader.finish()
     }
 
     /// The bytes behind the last statement that ended, with those of a piece behind them.

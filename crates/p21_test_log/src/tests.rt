@@ -458,3 +458,35 @@ fn first_passed_wrong(alloc: Global, rows: Passed) -> Result<&'static str, NoMem
 fn passes_over_a_statement(rt: HostRuntime) {
     assert_eq!(rt; first_passed_wrong(rt.alloc(), PASSED), Ok("none"));
 }
+
+/// What stands behind the header, and whether the bytes are a file.
+const ENDS: &[(&str, bool)] = &[
+    ("ENDSEC;END-ISO-10303-21;", true),
+    ("#1=A();ENDSEC;END-ISO-10303-21;\n", true),
+    ("#1=A();ENDSEC;", false),
+    ("#1=A();ENDSEC;END-ISO-10303-21;/*", false),
+    ("", false),
+];
+
+fn ends_file(alloc: Global, text: &str) -> bool {
+    let mut log = Log::new(alloc, Limits::usual());
+    let mut answer = None;
+    read(&mut log, HEAD.as_bytes(), Name(0), &mut answer)
+        && read(&mut log, text.as_bytes(), Name(0), &mut answer)
+        && log.finish().is_ok()
+}
+
+/// The first text of which something else is said.
+fn first_other_end(alloc: Global) -> &'static str {
+    for (text, is_so) in ENDS {
+        if ends_file(alloc, text) != *is_so {
+            return text;
+        }
+    }
+    "none"
+}
+
+#[test]
+fn tells_the_end_of_a_file(rt: HostRuntime) {
+    assert_eq!(rt; first_other_end(rt.alloc()), "none");
+}
