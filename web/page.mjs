@@ -60,6 +60,7 @@ const COMPARED_AT_ONCE = 1 << 22;
 // What is said of large files, which are compared up to names where that is asked for.
 const SEEM_RENAMED =
   "Fewer than half of the instances say the same under one name. Told by what they say, less may differ: with files of this size that may take some minutes.";
+const NOT_PAIRABLE = "Told by what they say, instances of files of this size are compared on a command line alone, by p21-diff --names.";
 const MORE_ROWS = 200;
 // So many of a kind are printed.
 const MOST_PRINTED = 1000;
@@ -1144,6 +1145,7 @@ function differences(lists, files) {
   const choices = Object.entries(ways).map(([value, text]) => {
     const input = element("input", { type: "radio", name: "way", value });
     input.checked = value === way;
+    input.disabled = value === "shapes" && !lists.isPairable;
     input.addEventListener("change", () => {
       if (value === "names" || upToNames) {
         showWay(value);
@@ -1155,7 +1157,8 @@ function differences(lists, files) {
   const told = element("fieldset", { class: "ways" }, element("legend", {}, "Instances are told"), ...choices);
   showWay(way);
   const made = element("div", { class: "differences" }, element("h3", {}, "What differs"), told, ofCounting(asked), list);
-  if (lists.seemRenamed && !upToNames) told.after(hint(SEEM_RENAMED));
+  if (!lists.isPairable) told.after(hint(NOT_PAIRABLE));
+  else if (lists.seemRenamed && !upToNames) told.after(hint(SEEM_RENAMED));
   return made;
 }
 

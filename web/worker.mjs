@@ -32,6 +32,8 @@ const FIRST_PLACES = 300;
 const BETWEEN_MESSAGES = 100;
 // Two canonical files of so many bytes together are kept for what else is asked of them.
 const MOST_KEPT = 1 << 27;
+// Two canonical files of so many bytes together are compared up to names at most: with more the page ended without an answer.
+const MOST_PAIRED = 1 << 29;
 // The style and the script of a report.
 const REPORT = __REPORT__;
 const COUNT_LINE = /^refusals \d+(?:, (.*))?$/;
@@ -332,7 +334,7 @@ class Job {
     const seemRenamed = this.seemRenamed(names);
     const isUnasked = size <= SMALL_ENOUGH || (size <= AT_ONCE && seemRenamed);
     const upToNames = isUnasked || asked.upToNames ? this.list(true, asked) : null;
-    return { asked, names, upToNames, seemRenamed, isKept: size <= MOST_KEPT };
+    return { asked, names, upToNames, seemRenamed, isKept: size <= MOST_KEPT, isPairable: size <= MOST_PAIRED };
   }
 
   /** May fewer than half of the instances that belong together have one name in both files? Where as many are the same under their names
