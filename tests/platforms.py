@@ -139,6 +139,7 @@ TOOLS_OTHERWISE = [
     "a run that is ended",
     "no answer",
     "no answers",
+    "the header has no answer",
     "of the schema",
     "/dev/zero*",
 ]
