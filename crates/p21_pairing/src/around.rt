@@ -1,4 +1,8 @@
 //! Pairs by what instances say, and by what is around them.
+//!
+//! First what is alone in what it says; then, round by round, what is alone at the first level of `LEVELS` that has any, where partners
+//! stand for one another. What is then alike at the first level are copies: two are chosen, and what hangs on them follows in rounds, up
+//! to `MOST_CHOICES` times; other copies are paired in the order of the files.
 ghost use Rattle.std.specs.Prelude.{◌≡◌, ◌<◌, ◌+◌, ℕ, length, IfOk};
 ghost use Rattle.p21_numbering.specs.Arrays.{rank_at};
 ghost use Rattle.p21_pairing.specs.Clauses.{AreForBoth, Fit, More};
@@ -12,6 +16,9 @@ use std::alloc::{AllocError, Global};
 
 /// Pairs spread over so many steps from those before.
 const MOST_ROUNDS: usize = 40;
+
+/// So often two copies are chosen.
+const MOST_CHOICES: usize = 100;
 
 /// A reference to another instance (0), or by another one (1), the number of its place, and that instance.
 type Neighbour = (u8, u64, usize);
@@ -94,7 +101,8 @@ pub fn pair_around(
     let around = surroundings(alloc, nodes)?;
     let alone = pair_alone(alloc, &around.labels, kinds, pairs)?;
     let near = pair_rounds(alloc, &around, kinds, alone)?;
-    let alike = pair_alike(alloc, &around, kinds, LEVELS[0], near)?;
+    let chosen = pair_choices(alloc, &around, kinds, near)?;
+    let alike = pair_alike(alloc, &around, kinds, LEVELS[0], chosen)?;
     let left = pair_left(alloc, &around.labels, kinds, alike)?;
     Ok(left)
 }
@@ -146,6 +154,110 @@ fn pair_round(
     Ok(more)
 }
 
+/// The pairs, and those of copies that are chosen, with what spreads from them.
+fn pair_choices(
+    alloc: Global,
+    around: &Around,
+    kinds: &[usize],
+    pairs: Pairs,
+) -> Result<Pairs, AllocError>
+    requires kinds { AreForBoth kinds.now pairs }
+    requires pairs { Fit kinds.now pairs }
+    ensures { IfOk result (λ more. More kinds.now pairs more) }
+{
+    let mut more = pairs;
+    for choice in 0..MOST_CHOICES {
+        let before = paired(&more.partners);
+        more = pair_choice(alloc, around, kinds, more)?;
+        let is_done = paired(&more.partners) == before;
+        if is_done {
+            return Ok(more);
+        }
+    }
+    Ok(more)
+}
+
+/// The pairs, and one of copies that is chosen, with what spreads from it.
+fn pair_choice(
+    alloc: Global,
+    around: &Around,
+    kinds: &[usize],
+    pairs: Pairs,
+) -> Result<Pairs, AllocError>
+    requires kinds { AreForBoth kinds.now pairs }
+    requires pairs { Fit kinds.now pairs }
+    ensures { IfOk result (λ more. More kinds.now pairs more) }
+{
+    let alike = keys(alloc, around, kinds, LEVELS[0], &pairs)?;
+    let chosen = chosen_keys(alloc, &alike, kinds, &pairs)?;
+    let one = pair_alone(alloc, &chosen, kinds, pairs)?;
+    let more = pair_rounds(alloc, around, kinds, one)?;
+    Ok(more)
+}
+
+/// Keys by which the first two that have one key are alone.
+fn chosen_keys(
+    alloc: Global,
+    alike: &[usize],
+    kinds: &[usize],
+    pairs: &Pairs,
+) -> Result<Vec<usize>, AllocError>
+    ensures size { IfOk result (λ keys. length keys.items ≡ length kinds.now) }
+    ensures within { IfOk result (λ keys. (k : ℕ) → k < length kinds.now → rank_at keys.items k < length kinds.now) }
+{
+    let found = first_alike(alloc, alike, pairs)?;
+    let mut rows = Vec::with_capacity(alloc, kinds.len())?;
+    for k in 0..kinds.len() {
+        rows.push(mark(alloc, found, k)?)?;
+    }
+    let keys = ranks_of(alloc, &rows)?;
+    Ok(keys)
+}
+
+/// A row with a number for the two that are found, and an empty one for all others.
+fn mark(alloc: Global, found: Option<(usize, usize)>, one: usize) -> Result<Vec<u64>, AllocError> {
+    let mut row = Vec::new(alloc);
+    if let Some((first, second)) = found {
+        if one == first || one == second {
+            row.push(1)?;
+        }
+    }
+    Ok(row)
+}
+
+/// The first instance of the first file without a partner that has the key of one of the second file without a partner, and the first
+/// such one, by their positions among both.
+fn first_alike(
+    alloc: Global,
+    alike: &[usize],
+    pairs: &Pairs,
+) -> Result<Option<(usize, usize)>, AllocError> {
+    let first = pairs.partners.len();
+    let mut seconds = vec![in alloc; None; alike.len()]?;
+    for k in first..alike.len() {
+        if pair_of(pairs, k).is_none() {
+            note(&mut seconds, alike[k], k);
+        }
+    }
+    for k in 0..alike.len() {
+        if k < first && pair_of(pairs, k).is_none() {
+            if let Some(Some(second)) = seconds.get(alike[k]) {
+                return Ok(Some((k, *second)));
+            }
+        }
+    }
+    Ok(None)
+}
+
+/// Notes the first one of each key.
+fn note(seconds: &mut Vec<Option<usize>>, key: usize, one: usize) {
+    if let Some(cell) = seconds.get_mut(key) {
+        if cell.is_none() {
+            *cell = Some(one);
+        }
+    }
+}
+
 /// The pairs, and those of instances that are alike at a level, in order.
 fn pair_alike(
     alloc: Global,
@@ -193,7 +305,8 @@ fn keys(
     Ok(keys)
 }
 
-/// The key of an instance of this kind, as a row; an empty one, where it has a partner or nothing is around it that counts.
+/// The key of an instance of this kind, as a row; an empty one, where it has a partner, or no partners are around it where these alone
+/// count.
 fn key(
     alloc: Global,
     around: &Around,
@@ -207,7 +320,7 @@ fn key(
         return Ok(row);
     }
     let entries = entries(alloc, around, level, pairs, one)?;
-    if entries.is_empty() {
+    if entries.is_empty() && !level.free {
         return Ok(row);
     }
     row.push(if level.says {
