@@ -237,18 +237,18 @@ def runs_of(launcher, row, a_byte, second):
 
 
 def runs_of_all(launcher, rows, a_byte, second, jobs):
-    """The runs of each input, side by side in so many processes. Other work makes runs longer, so what is over its bounds beside others
-    is measured once more when these have ended."""
-    if jobs == 1:
-        for row in rows:
-            yield runs_of(launcher, row, a_byte, second)
-        return
+    """Each input with its runs, side by side in so many processes. Other work makes runs longer, so what is over its bounds beside others
+    comes last, and is measured once more, alone."""
+    over = []
     with concurrent.futures.ProcessPoolExecutor(jobs) as processes:
         begun = [processes.submit(runs_of, launcher, row, a_byte, second) for row in rows]
-        found = [it.result() for it in begun]
-    for row, runs in zip(rows, found):
-        is_over = judged(row, runs)[1]
-        yield runs_of(launcher, row, a_byte, second) if is_over else runs
+        for row, ended in zip(rows, begun):
+            if jobs > 1 and judged(row, ended.result())[1]:
+                over.append(row)
+            else:
+                yield row, ended.result()
+    for row in over:
+        yield row, runs_of(launcher, row, a_byte, second)
 
 
 def judged(row, runs):
@@ -283,7 +283,7 @@ def main():
         a_byte = seconds_of_sha(launcher)
         print(f"sha256sum: {a_byte * 1e9:.2f} ns a byte, so at most {SHA_TIMES * a_byte * 1e6:.2f} s a megabyte", flush=True)
         rows = [known[name] for name in given.names] or ROWS
-        for row, runs in zip(rows, runs_of_all(launcher, rows, a_byte, given.second, given.jobs)):
+        for row, runs in runs_of_all(launcher, rows, a_byte, given.second, given.jobs):
             said, failed = judged(row, runs)
             fitted = exponent(runs or ())
             grown = f"exponent {fitted:.2f}" if fitted is not None else "too short for an exponent"
