@@ -669,10 +669,8 @@ def tools_tests(tally):
         tally.part(f"{TOOLS_ALONE}, tools_{name}.py", f": {done.stdout.rstrip().rpartition(chr(10))[2][:100]}")
 
 
-PARTS = {
-    WINDOWS: (files, versions, scripts, names, bytes_as_they_are, closed_pipes, of_windows, starters, refusals, limits, stack, library, tools, paths),
-    ARM: (files, versions, scripts, names, bytes_as_they_are, closed_pipes, refusals, limits, stack, library),
-}
+ON_EACH = (files, versions, scripts, names, bytes_as_they_are, closed_pipes, refusals, limits, stack, library)
+PARTS = {WINDOWS: (*ON_EACH, of_windows, starters, tools, paths), ARM: ON_EACH}
 
 
 def tried_for(name, tally):

@@ -886,7 +886,8 @@ def numbers_of_a_grid(n, folder):
 
     def at(row, column):
         return row * side + column + 1 if row < side and column < side else 0
-    return numbers_of(folder, (node(at(row, column), at(row + 1, column), at(row, column + 1)) for row in range(side) for column in range(side)))
+    cells = ((row, column) for row in range(side) for column in range(side))
+    return numbers_of(folder, (node(at(row, column), at(row + 1, column), at(row, column + 1)) for row, column in cells))
 
 
 def numbers_of_a_random_graph(n, folder):
