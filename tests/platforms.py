@@ -138,6 +138,7 @@ TOOLS_OTHERWISE = [
     "a process that is ended *",
     "a run that is ended",
     "no answer",
+    "no answer, *a signal, *",
     "no answers",
     "the header has no answer",
     "of the schema",

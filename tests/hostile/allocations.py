@@ -137,6 +137,9 @@ BESIDE = {
     "p21_mapping::refused_shape::": "for the place of a refusal",
     "p21_stream_kept::judgements::Judgements::remember": "of what large sets don't serve",
 }
+# Functions of refused_shape stand inside the one that calls them, and ask for the attributes of an entity there. What else asks for these
+# in it, `known`, is proved to answer want of memory.
+INSIDE = ["p21_express_tables::schema::Schema::places", "p21_mapping::check::check_owned_record"]
 
 
 def excuse(functions):
@@ -145,9 +148,12 @@ def excuse(functions):
     For words like a mistaken one `clap` collects letters, and where that finds no room it asks for less; only wrong command
     lines come there. The place of a refusal is then that of its statement, and a large set is looked through again.
     """
-    asking = next((name for name in functions if not name.startswith("std_alloc::vec::Vec::grow_amortized")), "")
-    beside = next((BESIDE[way] for way in BESIDE for name in functions if name.startswith(way)), None)
-    return SUGGESTIONS if asking.startswith("strsim::chars_of") else beside
+    asking = [name for name in functions if not name.startswith("std_alloc::vec::Vec::grow_amortized")]
+    if asking[:1] and asking[0].startswith("strsim::chars_of"):
+        return SUGGESTIONS
+    if asking[:2] == INSIDE:
+        return BESIDE["p21_mapping::refused_shape::"]
+    return next((BESIDE[way] for way in BESIDE for name in functions if name.startswith(way)), None)
 
 
 class Refusing:
