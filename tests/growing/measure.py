@@ -12,7 +12,8 @@ alone (alone.c).
 
 An input that is over its bounds today has a mark in OPEN, with how many times over the bounds it is. The status is 1 where one
 without a mark is over the bounds, and where one with a mark is worse than its mark says. `--table` prints the marks as they
-would have to be. With `--jobs` so many inputs are measured side by side, and what is over its bounds then is measured once more, alone.
+would have to be. With `--jobs` so many inputs are measured side by side, and what is over its bounds then is measured alone, three times
+at most.
 The program is that of the environment variable P21, else ./p21.
 """
 import argparse
@@ -41,6 +42,8 @@ SHA_TIMES, BYTES_A_BYTE = 40, 45
 SECONDS_A_PAIR, BYTES_A_PAIR = 20e-9, 4
 SECONDS_OF_USE, BYTES_OF_USE = 50e-9, 8
 SECONDS_A_WORD = 20e-9
+# What is over its bounds beside others is measured alone so often at most.
+ATTEMPTS = 3
 # A machine at work measures up to so many times what it does alone; a mark says what was seen once.
 NOISE = 1.5
 # A run ends after so many seconds. No larger one is tried behind one that took so many seconds, or read or took so many bytes.
@@ -238,7 +241,7 @@ def runs_of(launcher, row, a_byte, second):
 
 def runs_of_all(launcher, rows, a_byte, second, jobs):
     """Each input with its runs, side by side in so many processes. Other work makes runs longer, so what is over its bounds beside others
-    comes last, and is measured once more, alone."""
+    comes last, and is measured alone."""
     over = []
     with concurrent.futures.ProcessPoolExecutor(jobs) as processes:
         begun = [processes.submit(runs_of, launcher, row, a_byte, second) for row in rows]
@@ -248,7 +251,16 @@ def runs_of_all(launcher, rows, a_byte, second, jobs):
             else:
                 yield row, ended.result()
     for row in over:
-        yield row, runs_of(launcher, row, a_byte, second)
+        yield row, runs_alone(launcher, row, a_byte, second)
+
+
+def runs_alone(launcher, row, a_byte, second):
+    """An input alone, until it is within its bounds: what else a machine does makes a run longer, and none shorter."""
+    for _ in range(ATTEMPTS):
+        runs = runs_of(launcher, row, a_byte, second)
+        if not judged(row, runs)[1]:
+            break
+    return runs
 
 
 def judged(row, runs):
