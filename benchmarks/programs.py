@@ -7,7 +7,7 @@ import subprocess
 HERE = pathlib.Path(__file__).resolve().parent
 ROOT = HERE.parent
 OUT = HERE / "out"
-CHECKED = ["p21_mapping", "p21_mapping_values", "p21_express", "p21_express_tables", "p21_grammar", "p21_tokens", "p21_values"]
+CHECKED = ["p21_mapping", "p21_mapping_values", "p21_express", "p21_schema", "p21_grammar", "p21_tokens", "p21_values"]
 # The programs of one layer, each over the crates that it names.
 OVER = {
     "values": ["p21_values"],
@@ -15,10 +15,10 @@ OVER = {
     "parsing": ["p21_grammar", "p21_tokens", "p21_values"],
     "checking": CHECKED,
     "printing": ["p21_canon", *CHECKED],
-    "sessions": ["p21_stream", "p21_express", "p21_express_tables", "p21_values"],
+    "sessions": ["p21_stream", "p21_express", "p21_schema", "p21_values"],
     "schemas": ["p21_express_syntax"],
-    "tables": ["p21_express", "p21_express_tables"],
-    "lookups": ["p21_express", "p21_express_tables", "p21_express_graph"],
+    "tables": ["p21_express", "p21_schema"],
+    "lookups": ["p21_express", "p21_schema", "p21_express_graph"],
 }
 
 

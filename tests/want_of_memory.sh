@@ -25,7 +25,7 @@ wanting=0
 each=200
 
 cp "$root/HANDLES" "$root/crates.txt" "$here" || exit
-echo 'p21_memory: p21_express p21_express_outline p21_stream p21_stream_output p21_stream_kept p21_stream_io p21_express_tables p21_values' >> "$here/crates.txt"
+echo 'p21_memory: p21_express p21_express_outline p21_stream p21_stream_output p21_stream_kept p21_stream_io p21_schema p21_values' >> "$here/crates.txt"
 (cd "$root" && tar -cf - --exclude=out crates) | tar -xf - -C "$here" || exit
 mkdir -p "$here/crates/p21_memory/src" || exit
 cd "$here/crates/p21_memory" || exit
@@ -35,7 +35,7 @@ cat > src/lib.rt <<'TEST'
 #[cfg(test)]
 mod tests {
     use p21_express::read_schema;
-    use p21_express_tables::Schema;
+    use p21_schema::Schema;
     use p21_stream::{At, Refusal, Session, Watched, canonical, rewrite, same_meaning};
     use p21_values::{Limits, NoMemory};
     use std::alloc::{AllocError, Global};

@@ -139,7 +139,7 @@ BESIDE = {
 }
 # Functions of refused_shape stand inside the one that calls them, and ask for the attributes of an entity there. What else asks for these
 # in it, `known`, is proved to answer want of memory.
-INSIDE = ["p21_express_tables::schema::Schema::places", "p21_mapping::check::check_owned_record"]
+INSIDE = ["p21_schema::schema::Schema::places", "p21_mapping::check::check_owned_record"]
 
 
 def excuse(functions):

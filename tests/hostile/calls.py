@@ -23,7 +23,7 @@ from rigged import Answer, Rigged, Tally, needs
 HERE = pathlib.Path(__file__).resolve().parent
 SOURCE = HERE / "calls.rattle"
 
-DEPENDENCIES = "p21_canon p21_express_tables p21_express_graph p21_grammar p21_mapping p21_stream p21_tokens p21_values"
+DEPENDENCIES = "p21_canon p21_schema p21_express_graph p21_grammar p21_mapping p21_stream p21_tokens p21_values"
 TEXTS = {"DEMO": DEMO, "HEAD": HEAD, "CALLED": CALLED, "CALLED_CANONICAL": CALLED_CANONICAL}
 
 # The calls that take no memory.

@@ -4,7 +4,7 @@ ghost use Rattle.p21_spec_basics.specs.Limits.{usual};
 ghost use Rattle.p21_c.specs.Answers.{IsAcceptedText, RefusesText};
 ghost use Rattle.p21_stream.specs.Claim.{Claim};
 
-use p21_express_tables::Schema;
+use p21_schema::Schema;
 use p21_stream::{Expected, Indices, Located, Session, headline};
 use p21_stream_output::Accepted;
 use p21_stream_statements::Place;

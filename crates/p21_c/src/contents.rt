@@ -3,8 +3,8 @@ ghost use Rattle.std.specs.Prelude.{◌≡◌, IfSome, Some};
 ghost use Rattle.p21_c.specs.Contents.{TakesSession, boxed_content};
 ghost use Rattle.p21_c.specs.declared.contents.Content.TheVariants as content;
 
-use p21_express_tables::Schema;
 use p21_model::Users;
+use p21_schema::Schema;
 use p21_stream::{LocatedSurvey, SharedSession};
 use p21_stream_output::Accepted;
 use std::alloc::Global;

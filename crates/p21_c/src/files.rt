@@ -10,7 +10,7 @@ use crate::contents::Holding;
 use crate::lent::Lent;
 use crate::places::{Place, Placed, nowhere, place_of};
 use crate::texts::{file_of, text_of};
-use p21_express_tables::Schema;
+use p21_schema::Schema;
 use std::alloc::Global;
 
 /// Whether a file is accepted under a schema. It isn't copied.

@@ -42,8 +42,8 @@ ghost use Rattle.p21_c.specs.declared.contents.Content.{Content};
 ghost use Rattle.p21_stream_output.specs.Output.{Output};
 
 use crate::contents::Content;
-use p21_express_tables::Schema;
 use p21_model::{AcceptedModel, Users};
+use p21_schema::Schema;
 use p21_stream::{LocatedSurvey, SharedSession};
 use p21_stream_output::Accepted;
 use std::alloc::Global;

@@ -11,7 +11,7 @@ use crate::components::Handle;
 use crate::contents::{Content, Holding, boxed};
 use crate::lent::Lent;
 use crate::places::{Place, place_of};
-use p21_express_tables::Schema;
+use p21_schema::Schema;
 use p21_stream::{Extent, LocatedSurvey, Surveyed, survey_located};
 use p21_stream_io::Watched;
 use p21_values::Limits;

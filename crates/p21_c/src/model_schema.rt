@@ -20,7 +20,7 @@ use crate::model_types::{
 };
 use crate::spans::{Span, span_of};
 use p21_express_graph::{EntityId, Member as OfferedMember, Place, TypeId, TypeKind};
-use p21_express_tables::Schema;
+use p21_schema::Schema;
 use std::alloc::Global;
 use std::sync::Arc;
 

@@ -9,7 +9,7 @@ use crate::components::Handle;
 use crate::contents::{Content, Holding, boxed};
 use crate::lent::Lent;
 use p21_express_graph::{EntityId, Place};
-use p21_express_tables::Schema;
+use p21_schema::Schema;
 use p21_values::NoMemory;
 use std::alloc::Global;
 

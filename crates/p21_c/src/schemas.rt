@@ -8,7 +8,7 @@ use crate::components::Handle;
 use crate::contents::{Content, Holding, boxed};
 use crate::lent::Lent;
 use p21_express::read_schema;
-use p21_express_tables::Schema;
+use p21_schema::Schema;
 use std::alloc::Global;
 use std::sync::Arc;
 

@@ -11,5 +11,5 @@ pub use Rattle.p21_spec_laws.specs as p21_spec_laws
 pub use Rattle.p21_values.specs as p21_values
 pub use Rattle.p21_grammar_tree.specs as p21_grammar_tree
 pub use Rattle.p21_express_graph.specs as p21_express_graph
-pub use Rattle.p21_express_tables.specs as p21_express_tables
+pub use Rattle.p21_schema.specs as p21_schema
 pub use Rattle.p21_mapping_values.specs as p21_mapping_values

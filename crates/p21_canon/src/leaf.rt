@@ -7,7 +7,7 @@ ghost use Rattle.p21_express_graph.specs.Orders.{numbers};
 ghost use Rattle.p21_spec_file.specs.CanonicalRecord.{HasOneLeaf};
 
 use p21_express_graph::EntityId;
-use p21_express_tables::Schema;
+use p21_schema::Schema;
 
 /// The entity of which the set is the closure: its order is as long as the set. Where there is none, the set has several
 /// leaves. It takes no memory.

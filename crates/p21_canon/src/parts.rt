@@ -15,8 +15,8 @@ ghost use Rattle.p21_values.specs.Canonical.{Continues};
 
 use crate::position::position_of;
 use p21_express_graph::EntityId;
-use p21_express_tables::Schema;
 use p21_mapping_values::{Typed, Value, Values, append_byte, append_separator, write_value};
+use p21_schema::Schema;
 use p21_values::{Canonical, NoMemory};
 
 /// Appends the keyword of an entity and the texts of values in parentheses, or a part of it where memory runs out.

@@ -6,7 +6,7 @@ ghost use Rattle.p21_express_graph.specs.Lookups.{AreEntities};
 ghost use Rattle.p21_express_graph.specs.Orders.{numbers};
 
 use p21_express_graph::EntityId;
-use p21_express_tables::Schema;
+use p21_schema::Schema;
 
 /// Where an entity stands. Entities that rise by name take a search by halves; else they are looked at one by one.
 pub(crate) fn position_of(schema: &Schema, entities: &[EntityId], entity: EntityId) -> usize

@@ -6,8 +6,8 @@ ghost use Rattle.p21_values.specs.Canonical.{Continues};
 
 use crate::leaf::only_leaf;
 use crate::parts::{append_external, append_internal};
-use p21_express_tables::Schema;
 use p21_mapping_values::{Typed, append_byte};
+use p21_schema::Schema;
 use p21_values::{Canonical, Name, NoMemory};
 
 /// Appends the canonical statement of an instance, with its `;` and without a line feed: in internal mapping where the set

@@ -12,7 +12,7 @@ use Rattle.p21_commands.specs.Numbered.{IsCheckedApart, IsUnnumberedUnder}
 use Rattle.p21_commands.specs.Status.{done, refused, failed}
 use Rattle.p21_commands.specs.Streams.{Stream, Streams}
 use Rattle.p21_commands.specs.declared.fault.CommandFault.{CommandFault}
-use Rattle.p21_express_tables.specs.Coding.{schema_code}
+use Rattle.p21_schema.specs.Coding.{schema_code}
 use Rattle.p21_spec_schema.specs.Schema.{Schema}
 
 -- the schema under which files are checked, and the highest status of them

@@ -13,7 +13,7 @@ use crate::answer::answer;
 use crate::fault::{CommandFault, report};
 use crate::file_fault::fault_of;
 use crate::load::load_schema;
-use p21_express_tables::Schema;
+use p21_schema::Schema;
 use p21_stream::{Fault, Located, Watched, count_located};
 use p21_values::Limits;
 use std::alloc::{AllocError, Global};

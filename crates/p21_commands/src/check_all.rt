@@ -25,7 +25,7 @@ use crate::file_fault::refusal_text;
 use crate::load::load_schema;
 use crate::status::FAILED;
 use crate::transfer::write_whole;
-use p21_express_tables::Schema;
+use p21_schema::Schema;
 use p21_stream::{Extent, Fault, Refusal, Refusals, Surveyed, Watched, survey};
 use p21_values::{Limits, NoMemory};
 use std::alloc::{AllocError, Global};

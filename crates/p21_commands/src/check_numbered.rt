@@ -14,7 +14,7 @@ use crate::load::load_schema;
 use crate::located::{push_count, write_accepted};
 use crate::numbered::fault_of_names;
 use crate::telling::{Form, Telling, push_front, push_numbering};
-use p21_express_tables::Schema;
+use p21_schema::Schema;
 use p21_stream::{Extent, Watched};
 use p21_stream_numbered::{NumberingRefusal, count_numbered};
 use p21_values::Limits;

@@ -22,7 +22,7 @@ use crate::located::{write_found, write_survey};
 use crate::second_reading::{Met, SecondReading};
 use crate::status::{DONE, FAILED};
 use crate::telling::{Telling, subject_text};
-use p21_express_tables::Schema;
+use p21_schema::Schema;
 use p21_stream::{Counted, Located, LocatedSurvey, Watched, count_located, survey_located};
 use p21_values::{Limits, NoMemory};
 use std::alloc::Global;

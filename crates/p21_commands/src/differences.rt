@@ -8,7 +8,7 @@ ghost use Rattle.p21_stream.specs.ReaderInput.{ConsumesAtMost};
 
 use p21_difference_rows::{DifferenceList, RowForm, list_differences};
 use p21_differences::{TwoFiles, lines_law};
-use p21_express_tables::Schema;
+use p21_schema::Schema;
 use p21_stream::{At, Fault, Refusal, Watched, Which, accept, headline};
 use p21_values::Limits;
 use std::alloc::Global;

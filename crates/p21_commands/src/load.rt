@@ -11,7 +11,7 @@ use crate::lines::{LineStarts, Position};
 use crate::transfer::read_text;
 use p21_express::{SchemaFault, read_schema};
 use p21_express_places::{SchemaPlace, schema_place};
-use p21_express_tables::Schema;
+use p21_schema::Schema;
 use p21_stream_io::Watched;
 use std::alloc::{AllocError, Global};
 use std::io::Read;

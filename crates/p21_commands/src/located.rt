@@ -16,7 +16,7 @@ use crate::file_fault::fault_of;
 use crate::status::FAILED;
 use crate::telling::{Form, Telling, push_end, push_front, push_line, survey_lines};
 use crate::transfer::write_whole;
-use p21_express_tables::Schema;
+use p21_schema::Schema;
 use p21_stream::{Counted, Extent, Located, LocatedSurvey, Refusal, Refusals, Surveyed, Watched};
 use std::alloc::{AllocError, Global};
 use std::io::Write;

@@ -13,7 +13,7 @@ ghost use Rattle.p21_stream_io.specs.Transfer.{AppendsAllBut, AppendsPartOf};
 ghost use Rattle.p21_stream_io.specs.Watch.{one_call_more};
 
 use p21_express_graph::{EntityId, Place};
-use p21_express_tables::Schema;
+use p21_schema::Schema;
 use p21_stream_io::{Waiting, Watched, WriteFault};
 use p21_values::NoMemory;
 use std::alloc::Global;

@@ -12,7 +12,7 @@ use crate::fault::{CommandFault, report};
 use crate::load::load_schema;
 use crate::print::{own_texts, write_text};
 use crate::status::DONE;
-use p21_express_tables::Schema;
+use p21_schema::Schema;
 use p21_stream_io::Watched;
 use std::alloc::Global;
 use std::io::{Read, Write};

@@ -9,7 +9,7 @@
 
 use crate::wants::could_want;
 use crate::way::Way;
-use p21_express_tables::Schema;
+use p21_schema::Schema;
 use p21_stream::{At, Fault, Located, LocatedSurvey, Need, Place};
 use p21_tokens_automaton::{Action, Mode, TextMode, advance};
 use p21_values::{Name, NoMemory};

@@ -10,7 +10,7 @@ use crate::wants::attribute_at;
 use p21_express::SchemaFault;
 use p21_express_graph::Place as AttributePlace;
 use p21_express_places::SchemaPlace;
-use p21_express_tables::Schema;
+use p21_schema::Schema;
 use p21_stream::{At, Extent, Fault, Located, LocatedSurvey, Place};
 use p21_stream_numbered::NumberingRefusal;
 use p21_values::Name;

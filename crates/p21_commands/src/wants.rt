@@ -2,7 +2,7 @@
 
 use crate::way::Way;
 use p21_express_graph::{EntityId, Member, Place, PlaceType, TypeId, TypeKind, TypeUse};
-use p21_express_tables::Schema;
+use p21_schema::Schema;
 
 /// The attribute of the parameter of this number, from 1 on, in the part with this keyword; in the internal mapping this part is alone
 /// and has the attributes of all supertypes.

@@ -8,7 +8,7 @@ ghost use Rattle.p21_express_graph.specs.Resolved.{IsPlace};
 use crate::pushing::{push, push_in_both, push_named};
 use crate::row::{Happening, RowForm, Style, Subject};
 use p21_express_graph::Place;
-use p21_express_tables::Schema;
+use p21_schema::Schema;
 use p21_values::{Name, NoMemory};
 
 /// Appends the beginning of a row.

@@ -13,7 +13,7 @@ use crate::rows::{Rows, put};
 use crate::texts::push_member;
 use crate::values::list_values;
 use p21_differences::{Change, TwoFiles};
-use p21_express_tables::Schema;
+use p21_schema::Schema;
 use p21_stream_output::Accepted;
 use p21_values::{Name, NoMemory};
 

@@ -1,6 +1,6 @@
 //! What rows are about.
 use p21_express_graph::Place;
-use p21_express_tables::Schema;
+use p21_schema::Schema;
 use p21_values::Name;
 use std::alloc::Global;
 

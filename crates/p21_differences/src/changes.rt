@@ -7,7 +7,7 @@ ghost use Rattle.p21_spec_file.specs.File.{FileMeaning};
 
 use crate::change::Change;
 use crate::entity_sets::have_one_set;
-use p21_express_tables::Schema;
+use p21_schema::Schema;
 use p21_stream_output::Accepted;
 use p21_values::Name;
 

@@ -3,8 +3,8 @@ ghost use Rattle.std.specs.Prelude.{◌≡◌, ◌↔◌, IsTrue};
 ghost use Rattle.p21_spec_exchange.specs.Record.{Record};
 ghost use Rattle.p21_spec_file.specs.CanonicalTexts.{IsInstanceText};
 
-use p21_express_tables::Schema;
 use p21_model::Instance;
+use p21_schema::Schema;
 use p21_values::Name;
 
 /// Whether two canonical lines of one name are of one set of entities. Canonical records have their keywords in one order.

@@ -13,7 +13,7 @@ ghost use Rattle.p21_express_graph.specs.Meaning.{place as place_of};
 use crate::named_owners::NamedOwners;
 use p21_express_graph::{EntityId, Names, Place};
 use p21_express_syntax::Entity;
-use p21_express_tables::Schema;
+use p21_schema::Schema;
 use p21_values::NoMemory;
 use std::alloc::Global;
 

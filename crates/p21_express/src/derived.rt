@@ -11,7 +11,7 @@ use crate::lookups::{RedeclarationTarget, redeclared_place};
 use p21_express_graph::{EntityId, Place};
 use p21_express_outline::SchemaFault;
 use p21_express_syntax::{AttributeName, Entity};
-use p21_express_tables::Schema;
+use p21_schema::Schema;
 use std::alloc::Global;
 
 /// Whether an attribute is a new one of this name.

@@ -21,6 +21,6 @@ pub use p21_express_graph::{
     EntityId, Member, Members, Place, PlaceType, TypeId, TypeKind, TypeUse, Width, Words,
 };
 pub use p21_express_outline::SchemaFault;
-pub use p21_express_tables::Schema;
+pub use p21_schema::Schema;
 pub use p21_values::NoMemory;
 pub use schema_reader::read_schema;

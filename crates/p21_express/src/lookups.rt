@@ -10,7 +10,7 @@ ghost use Rattle.p21_express_graph.specs.Meaning.{place as place_of};
 
 use crate::attribute_names::AttributeNames;
 use p21_express_graph::{EntityId, Place};
-use p21_express_tables::Schema;
+use p21_schema::Schema;
 
 /// What `SELF\supertype.name` stands for in an entity (ISO 10303-11, Attribute redeclaration).
 #[derive(Clone, Copy, Debug, Drop)]

@@ -7,7 +7,7 @@ ghost use Rattle.p21_spec_schema.specs.Schema.{attributes_of};
 
 use p21_express_graph::{EntityId, Names, Place};
 use p21_express_syntax::{AttributeName, Entity, ExplicitAttributes};
-use p21_express_tables::Schema;
+use p21_schema::Schema;
 use p21_values::NoMemory;
 use std::alloc::Global;
 

@@ -12,7 +12,7 @@ use crate::redeclared::redeclared_of;
 use p21_express_graph::{EntityId, Redeclarations};
 use p21_express_outline::{KnownNames, SchemaFault};
 use p21_express_syntax::Entity;
-use p21_express_tables::Schema;
+use p21_schema::Schema;
 use std::alloc::Global;
 
 /// What an entity redeclares (ISO 10303-11, Attribute redeclaration). `own` is its declaration, one of those of all

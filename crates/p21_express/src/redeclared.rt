@@ -17,7 +17,7 @@ use crate::lookups::{RedeclarationTarget, redeclared_place};
 use p21_express_graph::{EntityId, Place, Redeclared, TypeUse};
 use p21_express_outline::{KnownNames, SchemaFault, resolve_type};
 use p21_express_syntax::{AttributeName, ExplicitAttributes};
-use p21_express_tables::Schema;
+use p21_schema::Schema;
 use std::alloc::Global;
 use std::sync::Arc;
 

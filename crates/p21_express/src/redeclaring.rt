@@ -12,7 +12,7 @@ use crate::redeclarations::redeclarations_of;
 use p21_express_graph::{EntityId, Redeclarations};
 use p21_express_outline::{KnownNames, SchemaFault};
 use p21_express_syntax::Entity as Declared;
-use p21_express_tables::Schema;
+use p21_schema::Schema;
 use std::alloc::Global;
 
 /// What each entity redeclares, in a schema in which nothing is redeclared.

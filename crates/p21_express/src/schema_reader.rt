@@ -3,7 +3,7 @@
 //! without them. The second step uses the tables of the first, except those that depend on redeclarations.
 //!
 //! A schema is read by `read_schema(alloc, text)`, a function of `p21_express`, and not by `Schema::read`: `Schema`
-//! stands in `p21_express_tables`, since the crates that only look things up need no reader, and an inherent function
+//! stands in `p21_schema`, since the crates that only look things up need no reader, and an inherent function
 //! can't stand outside the crate of its type.
 ghost use Rattle.std.specs.List.{enumerate_from};
 ghost use Rattle.p21_express.specs.ReadSchema.{AreOfText, BareRead, IsBareSchema, SchemaDeclared, SchemaRead};
@@ -19,7 +19,7 @@ use crate::redeclaring::all_redeclarations;
 use p21_express_graph::Redeclarations;
 use p21_express_outline::{SchemaFault, known_names};
 use p21_express_syntax::{Declarations, read_declarations};
-use p21_express_tables::Schema;
+use p21_schema::Schema;
 use std::alloc::Global;
 
 /// What declarations declare, but that nothing is redeclared.

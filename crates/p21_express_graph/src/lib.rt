@@ -8,7 +8,7 @@
 //! `IsIndex`), and `Schema` keeps them in private fields behind the invariant of its model. The names of a schema are
 //! resolved with its contents alone, so `p21_express_outline` stands on `p21_express_graph` and needs no `Schema`.
 //!
-//! The head of `tables` of `p21_express_tables` says which tables stand behind the model of `Schema`.
+//! The head of `tables` of `p21_schema` says which tables stand behind the model of `Schema`.
 //! `p21_express_graph` makes those that follow from names, supertypes and types alone, and has three helpers for that:
 //! `settled_order` lists numbers so that each stands behind those that come next to it, `collected_lists` uses that
 //! list to visit each number once, and `inverted_lists` inverts a table of lists. `PrefixLists` has the order of each

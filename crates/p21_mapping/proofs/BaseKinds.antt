@@ -4,10 +4,10 @@ use Rattle.p21_spec_laws.proofs.OfType.{offers-select}
 use Rattle.p21_spec_exchange.specs.Number.{Decimal}
 use Rattle.p21_spec_exchange.specs.Parameter as parameter
 use Rattle.p21_spec_exchange.specs.Parameter.{Param, key_of}
-use Rattle.p21_express_tables.specs.Base.{IsBase}
+use Rattle.p21_schema.specs.Base.{IsBase}
 use Rattle.p21_express_graph.specs.DirectRenaming.{IsPlain}
-use Rattle.p21_express_tables.specs.declared.base.Base.{Base}
-use Rattle.p21_express_tables.specs.declared.base.Base.TheVariants.{Plain, Items, Select}
+use Rattle.p21_schema.specs.declared.base.Base.{Base}
+use Rattle.p21_schema.specs.declared.base.Base.TheVariants.{Plain, Items, Select}
 use Rattle.p21_express_graph.specs.declared.type_use.TypeUse as code
 use Rattle.p21_express_graph.specs.declared.type_use.Width.{Width}
 use Rattle.p21_express_graph.specs.Meaning.{type_use}

@@ -6,8 +6,8 @@ use Rattle.p21_spec_exchange.specs.Parameter as parameter
 use Rattle.p21_spec_exchange.specs.Parameter.{Param}
 use Rattle.p21_express_graph.proofs.Renaming.{comes-is}
 use Rattle.p21_express_graph.specs.DirectRenaming.{ComesTo, at_itself, through}
-use Rattle.p21_express_tables.specs.Base.{HasBase}
-use Rattle.p21_express_tables.specs.declared.base.Base.{Base}
+use Rattle.p21_schema.specs.Base.{HasBase}
+use Rattle.p21_schema.specs.declared.base.Base.{Base}
 use Rattle.p21_express_graph.specs.Resolved.{HoldsTogether, IsTypeUse}
 use Rattle.p21_spec_file.specs.BrokenValue.{BreaksAt, BreaksWithin, BreaksAtPlace, in_underlying, itself, stored, IsLeftOut}
 use Rattle.p21_spec_file.specs.Reference as reference

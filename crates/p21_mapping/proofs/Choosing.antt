@@ -6,9 +6,9 @@ use Rattle.p21_spec_laws.proofs.OfType.{of_entity, of_chosen_instance, offers-se
 use Rattle.p21_spec_laws.specs.Needs.{with_instance, with_chosen_instance}
 use Rattle.p21_spec_exchange.specs.Parameter as parameter
 use Rattle.p21_spec_exchange.specs.Parameter.{Param, Key}
-use Rattle.p21_express_tables.specs.Base.{IsBase}
-use Rattle.p21_express_tables.specs.declared.base.Base.{Base}
-use Rattle.p21_express_tables.specs.declared.base.Base.TheVariants.{Plain, Select}
+use Rattle.p21_schema.specs.Base.{IsBase}
+use Rattle.p21_schema.specs.declared.base.Base.{Base}
+use Rattle.p21_schema.specs.declared.base.Base.TheVariants.{Plain, Select}
 use Rattle.p21_express_graph.specs.declared.kind.Member.{Member}
 use Rattle.p21_express_graph.specs.declared.kind.Member.TheVariants as wanted
 use Rattle.p21_express_graph.specs.declared.number.EntityId.{EntityId}

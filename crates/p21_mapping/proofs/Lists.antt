@@ -9,9 +9,9 @@ use Rattle.p21_spec_laws.proofs.OfType.{OfType, EachOf, of_none, of_next, of_emp
 use Rattle.p21_spec_laws.specs.Needs.{FitsWithNeeds, FitEachWithNeeds, FitsAtWithNeeds, with_none, with_next, with_empty, with_dollar, with_fit, with_array, with_list, with_set, with_bag, with_chosen_type}
 use Rattle.p21_spec_exchange.specs.Parameter as parameter
 use Rattle.p21_spec_exchange.specs.Parameter.{Param, Params, Key, no_params, param, listed, key_of}
-use Rattle.p21_express_tables.specs.Base.{IsBase}
-use Rattle.p21_express_tables.specs.declared.base.Base.{Base}
-use Rattle.p21_express_tables.specs.declared.base.Base.TheVariants.{Plain}
+use Rattle.p21_schema.specs.Base.{IsBase}
+use Rattle.p21_schema.specs.declared.base.Base.{Base}
+use Rattle.p21_schema.specs.declared.base.Base.TheVariants.{Plain}
 use Rattle.p21_express_graph.specs.Resolved.{IsTypeUse, IsType}
 use Rattle.p21_express_graph.specs.declared.number.TypeId.{TypeId}
 use Rattle.p21_express_graph.specs.declared.type_use.TypeUse as code

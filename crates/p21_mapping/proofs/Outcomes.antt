@@ -6,10 +6,10 @@ use Rattle.p21_spec_laws.proofs.OfType.{OfType}
 use Rattle.p21_spec_laws.specs.Needs.{FitsWithNeeds}
 use Rattle.p21_spec_exchange.specs.Parameter as parameter
 use Rattle.p21_spec_exchange.specs.Parameter.{Param}
-use Rattle.p21_express_tables.specs.Base.{IsBase}
+use Rattle.p21_schema.specs.Base.{IsBase}
 use Rattle.p21_express_graph.specs.DirectRenaming.{IsPlain}
-use Rattle.p21_express_tables.specs.declared.base.Base.{Base}
-use Rattle.p21_express_tables.specs.declared.base.Base.TheVariants.{Plain, Items, Select}
+use Rattle.p21_schema.specs.declared.base.Base.{Base}
+use Rattle.p21_schema.specs.declared.base.Base.TheVariants.{Plain, Items, Select}
 use Rattle.p21_express_graph.specs.declared.type_use.TypeUse as code
 use Rattle.p21_express_graph.specs.Meaning.{type_use}
 use Rattle.p21_spec_file.specs.BrokenValue.{BreaksAt, wrong_kind, select_type, itself, UsesSelect, IsOfWrongKind}

@@ -2,7 +2,7 @@
 use Rattle.std.specs.Prelude.{ℕ, List}
 use Rattle.p21_spec_basics.proofs.Members.{Contains-flat_map, Contains-one_of, Each-of_members}
 use Rattle.p21_spec_exchange.specs.Record.{Part, simple}
-use Rattle.p21_express_tables.specs.OwnSets.{LeavesOpen}
+use Rattle.p21_schema.specs.OwnSets.{LeavesOpen}
 use Rattle.p21_express_graph.specs.Resolved.{HoldsTogether}
 use Rattle.p21_spec_file.specs.Meaning.{HasPlaceTypes, NamesEntity}
 use Rattle.p21_spec_file.specs.RecordPlaces.{IsEntitySetOf}

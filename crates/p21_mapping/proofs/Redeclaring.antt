@@ -8,7 +8,7 @@ use Rattle.p21_express_graph.proofs.Lookups.{numbers-more}
 use Rattle.p21_express_graph.specs.Orders.{numbers}
 use Rattle.p21_express_graph.specs.declared.number.EntityId.{EntityId}
 use Rattle.p21_express_graph.specs.Lookups.{AreEntities}
-use Rattle.p21_express_tables.specs.Redeclarers.{RedeclaresPlace}
+use Rattle.p21_schema.specs.Redeclarers.{RedeclaresPlace}
 use Rattle.p21_mapping.proofs.Shapes.{stored-not_open}
 use Rattle.p21_mapping.specs.Redeclaring.{AreThoseAmong}
 use Rattle.p21_spec_schema.specs.PlaceType.{PlaceType, TypeAt, derived_place, stored_place, two_redeclarations, IsDerivedIn, IsRedeclared, Decides}

@@ -9,9 +9,9 @@ use Rattle.p21_spec_laws.specs.Needs.{FitsWithNeeds, with_whole, with_real, with
 use Rattle.p21_spec_exchange.specs.Keyword.{IsKeyword}
 use Rattle.p21_spec_exchange.specs.Number.{Decimal, whole_ratio}
 use Rattle.p21_spec_exchange.specs.Parameter as parameter
-use Rattle.p21_express_tables.specs.Base.{IsBase}
-use Rattle.p21_express_tables.specs.declared.base.Base.{Base}
-use Rattle.p21_express_tables.specs.declared.base.Base.TheVariants.{Plain, Items}
+use Rattle.p21_schema.specs.Base.{IsBase}
+use Rattle.p21_schema.specs.declared.base.Base.{Base}
+use Rattle.p21_schema.specs.declared.base.Base.TheVariants.{Plain, Items}
 use Rattle.p21_express_graph.specs.declared.type_use.TypeUse as code
 use Rattle.p21_express_graph.specs.declared.type_use.Width.{Width}
 use Rattle.p21_express_graph.specs.Meaning.{type_use, width_option}

@@ -5,8 +5,8 @@ use Rattle.p21_spec_laws.specs.Needs.{FitsWithNeeds}
 use Rattle.p21_spec_exchange.specs.Keyword.{IsKeyword}
 use Rattle.p21_spec_exchange.specs.Parameter as parameter
 use Rattle.p21_spec_exchange.specs.Parameter.{Key, Param, key_of}
-use Rattle.p21_express_tables.specs.Base.{IsBase}
-use Rattle.p21_express_tables.specs.declared.base.Base.{Base}
+use Rattle.p21_schema.specs.Base.{IsBase}
+use Rattle.p21_schema.specs.declared.base.Base.{Base}
 use Rattle.p21_express_graph.specs.Resolved.{IsTypeUse}
 use Rattle.p21_express_graph.specs.declared.kind.Member.{Member}
 use Rattle.p21_express_graph.specs.declared.number.TypeId.{TypeId}

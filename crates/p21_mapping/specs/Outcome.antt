@@ -5,8 +5,8 @@ use Rattle.p21_spec_laws.proofs.OfType.{OfType, EachOf}
 use Rattle.p21_spec_laws.specs.Needs.{FitsWithNeeds, FitEachWithNeeds, FitsAtWithNeeds}
 use Rattle.p21_spec_exchange.specs.Parameter as parameter
 use Rattle.p21_spec_exchange.specs.Parameter.{Param, Params, listed}
-use Rattle.p21_express_tables.specs.Base.{IsBase}
-use Rattle.p21_express_tables.specs.declared.base.Base.{Base}
+use Rattle.p21_schema.specs.Base.{IsBase}
+use Rattle.p21_schema.specs.declared.base.Base.{Base}
 use Rattle.p21_spec_file.specs.BrokenValue.{BreaksAt, BreaksWithin, BreaksAtPlace, IsOfWrongKind}
 use Rattle.p21_spec_file.specs.ParameterKind.{HasItems, IsUnique}
 use Rattle.p21_spec_file.specs.SameValue.{AreDistinct}

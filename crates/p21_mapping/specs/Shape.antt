@@ -4,7 +4,7 @@ use Rattle.std.specs.List.{AllByRecursion as Each, AllZip, IsDistinct}
 use Rattle.p21_spec_exchange.specs.Parameter.{listed}
 use Rattle.p21_spec_exchange.specs.Record.{Part, Record, simple, complex}
 use Rattle.p21_express_graph.specs.Orders.{numbers}
-use Rattle.p21_express_tables.specs.OwnSets.{LeavesOpen}
+use Rattle.p21_schema.specs.OwnSets.{LeavesOpen}
 use Rattle.p21_express_graph.specs.Resolved.{IsEntity}
 use Rattle.p21_express_graph.specs.Rising.{HaveSame}
 use Rattle.p21_express_graph.specs.declared.number.EntityId.{EntityId}

@@ -9,7 +9,7 @@ ghost use Rattle.p21_spec_schema.specs.PlaceType.{TypeAt};
 
 use crate::positions::Positions;
 use p21_express_graph::{EntityId, Place, PlaceType};
-use p21_express_tables::Schema;
+use p21_schema::Schema;
 use p21_values::NoMemory;
 use std::alloc::Global;
 

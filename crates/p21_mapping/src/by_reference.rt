@@ -4,9 +4,9 @@ ghost use Rattle.p21_mapping.specs.Checked.{ChecksRecord};
 use crate::check::check_owned_record;
 use crate::record::copied_record;
 use crate::trail::Trail;
-use p21_express_tables::Schema;
 use p21_grammar_tree::{CheckFault, Record};
 use p21_mapping_values::{Need, Typed};
+use p21_schema::Schema;
 use std::alloc::Global;
 
 /// Checks a record as `check_owned_record` does, and leaves it as it is: the typed record has copies of its

@@ -23,9 +23,9 @@ use crate::refused_shape::note_refused_shape;
 use crate::shape::{Shape, shape_of};
 use crate::trail::Trail;
 use p21_express_graph::EntityId;
-use p21_express_tables::Schema;
 use p21_grammar_tree::{CheckFault, Record};
 use p21_mapping_values::{Need, Rows, Typed, Values};
+use p21_schema::Schema;
 use p21_values::NoMemory;
 use std::alloc::Global;
 

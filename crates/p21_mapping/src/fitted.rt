@@ -21,9 +21,9 @@ use crate::place::fit_place;
 use crate::positions::Positions;
 use crate::trail::Trail;
 use p21_express_graph::{EntityId, Place, PlaceType};
-use p21_express_tables::Schema;
 use p21_grammar_tree::{CheckFault, Param, Part};
 use p21_mapping_values::{Need, Value, Values};
+use p21_schema::Schema;
 use p21_values::NoMemory;
 use std::alloc::Global;
 

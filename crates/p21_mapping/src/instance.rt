@@ -1,5 +1,5 @@
 ghost use Rattle.p21_spec_exchange.specs.Parameter as parameter;
-ghost use Rattle.p21_express_tables.specs.Base.{IsBase};
+ghost use Rattle.p21_schema.specs.Base.{IsBase};
 ghost use Rattle.p21_express_graph.specs.Resolved.{IsType};
 ghost use Rattle.p21_grammar_tree.specs.View.{key_view};
 ghost use Rattle.p21_mapping.specs.Choosing.{DecidesKey, DecidesName, IsBaseIn};
@@ -8,9 +8,9 @@ ghost use Rattle.std.specs.Prelude.{IfSome};
 
 use crate::scalar::other_kind;
 use p21_express_graph::{Member, TypeId, TypeUse};
-use p21_express_tables::{Base, Schema};
 use p21_grammar_tree::{CheckFault, Key};
 use p21_mapping_values::{Need, Value};
+use p21_schema::{Base, Schema};
 use p21_values::Name;
 
 /// The name of an instance, at an entity or at a select that offers one. What the instance has to be is added to the needs.

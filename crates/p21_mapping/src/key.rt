@@ -6,8 +6,8 @@ ghost use Rattle.p21_grammar_tree.specs.View.{key_view, part_views};
 ghost use Rattle.p21_mapping.specs.Shape.{AreNamed, Refuses};
 
 use p21_express_graph::EntityId;
-use p21_express_tables::Schema;
 use p21_grammar_tree::{CheckFault, Key, Part};
+use p21_schema::Schema;
 use std::alloc::Global;
 
 /// The entity that a keyword names. A user-defined keyword names none.

@@ -28,8 +28,8 @@ use crate::place::fit_place;
 use crate::shape::check_own_set;
 use crate::trail::Trail;
 use p21_express_graph::{EntityId, PlaceType};
-use p21_express_tables::Schema;
 use p21_grammar_tree::{CheckFault, Param, Part, Record};
+use p21_schema::Schema;
 use p21_values::NoMemory;
 use std::alloc::Global;
 use std::collections::BTreeMap;
@@ -79,7 +79,7 @@ impl<'a> Drop for KnownEntities<'a> {
 }
 
 impl<'a> Model for KnownEntities<'a> {
-    ghost use Rattle.p21_express_tables.specs.Coding.{schema_code};
+    ghost use Rattle.p21_schema.specs.Coding.{schema_code};
     ghost use Rattle.p21_mapping.specs.Known.{AreKnown};
     ghost use Rattle.p21_spec_schema.specs.Schema.{Schema as Meant};
 

@@ -6,7 +6,7 @@ ghost use Rattle.p21_mapping.specs.Shape.{HasTwice, IsClosed, LacksSupertype};
 
 use crate::positions::Positions;
 use p21_express_graph::EntityId;
-use p21_express_tables::Schema;
+use p21_schema::Schema;
 
 /// Whether an entity is among others.
 pub(crate) fn has(entities: &[EntityId], entity: EntityId) -> bool

@@ -7,8 +7,8 @@ ghost use Rattle.p21_spec_schema.specs.Schema.{type_member};
 
 use crate::members::has;
 use p21_express_graph::{EntityId, Member, TypeId};
-use p21_express_tables::Schema;
 use p21_mapping_values::Need;
+use p21_schema::Schema;
 
 /// Whether an instance with these entities may stand where the need is (ISO 10303-21, Mapping of EXPRESS data types: entity,
 /// select). It takes no memory.

@@ -1,6 +1,6 @@
 ghost use Rattle.std.specs.Prelude.{◌≡◌, ◌↔◌, ◌++◌, ◌∷◌, [], IsTrue, MatchOption};
 ghost use Rattle.p21_spec_file.specs.BrokenValue.{IsLeftOut};
-ghost use Rattle.p21_express_tables.specs.Base.{HasBase};
+ghost use Rattle.p21_schema.specs.Base.{HasBase};
 ghost use Rattle.p21_express_graph.specs.Resolved.{IsTypeUse};
 ghost use Rattle.p21_express_graph.specs.Meaning.{place_type, type_use};
 ghost use Rattle.p21_grammar_tree.specs.View.{items_of, key_view, view, views};
@@ -14,9 +14,9 @@ use crate::instance::{chosen, fit_name};
 use crate::scalar::{fit_bits, fit_item, fit_real, fit_text, fit_whole, other_kind};
 use crate::trail::{Trail, noted};
 use p21_express_graph::{PlaceType, TypeUse};
-use p21_express_tables::{Base, Schema};
 use p21_grammar_tree::{CheckFault, Key, Param, Params};
 use p21_mapping_values::{Need, Value, Values};
+use p21_schema::{Base, Schema};
 use std::alloc::Global;
 
 /// After how many parameters their room is given back.

@@ -13,8 +13,8 @@ ghost use Rattle.p21_mapping.specs.Shape.{HasOpenPlace, HasOpenPlaceOf, HasCount
 use crate::among::type_among;
 use crate::positions::Positions;
 use p21_express_graph::{EntityId, Place, PlaceType};
-use p21_express_tables::Schema;
 use p21_grammar_tree::Part;
+use p21_schema::Schema;
 use p21_values::NoMemory;
 use std::alloc::Global;
 

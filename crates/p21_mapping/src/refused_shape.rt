@@ -8,8 +8,8 @@ use crate::members::has_all;
 use crate::positions::Positions;
 use crate::trail::Trail;
 use p21_express_graph::{EntityId, Place};
-use p21_express_tables::Schema;
 use p21_grammar_tree::{CheckFault, Part, Record};
+use p21_schema::Schema;
 use p21_values::NoMemory;
 use std::alloc::Global;
 

@@ -4,9 +4,9 @@ ghost use Rattle.p21_mapping.specs.Outcome.{DecidesItem, FitsAlone, IsKindFault,
 
 use crate::bounds::{is_boolean, is_logical, is_within};
 use p21_express_graph::TypeUse;
-use p21_express_tables::Base;
 use p21_grammar_tree::CheckFault;
 use p21_mapping_values::Value;
+use p21_schema::Base;
 use p21_values::{Bits, Decimal, Text, Whole, Word};
 use std::alloc::Global;
 

@@ -16,8 +16,8 @@ use crate::members::{has_twice, is_closed};
 use crate::places::{has_count, has_open_place, have_counts};
 use crate::positions::Positions;
 use p21_express_graph::EntityId;
-use p21_express_tables::{Ids, Schema};
 use p21_grammar_tree::{CheckFault, Part, Record};
+use p21_schema::{Ids, Schema};
 use p21_values::NoMemory;
 use std::alloc::Global;
 

@@ -20,7 +20,7 @@ mod value;
 mod value_text;
 
 pub use need::Need;
-pub use p21_express_tables::Ids;
+pub use p21_schema::Ids;
 pub use texts::{append_rising, are_distinct};
 pub use tokens::{append_byte, append_item, append_separator};
 pub use typed::{Rows, Typed};

@@ -2,7 +2,7 @@
 ghost use Rattle.std.specs.Prelude.{◌≡◌};
 
 use crate::value::Values;
-use p21_express_tables::Ids;
+use p21_schema::Ids;
 use std::marker::Model;
 
 /// What the record of an instance means: its set of entities, rising by keyword, and for each of them the values of the

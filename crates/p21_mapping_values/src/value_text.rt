@@ -12,7 +12,7 @@ ghost use Rattle.p21_mapping_values.specs.Spelled.{AreSpelled, IsSpelledValue};
 use crate::texts::append_rising;
 use crate::tokens::{append_byte, append_item};
 use crate::value::Value;
-use p21_express_tables::Schema;
+use p21_schema::Schema;
 use p21_values::{Canonical, NoMemory};
 
 /// Appends the canonical text of a value: the texts of a set's or a bag's elements rise, and a NUMBER is written as a

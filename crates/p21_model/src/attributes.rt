@@ -12,9 +12,9 @@ ghost use Rattle.p21_model.specs.Rows.{ArePartRows, ArePartsRows, AreRowsOf, Row
 use crate::part::leading_part;
 use crate::places::{Places, alone};
 use p21_express_graph::Place;
-use p21_express_tables::Schema;
 use p21_model_values::{Elements, Value};
 use p21_scan::behind;
+use p21_schema::Schema;
 
 /// An attribute, by the entity that declares it and its number there, and the value that an instance has at it.
 #[derive(Clone, Copy)]

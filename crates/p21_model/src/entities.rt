@@ -12,9 +12,9 @@ ghost use Rattle.p21_spec_file.specs.Meaning.{NamesEntity};
 use crate::part::leading_part;
 use crate::places::alone;
 use p21_express_graph::EntityId;
-use p21_express_tables::Schema;
 use p21_model_values::Elements;
 use p21_scan::behind;
+use p21_schema::Schema;
 
 /// The entities of an instance's set, of which some have been handed out.
 #[derive(Clone, Copy)]

@@ -12,8 +12,8 @@ use crate::attributes::Attributes;
 use crate::entities::Entities;
 use crate::record::record_of;
 use p21_express_graph::Place;
-use p21_express_tables::Schema;
 use p21_model_values::Value;
+use p21_schema::Schema;
 use p21_values::Name;
 
 /// An instance, by its name and its line in the canonical file.

@@ -5,7 +5,7 @@ ghost use Rattle.p21_stream_output.specs.Output.{IsSectionLine};
 ghost use Rattle.p21_stream_store.specs.StoredInstance.{instance_names};
 
 use crate::instance::Instance;
-use p21_express_tables::Schema;
+use p21_schema::Schema;
 use p21_stream_output::Accepted;
 use p21_values::Name;
 

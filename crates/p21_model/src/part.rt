@@ -6,8 +6,8 @@ ghost use Rattle.p21_spec_schema.specs.Schema.{EntityNamed};
 ghost use Rattle.p21_model.specs.Left.{NoKeywordFirst};
 
 use p21_express_graph::EntityId;
-use p21_express_tables::Schema;
 use p21_scan::scan_keyword;
+use p21_schema::Schema;
 
 /// The entity that the keyword at the front names, and what stands behind the byte that follows.
 pub(crate) fn leading_part<'a>(schema: &Schema, bytes: &'a [u8]) -> Option<(EntityId, &'a [u8])>

@@ -7,7 +7,7 @@ ghost use Rattle.p21_spec_schema.specs.Schema.{Place as MeantPlace, attributes_o
 ghost use Rattle.p21_model.specs.Left.{places_in};
 
 use p21_express_graph::{EntityId, Place};
-use p21_express_tables::Schema;
+use p21_schema::Schema;
 
 /// The places that entities declare, of which some have been handed out.
 #[derive(Clone, Copy)]

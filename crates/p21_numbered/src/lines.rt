@@ -11,8 +11,8 @@ ghost use Rattle.p21_numbered.specs.Lines.{AreLinesUnder, AreMeantUnder, AreOfFi
 
 use crate::numbered_line::NumberedLine;
 use p21_canon::write_record;
-use p21_express_tables::Schema;
 use p21_numbering::{Instance, Unordered, file_order, numbers_in, renamed_record};
+use p21_schema::Schema;
 use p21_values::{Name, NoMemory};
 use std::alloc::Global;
 use std::collections::BTreeMap;

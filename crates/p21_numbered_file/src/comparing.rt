@@ -6,7 +6,7 @@ ghost use Rattle.p21_numbered_file.specs.declared.numbering.Unnumbered.TheVarian
 ghost use Rattle.p21_numbered_file.specs.Comparing.{TellsTexts, told_apart, told_of_none};
 
 use crate::numbering::{Unnumbered, numbered_text};
-use p21_express_tables::Schema;
+use p21_schema::Schema;
 use p21_stream_io::Watched;
 use p21_stream_output::Accepted;
 use p21_values::{Limits, NoMemory};

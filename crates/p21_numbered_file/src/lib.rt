@@ -19,6 +19,6 @@ mod sizes;
 
 pub use comparing::{are_same_but_for_names, text_of};
 pub use numbering::{Unnumbered, numbered_text};
-pub use p21_express_tables::Schema;
+pub use p21_schema::Schema;
 pub use p21_stream_output::Accepted;
 pub use p21_values::Limits;

@@ -10,11 +10,11 @@ ghost use Rattle.p21_numbered_file.specs.Headings.{headings_in};
 ghost use Rattle.p21_numbered_file.specs.Reading.{IsReadTo, StandsNext};
 
 use p21_canon::write_header;
-use p21_express_tables::Schema;
 use p21_grammar::{Event, Line};
 use p21_grammar_tree::{Part, Record};
 use p21_mapping::{Trail, check_owned_record};
 use p21_mapping_values::Typed;
+use p21_schema::Schema;
 use p21_values::{Name, NoMemory};
 use std::alloc::Global;
 

@@ -4,7 +4,7 @@ ghost use Rattle.p21_spec_file.specs.Accepted.{IsAccepted};
 ghost use Rattle.p21_numbered_file.specs.Reading.{Advances, IsReadOf, IsReadWhole, IsUnderWay};
 
 use crate::read_file::ReadFile;
-use p21_express_tables::Schema;
+use p21_schema::Schema;
 use p21_stream_statements::StatementReader;
 use p21_values::{Limits, NoMemory};
 use std::alloc::Global;

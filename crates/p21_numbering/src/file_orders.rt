@@ -17,7 +17,7 @@ use crate::labels::node;
 use crate::orders::{Unordered, order};
 use crate::ranked::{RankedInstance, ranked};
 use crate::standings::Standings;
-use p21_express_tables::Schema;
+use p21_schema::Schema;
 use p21_values::NoMemory;
 use std::alloc::Global;
 

@@ -14,7 +14,7 @@ use crate::loose::loose_in_rows;
 use crate::said::said;
 use crate::standings::Standings;
 use crate::uses::{PlacedUse, uses_in};
-use p21_express_tables::Schema;
+use p21_schema::Schema;
 use p21_values::NoMemory;
 use std::alloc::{AllocError, Global};
 

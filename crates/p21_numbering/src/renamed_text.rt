@@ -8,8 +8,8 @@ ghost use Rattle.p21_mapping_values.specs.SplitTexts.{element_text};
 ghost use Rattle.p21_mapping_values.specs.View.{view, views};
 ghost use Rattle.p21_numbering.specs.NewNames.{new_name};
 
-use p21_express_tables::Schema;
 use p21_mapping_values::{Value, append_byte, append_rising, write_value};
+use p21_schema::Schema;
 use p21_values::{Canonical, Name, NoMemory};
 use std::collections::BTreeMap;
 

@@ -13,8 +13,8 @@ use crate::kinds::kinds;
 use crate::left::pair_left;
 use crate::pairs::{Pairs, no_pairs};
 use crate::population::joint_nodes;
-use p21_express_tables::Schema;
 use p21_numbering::{Instance, Node, ranks};
+use p21_schema::Schema;
 use p21_values::NoMemory;
 use std::alloc::{AllocError, Global};
 

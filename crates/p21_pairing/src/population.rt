@@ -8,8 +8,8 @@ ghost use Rattle.p21_numbering.specs.NodesOf.{HasKnownParts};
 ghost use Rattle.p21_numbering.specs.PlacedUses.{held_uses};
 ghost use Rattle.p21_pairing.specs.Population.{AreNodesFrom, ArePositions, BeginWith};
 
-use p21_express_tables::Schema;
 use p21_numbering::{Instance, Node, PlacedUse, node};
+use p21_schema::Schema;
 use p21_values::NoMemory;
 use std::alloc::{AllocError, Global};
 use std::collections::BTreeMap;

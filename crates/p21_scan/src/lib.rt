@@ -7,7 +7,7 @@
 //! is answered, no number stands there. `proofs/Numbers` joins this to the spellings: a front with such parts spells an
 //! integer (`spells_integer`) or has the form of a real (`real_form`), and bytes that have this form leave nothing
 //! behind (`whole_integer`, `whole_real`). So each reader of a whole number (`Whole::read`, `Decimal::read` and
-//! `read_number` of `p21_values`, `append_whole` and `append_far` of `p21_transcribe`) is proved by one of these lemmas
+//! `read_number` of `p21_values`, `append_whole` and `append_far` of `p21_shorter_tokens`) is proved by one of these lemmas
 //! and by what it makes of the digits. `exponent_value` has the limit on a written exponent; the range of the exponent
 //! that is meant is `normalised_exponent`'s of `p21_values`. What counts of digits (`without_leading_zeros`,
 //! `without_trailing_zeros`) and the number of a few of them (`number_of`) stand in `digits` of `p21_scan`.
@@ -18,7 +18,7 @@
 //! canonical spelling of the token stands at the front and that what stands behind may follow it; `proofs/Words` and
 //! `proofs/NamesAt` say that no other word or digits stand there, and that bytes which are such a token leave nothing
 //! behind. `Word::read` and `Name::read` of `p21_values`, `leading_keyword`, `leading_name`, `read_user_keyword` and
-//! `read_item` of `p21_tokens`, and `keyword`, `name` and `item` of `p21_transcribe` stand on them. `class` and `wide`
+//! `read_item` of `p21_tokens`, and `keyword`, `name` and `item` of `p21_shorter_tokens` stand on them. `class` and `wide`
 //! of `p21_scan` count the bytes of a class at the front, by lanes where there are many. The automaton takes these
 //! counts (`run_of`) and the tests of a byte from there; in what order a token's bytes may come it says itself, so that
 //! a rule of a token stands in these two places.

@@ -28,12 +28,12 @@ use Rattle.p21_stream.proofs.Walking.{ends-behind, follows-behind}
 use Rattle.p21_stream.specs.Passing.{IsFoundIn}
 use Rattle.p21_stream.specs.Walk.{EndsNoToken, FollowsFound, IsUnderWay, NeedsNoMemory, StepGives, TakesFound}
 use Rattle.p21_tokens.specs.Histories.{AreSeparators}
-use Rattle.p21_transcribe.specs.Gaps.{PassesSeparators}
-use Rattle.p21_transcribe_instance.specs.Instance.{HasEntities, TakesInstance}
-use Rattle.p21_transcribe_instance.specs.declared.instance.Set.{Set}
-use Rattle.p21_transcribe_instance.specs.declared.instance.Set.TheVariants.{Numbered, Own}
-use Rattle.p21_transcribe_instance.specs.declared.taken.Taken.{Taken}
-use Rattle.p21_transcribe_instance.specs.TakenValues.{LaidBefore}
+use Rattle.p21_shorter_tokens.specs.Gaps.{PassesSeparators}
+use Rattle.p21_shorter_instances.specs.Instance.{HasEntities, TakesInstance}
+use Rattle.p21_shorter_instances.specs.declared.instance.Set.{Set}
+use Rattle.p21_shorter_instances.specs.declared.instance.Set.TheVariants.{Numbered, Own}
+use Rattle.p21_shorter_instances.specs.declared.taken.Taken.{Taken}
+use Rattle.p21_shorter_instances.specs.TakenValues.{LaidBefore}
 
 -- a `#` is no separator: bytes that have one behind their separators have a byte that is none
 pub number_sign-separates : (bytes rest behind : List ℕ) → PassesSeparators bytes rest → rest ≡ 35 ∷ behind → AreSeparators bytes → ⊥

@@ -3,7 +3,7 @@ use Rattle.std.specs.Prelude.{Option, refl}
 use Rattle.std.specs.Coded.{Coded, code_by, coded×, coded_option}
 use Rattle.p21_spec_basics.specs.Limits.{Limits}
 use Rattle.p21_spec_laws.specs.Keeping.{Kept}
-use Rattle.p21_express_tables.specs.Coding.{schema_code}
+use Rattle.p21_schema.specs.Coding.{schema_code}
 use Rattle.p21_spec_schema.specs.Schema.{Schema}
 use Rattle.p21_stream_statements.specs.contracts.refusal.Refusal as refusal_row
 use Rattle.p21_stream_statements.specs.declared.refusal.Refusal.{Refusal}

@@ -34,7 +34,7 @@ pub use Rattle.p21_grammar.specs as p21_grammar
 pub use Rattle.p21_express.specs as p21_express
 pub use Rattle.p21_express_outline.specs as p21_express_outline
 pub use Rattle.p21_express_graph.specs as p21_express_graph
-pub use Rattle.p21_express_tables.specs as p21_express_tables
+pub use Rattle.p21_schema.specs as p21_schema
 pub use Rattle.p21_grammar_tree.specs as p21_grammar_tree
 pub use Rattle.p21_mapping_values.specs as p21_mapping_values
 pub use Rattle.p21_stream_statements.specs as p21_stream_statements

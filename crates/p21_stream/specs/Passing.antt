@@ -6,8 +6,8 @@ use Rattle.p21_mapping.specs.Checked.{needs_view}
 use Rattle.p21_spec_schema.specs.Schema.{Schema}
 use Rattle.p21_stream_statements.specs.PassingOver.{AreInstances}
 use Rattle.p21_stream_kept.specs.Found.{HasFound}
-use Rattle.p21_transcribe_instance.specs.Instance.{HasEntities}
-use Rattle.p21_transcribe_instance.specs.declared.taken.Taken.{Taken}
+use Rattle.p21_shorter_instances.specs.Instance.{HasEntities}
+use Rattle.p21_shorter_instances.specs.declared.taken.Taken.{Taken}
 use Rattle.p21_stream.specs.declared.passing.Passing.{Passing}
 
 -- The bytes are an instance of this name, whose set are these entities; this is its canonical text, and these are its needs

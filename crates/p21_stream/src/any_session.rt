@@ -15,7 +15,7 @@ use crate::held::Held;
 use crate::indices::Indices;
 use crate::progress::Progress;
 use p21_express_graph::Place as AttributePlace;
-use p21_express_tables::Schema;
+use p21_schema::Schema;
 use p21_stream_kept::Kept;
 use p21_stream_output::Accepted;
 use p21_stream_statements::{Expected, Fault, Place, Places, Refusal};
@@ -51,8 +51,8 @@ impl<'s> Model for AnySession<'s> {
 
     ghost use Rattle.p21_stream.specs.Bounds.{IsBounded};
     ghost use Rattle.p21_stream.specs.Inside.{held_in};
-    ghost use Rattle.p21_transcribe_instance.specs.ExternalSet.{AreExternalSets};
-    ghost use Rattle.p21_transcribe_instance.specs.Steps.{IsPlanOf};
+    ghost use Rattle.p21_shorter_instances.specs.ExternalSet.{AreExternalSets};
+    ghost use Rattle.p21_shorter_instances.specs.Steps.{IsPlanOf};
 
     ghost view = { λ a. held_in a.schema.now a.limits a.progress };
 

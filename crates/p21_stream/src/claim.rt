@@ -3,7 +3,7 @@ ghost use Rattle.p21_spec_basics.specs.Limits.{AreLimits};
 ghost use Rattle.p21_spec_schema.specs.WellFormed.{IsWellFormed};
 ghost use Rattle.p21_stream.specs.Claim.{Claim};
 
-use p21_express_tables::Schema;
+use p21_schema::Schema;
 use p21_values::Limits;
 
 /// The claim, of every schema that was read and of all limits: two files that are accepted mean the same exactly if their

@@ -13,7 +13,7 @@ use crate::claim::headline;
 use crate::indices::Indices;
 use crate::located::Located;
 use crate::read::feed_all;
-use p21_express_tables::Schema;
+use p21_schema::Schema;
 use p21_stream_io::Watched;
 use p21_stream_kept::Kept;
 use p21_stream_statements::{Expected, Fault, Place, Refusal};

@@ -6,7 +6,7 @@ use crate::any_session::AnySession;
 use crate::indices::Indices;
 use crate::located::Located;
 use crate::read::feed_all;
-use p21_express_tables::Schema;
+use p21_schema::Schema;
 use p21_stream_io::Watched;
 use p21_stream_statements::{Expected, Place, Refusal};
 use p21_values::Limits;

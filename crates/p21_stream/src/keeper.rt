@@ -12,8 +12,8 @@ ghost use Rattle.p21_stream_kept.specs.Steps.{StepKeepsBound};
 ghost use Rattle.p21_stream_kept.specs.Taking as kept_taking;
 ghost use Rattle.p21_stream.specs.Walk.{Follows, FollowsFound, Takes, TakesFound};
 
-use p21_express_tables::Schema;
 use p21_grammar::Event;
+use p21_schema::Schema;
 use p21_stream_kept::{FoundInstance, Kept, Workspace};
 use p21_stream_statements::{Fault, Refusal};
 use p21_values::Limits;

@@ -14,8 +14,8 @@ ghost use Rattle.p21_stream.specs.Survey.{EndsByRead, ListsAtMost, SurveysInput,
 ghost use Rattle.p21_stream.specs.SurveyReading.{EndsWith, FinishGives, IsExtent, IsLiveBetween, IsSurveyedFrom, IsSurveyedWhole, PieceGives, StoppedGives, StopsByRead, StopsMore, StopsSurvey, SurveysMore, stop_failures};
 ghost use Rattle.p21_stream.specs.Surveying.{StopsWithin};
 ghost use Rattle.p21_stream.specs.Walk.{StopsByBytes};
-ghost use Rattle.p21_transcribe_instance.specs.ExternalSet.{AreExternalSets};
-ghost use Rattle.p21_transcribe_instance.specs.Steps.{IsPlanOf};
+ghost use Rattle.p21_shorter_instances.specs.ExternalSet.{AreExternalSets};
+ghost use Rattle.p21_shorter_instances.specs.Steps.{IsPlanOf};
 
 use crate::keeper::Stop;
 use crate::located::Located;
@@ -23,8 +23,8 @@ use crate::read::PIECE;
 use crate::spots::Spots;
 use crate::surveying::Surveying;
 use crate::walk::{Walk, refused};
-use p21_express_tables::Schema;
 use p21_mapping_values::Need;
+use p21_schema::Schema;
 use p21_stream_io::{Watched, read_piece};
 use p21_stream_output::Accepted;
 use p21_stream_statements::{Fault, Place, Refusal};

@@ -7,19 +7,19 @@ ghost use Rattle.p21_stream_statements.specs.StatementReader.{limits_of};
 ghost use Rattle.p21_stream.specs.Passing.{FindsInstance, some_count};
 ghost use Rattle.p21_stream.specs.Walk.{EndsNoToken, IsUnderWay, NeedsNoMemory, PassGives, TakesWithinPiece};
 ghost use Rattle.p21_tokens.specs.Histories.{AreSeparators};
-ghost use Rattle.p21_transcribe_instance.specs.Instance.{HasEntities};
-ghost use Rattle.p21_transcribe_instance.specs.Steps.{IsPlanOf};
-ghost use Rattle.p21_transcribe_instance.specs.ExternalSet.{AreExternalSets};
+ghost use Rattle.p21_shorter_instances.specs.Instance.{HasEntities};
+ghost use Rattle.p21_shorter_instances.specs.Steps.{IsPlanOf};
+ghost use Rattle.p21_shorter_instances.specs.ExternalSet.{AreExternalSets};
 
 use crate::keeper::Keeper;
 use crate::spots::{bytes_of_statement, note_passed};
 use crate::walk::{Walk, refused};
 use p21_express_graph::EntityId;
-use p21_express_tables::Schema;
+use p21_schema::Schema;
+use p21_shorter_instances::{Plan, Set, Sets, Taken, take_instance};
+use p21_shorter_tokens::{Draft, behind_separators};
 use p21_stream_kept::FoundInstance;
 use p21_stream_statements::{Fault, Refusal};
-use p21_transcribe::{Draft, behind_separators};
-use p21_transcribe_instance::{Plan, Set, Sets, Taken, take_instance};
 use p21_values::{Limits, Name};
 
 /// The most bytes of a canonical line that is made so.

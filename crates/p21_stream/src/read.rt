@@ -13,7 +13,7 @@ ghost use Rattle.p21_stream.specs.Histories.{FeedGives, KeepsSchema, Stands, not
 use crate::any_session::AnySession;
 use crate::indices::Indices;
 use crate::located::Located;
-use p21_express_tables::Schema;
+use p21_schema::Schema;
 use p21_stream_io::{Watched, read_piece};
 use p21_stream_output::Accepted;
 use p21_stream_statements::{Expected, Fault, Place, Refusal};

@@ -9,7 +9,7 @@ use crate::any_session::AnySession;
 use crate::held::Held;
 use crate::indices::Indices;
 use p21_express_graph::Place as AttributePlace;
-use p21_express_tables::Schema;
+use p21_schema::Schema;
 use p21_stream_output::Accepted;
 use p21_stream_statements::{Expected, Fault, Place, Places, Refusal};
 use p21_values::Limits;

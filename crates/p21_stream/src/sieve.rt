@@ -39,9 +39,9 @@ ghost use Rattle.p21_stream.specs.Unserved.{ListsUnserved};
 
 use crate::spots::Spots;
 use crate::unserved::list_unserved;
-use p21_express_tables::Schema;
 use p21_grammar::Event;
 use p21_grammar_tree::Record;
+use p21_schema::Schema;
 use p21_stream_kept::{FoundInstance, Kept, Workspace};
 use p21_stream_statements::{At, Fault, Refusal};
 use p21_values::{Limits, Name, NoMemory};

@@ -11,8 +11,8 @@ use crate::placing::{attribute_of, elements_of, inside, place_of};
 use p21_express_graph::Place as AttributePlace;
 use p21_mapping::Trail;
 use p21_mapping_values::Need;
+use p21_shorter_tokens::behind_separators;
 use p21_stream_statements::{Expected, Place, Refusal, Source, StatementReader};
-use p21_transcribe::behind_separators;
 use std::alloc::Global;
 
 /// Where a refusal stands.

@@ -16,9 +16,9 @@ ghost use Rattle.p21_stream.specs.Surveying.{IsFull, IsKeptOf, IsLeftOf};
 
 use crate::keeper::Keeper;
 use crate::sieve::Sieve;
-use p21_express_tables::Schema;
 use p21_grammar::Event;
 use p21_mapping::{KnownEntities, Trail, check_owned_record};
+use p21_schema::Schema;
 use p21_stream_kept::{FoundInstance, Workspace};
 use p21_stream_statements::{Fault, Refusal};
 use p21_values::{Limits, Name};

@@ -12,7 +12,7 @@ use crate::claim::headline;
 use crate::indices::Indices;
 use crate::located::Located;
 use crate::session::Session;
-use p21_express_tables::Schema;
+use p21_schema::Schema;
 use p21_stream_io::Watched;
 use p21_stream_output::Accepted;
 use p21_stream_statements::{Expected, Fault, Place, Refusal};

@@ -11,7 +11,7 @@ ghost use Rattle.p21_stream_kept.specs.Judgements.{AnswersNeedOf};
 ghost use Rattle.p21_stream.specs.Unserved.{AddsRefusal, ListsUnserved};
 
 use crate::spots::Spots;
-use p21_express_tables::Schema;
+use p21_schema::Schema;
 use p21_stream_kept::{Kept, Reference};
 use p21_stream_statements::{At, Fault, Refusal};
 use p21_values::NoMemory;

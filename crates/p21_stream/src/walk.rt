@@ -12,16 +12,16 @@ ghost use Rattle.p21_spec_schema.specs.Schema.{Schema as Meant};
 ghost use Rattle.p21_stream_statements.specs.Source.{IsOfBytes};
 ghost use Rattle.p21_stream_statements.specs.StatementReader.{IsLive, limits_of, nothing_read};
 ghost use Rattle.p21_stream.specs.Walk.{EndsNoToken, IsUnderWay, NeedsNoMemory, ReadGives, ReadPlaces, ReadStops, StaysOpen, StepGives, StepPlaces, StepStops, StopNeedsNoMemory, StopsByBytes, StopsWhere, TakesWithinPiece};
-ghost use Rattle.p21_transcribe_instance.specs.ExternalSet.{AreExternalSets};
-ghost use Rattle.p21_transcribe_instance.specs.Steps.{IsPlanOf};
+ghost use Rattle.p21_shorter_instances.specs.ExternalSet.{AreExternalSets};
+ghost use Rattle.p21_shorter_instances.specs.Steps.{IsPlanOf};
 
 use crate::keeper::{Keeper, Stop};
 use crate::spots::{Spots, note_listed};
-use p21_express_tables::Schema;
 use p21_grammar::Event;
+use p21_schema::Schema;
+use p21_shorter_instances::{Plan, Sets, Taken};
 use p21_stream_kept::Workspace;
 use p21_stream_statements::{At, Fault, Refusal, Source, StatementReader};
-use p21_transcribe_instance::{Plan, Sets, Taken};
 use p21_values::{Limits, Name};
 use std::alloc::Global;
 

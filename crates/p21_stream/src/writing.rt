@@ -8,7 +8,7 @@ use crate::claim::headline;
 use crate::indices::Indices;
 use crate::located::Located;
 use crate::read::accept_located;
-use p21_express_tables::Schema;
+use p21_schema::Schema;
 use p21_stream_io::Watched;
 use p21_stream_statements::{Expected, Refusal};
 use p21_values::Limits;

@@ -6,10 +6,10 @@ ghost use Rattle.p21_stream_kept.specs.Found.{FindsInstance};
 use crate::workspace::Workspace;
 use p21_canon::write_record;
 use p21_express_graph::EntityId;
-use p21_express_tables::Schema;
 use p21_grammar_tree::Record;
 use p21_mapping::check_owned_record;
 use p21_mapping_values::{Ids, Need};
+use p21_schema::Schema;
 use p21_stream_statements::Fault;
 use p21_values::Name;
 

@@ -17,9 +17,9 @@ ghost use Rattle.p21_mapping_values.specs.TypedView.{ids_view};
 ghost use Rattle.p21_stream_kept.specs.Servers.{Remembers};
 
 use p21_express_graph::{EntityId, Member};
-use p21_express_tables::Schema;
 use p21_mapping::serves;
 use p21_mapping_values::Need;
+use p21_schema::Schema;
 use p21_values::NoMemory;
 use std::alloc::Global;
 use std::collections::BTreeMap;

@@ -23,7 +23,7 @@ use crate::kept::Reference;
 use crate::served::{drop_served, learn_waiting};
 use crate::servers::Servers;
 use crate::stored::Stored;
-use p21_express_tables::Schema;
+use p21_schema::Schema;
 use p21_values::NoMemory;
 use std::alloc::Global;
 

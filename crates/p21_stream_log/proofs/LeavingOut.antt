@@ -24,7 +24,7 @@ use Rattle.p21_stream_resume.specs.Standing.{FindsInString, StandsInString}
 use Rattle.p21_stream_resume.specs.declared.signpost.Signpost as code
 use Rattle.p21_tokens_automaton.proofs.OnePending.{begins-no_separator}
 use Rattle.p21_tokens_automaton.specs.Reading.{State}
-use Rattle.p21_transcribe.specs.Gaps.{PassesSeparators}
+use Rattle.p21_shorter_tokens.specs.Gaps.{PassesSeparators}
 
 -- ---- where a statement begins
 

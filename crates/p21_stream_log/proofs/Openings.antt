@@ -10,7 +10,7 @@ use Rattle.p21_stream_log.specs.Log.{Held}
 use Rattle.p21_stream_log.specs.Opening.{IsFrontOfAll, MayBecome, OpensAs}
 use Rattle.p21_stream_log.specs.declared.opening.Opening.TheVariants.{SectionEnd, Statement, Untold}
 use Rattle.p21_tokens_automaton.proofs.OnePending.{begins-no_separator}
-use Rattle.p21_transcribe.specs.Gaps.{PassesSeparators}
+use Rattle.p21_shorter_tokens.specs.Gaps.{PassesSeparators}
 
 pub not-true : (let r : Bool = false in r) ≡ true → ⊥
 not-true is = cc

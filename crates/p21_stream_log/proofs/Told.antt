@@ -27,7 +27,7 @@ use Rattle.p21_stream_log.proofs.InSection.{data-stage}
 use Rattle.p21_stream_log.proofs.Taking.{tokens-append}
 use Rattle.p21_stream_log.specs.Laws.{RefusedIsTold}
 use Rattle.p21_stream_log.specs.Opening.{MayBecome}
-use Rattle.p21_transcribe.specs.Gaps.{PassesSeparators}
+use Rattle.p21_shorter_tokens.specs.Gaps.{PassesSeparators}
 
 -- ---- a remark that isn't ended
 

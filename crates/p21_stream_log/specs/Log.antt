@@ -24,7 +24,7 @@ use Rattle.p21_stream_statements.specs.StatementReader as statements
 use Rattle.p21_stream_statements.specs.StatementReader.{IsSeenAt, RefusesWithin, StatementHistory, limits_of}
 use Rattle.p21_stream_statements.specs.declared.fault.Fault.{Fault}
 use Rattle.p21_stream_statements.specs.declared.fault.Fault.TheVariants.{NoMemory}
-use Rattle.p21_transcribe.specs.Gaps.{PassesSeparators}
+use Rattle.p21_shorter_tokens.specs.Gaps.{PassesSeparators}
 
 -- what is held: what the reader of statements holds, where the open statement may begin, its bytes, and whether a signpost may stand there
 pub record Held : Type 0 where

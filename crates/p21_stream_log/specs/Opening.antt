@@ -5,7 +5,7 @@ use Rattle.p21_spec_exchange.specs.Separator.{IsSeparatorText}
 use Rattle.p21_spec_survey.specs.Survey.{BeginsWithEnd}
 use Rattle.p21_stream_log.specs.declared.opening.Opening.{Opening}
 use Rattle.p21_stream_log.specs.declared.opening.Opening.TheVariants.{SectionEnd, Statement, Untold}
-use Rattle.p21_transcribe.specs.Gaps.{PassesSeparators}
+use Rattle.p21_shorter_tokens.specs.Gaps.{PassesSeparators}
 
 -- behind separators something else begins, whatever stands behind the bytes
 pub record IsBegun (bytes : List ℕ) : Type 0 where

@@ -1,7 +1,7 @@
 ghost use Rattle.std.specs.Prelude.{◌≡◌, ◌↔◌, ◌++◌, IsTrue, List, ℕ};
 ghost use Rattle.p21_stream_log.specs.Opening.{OpensAs};
 
-use p21_transcribe::behind_separators;
+use p21_shorter_tokens::behind_separators;
 
 /// How bytes behind a statement begin, separators apart.
 #[derive(Clone, Copy, Debug, PartialEq, Eq)]

@@ -7,7 +7,7 @@ ghost use Rattle.p21_express_graph.specs.Meaning.{place as place_of};
 
 use p21_express::{SchemaFault, read_schema};
 use p21_express_graph::{EntityId, Place, TypeId};
-use p21_express_tables::Schema;
+use p21_schema::Schema;
 use std::alloc::Global;
 use std::fmt::Debug;
 use std::process::Abort;

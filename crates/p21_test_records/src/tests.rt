@@ -17,9 +17,9 @@ mod values;
 
 use p21_canon::write_record;
 use p21_express::read_schema;
-use p21_express_tables::Schema;
 use p21_grammar::{Event, Lexer, Limits, Name, Parser, Record, Token};
 use p21_mapping::{CheckFault, Trail, check_owned_record, check_record};
+use p21_schema::Schema;
 use std::alloc::Global;
 use std::process::Abort;
 

@@ -4,7 +4,7 @@ use super::{
 };
 use p21_express::SchemaFault;
 use p21_express_graph::EntityId;
-use p21_express_tables::Schema;
+use p21_schema::Schema;
 use std::alloc::Global;
 
 const DIAMOND: &str = "SCHEMA diamond;

@@ -5,7 +5,7 @@ use super::entity_named;
 use crate::refusals::passes;
 use p21_express::read_schema;
 use p21_express_graph::{EntityId, Place};
-use p21_express_tables::Schema;
+use p21_schema::Schema;
 use std::alloc::{AllocError, Global};
 use std::fmt::Write;
 

@@ -8,7 +8,7 @@ use super::{
     place_named,
 };
 use p21_express_graph::{EntityId, Place};
-use p21_express_tables::Schema;
+use p21_schema::Schema;
 use std::alloc::Global;
 
 /// Whether a place has this name.

@@ -2,7 +2,7 @@ use super::{
     DEMO, Facts, PairFacts, Rows, Texts, Wrong, check, entity_named, is_printed, type_named,
 };
 use p21_express_graph::{Member, TypeKind, TypeUse};
-use p21_express_tables::{Base, Schema};
+use p21_schema::{Base, Schema};
 use p21_values::Word;
 use std::alloc::Global;
 

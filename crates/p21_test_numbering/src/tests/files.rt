@@ -8,9 +8,9 @@ ghost use Rattle.p21_numbering.specs.NodesOf.{HasKnownParts};
 
 use p21_express::read_schema;
 use p21_express_graph::EntityId;
-use p21_express_tables::Schema;
 use p21_mapping_values::{Ids, Rows, Typed, Value, Values};
 use p21_numbering::{Instance, Unordered, file_order, numbers_in};
+use p21_schema::Schema;
 use p21_values::Name;
 use std::alloc::{AllocError, Global};
 use std::collections::BTreeMap;

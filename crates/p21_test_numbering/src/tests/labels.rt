@@ -1,7 +1,7 @@
 use p21_express::read_schema;
-use p21_express_tables::Schema;
 use p21_mapping_values::{Ids, Rows, Typed};
 use p21_numbering::node;
+use p21_schema::Schema;
 use std::alloc::Global;
 use std::rt::HostRuntime;
 

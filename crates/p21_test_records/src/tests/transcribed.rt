@@ -1,6 +1,6 @@
 use super::schemas::DEMO;
 use super::*;
-use p21_transcribe_instance::{Plan, Set, Sets, Taken, take_instance};
+use p21_shorter_instances::{Plan, Set, Sets, Taken, take_instance};
 
 /// No canonical line here has more bytes.
 const ROOM: usize = 64;

@@ -1,6 +1,6 @@
 //! Tokens taken straight from their bytes to their canonical spellings, and what stands around them.
 
-use p21_transcribe::{
+use p21_shorter_tokens::{
     Draft, append_bits, append_item, append_keyword, append_logical, append_name, append_real,
     append_text, append_whole, behind_separators, leading_keyword,
 };

@@ -2,7 +2,7 @@ use Rattle.std.specs.Prelude.{ℕ, List, Contains}
 use Rattle.std.proofs.Common.{arith, sym, subst, get_or}
 use Rattle.p21_spec_schema.specs.Declared.{HasSupertype}
 use Rattle.p21_spec_schema.specs.Supertype.{itself, above}
-use Rattle.p21_express_tables.proofs.Ascents.{climbs}
+use Rattle.p21_schema.proofs.Ascents.{climbs}
 use Rattle.p21_express_graph.proofs.Gatherings.{numbered-at}
 use Rattle.p21_express_graph.proofs.Lookups.{each-number, up-to}
 use Rattle.p21_mapping.proofs.members.is_closed.Goals as goal

@@ -1,7 +1,7 @@
 use Rattle.std.proofs.Common.{◌≡◌, ◌≤◌, ◌<◌, ◌+◌, length}
 use Rattle.p21_stream.proofs.SurveyFeeding.{InLoop}
-use Rattle.p21_transcribe_instance.specs.ExternalSet.{AreExternalSets}
-use Rattle.p21_transcribe_instance.specs.Steps.{IsPlanOf}
+use Rattle.p21_shorter_instances.specs.ExternalSet.{AreExternalSets}
+use Rattle.p21_shorter_instances.specs.Steps.{IsPlanOf}
 use Rattle.p21_stream.proofs.listing.read_all.Given as goal
 
 abbrev pub invariant-loop-count : goal.invariant-loop-count

@@ -11,7 +11,7 @@ use Rattle.p21_stream.specs.Sifting.{HaveNames}
 use Rattle.p21_stream.specs.declared.listing.Surveyed.{Surveyed}
 use Rattle.p21_stream.specs.declared.sieve.Sieve.{Sieve}
 use Rattle.p21_stream.specs.declared.surveying.Surveying.{Surveying}
-use Rattle.p21_transcribe_instance.specs.ExternalSet.{AreExternalSets}
+use Rattle.p21_shorter_instances.specs.ExternalSet.{AreExternalSets}
 use Rattle.p21_stream.proofs.listing.survey_into.Goals as goal
 
 pub read_all-requires-clause-new : goal.read_all-requires-clause-new

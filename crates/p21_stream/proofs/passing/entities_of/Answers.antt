@@ -3,8 +3,8 @@ use Rattle.p21_express_graph.specs.Orders.{numbers}
 use Rattle.p21_express_graph.specs.Rising.{IsOwnRising}
 use Rattle.p21_express_graph.specs.declared.number.EntityId.{EntityId}
 use Rattle.p21_mapping_values.specs.TypedView.{ids_view}
-use Rattle.p21_transcribe_instance.specs.Instance.{HasEntities}
-use Rattle.p21_transcribe_instance.specs.declared.instance.Set.{Set}
+use Rattle.p21_shorter_instances.specs.Instance.{HasEntities}
+use Rattle.p21_shorter_instances.specs.declared.instance.Set.{Set}
 use Rattle.p21_stream.proofs.passing.entities_of.Goals as goal
 
 pub returns-in_ok-row-in-Own : goal.returns-in_ok-row-in-Own

@@ -1,7 +1,7 @@
 use Rattle.std.proofs.Common.{arith}
 use Rattle.p21_spec_exchange.specs.Statement.{instance, statement_tokens}
 use Rattle.p21_stream.proofs.Passed.{found-in}
-use Rattle.p21_transcribe_instance.proofs.Laid.{laid-shorter}
+use Rattle.p21_shorter_instances.proofs.Laid.{laid-shorter}
 use Rattle.p21_stream.proofs.passing.find.Goals as goal
 
 pub returns-clause-found : goal.returns-clause-found

@@ -1,7 +1,7 @@
 use Rattle.std.specs.Prelude.{◌≡◌, ℕ, List, Option, Some, slice_get}
 use Rattle.std.proofs.Common.{arith, subst, sym}
 use Rattle.p21_express.specs.AttributeNames.{IsKept}
-use Rattle.p21_express_tables.proofs.Numbered.{each-more}
+use Rattle.p21_schema.proofs.Numbered.{each-more}
 use Rattle.p21_express.proofs.attribute_names.AttributeNames.of.Goals as goal
 
 pub loop-number-preserved : goal.loop-number-preserved

@@ -1,6 +1,6 @@
 use Rattle.std.proofs.Common.{subst, sym}
 use Rattle.p21_stream.proofs.PieceFeeding.{bounded-new, nothing-is, stands-new}
-use Rattle.p21_transcribe_instance.specs.ExternalSet.{AreExternalSets}
+use Rattle.p21_shorter_instances.specs.ExternalSet.{AreExternalSets}
 use Rattle.p21_stream.proofs.any_session.AnySession.start.Goals as goal
 
 pub invariant_of-result : goal.invariant_of-result

@@ -2,8 +2,8 @@ use Rattle.std.proofs.Common.{subst, sym}
 use Rattle.p21_spec_schema.specs.Schema.{Schema}
 use Rattle.p21_stream.specs.Bounds.{IsBounded}
 use Rattle.p21_stream.specs.Inside.{held_in}
-use Rattle.p21_transcribe_instance.specs.ExternalSet.{AreExternalSets}
-use Rattle.p21_transcribe_instance.specs.Steps.{IsPlanOf}
+use Rattle.p21_shorter_instances.specs.ExternalSet.{AreExternalSets}
+use Rattle.p21_shorter_instances.specs.Steps.{IsPlanOf}
 use Rattle.p21_stream.proofs.shared.SharedSession.feed.Goals as goal
 
 pub feed-requires-clause-plan : goal.feed-requires-clause-plan

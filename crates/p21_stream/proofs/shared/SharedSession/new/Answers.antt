@@ -3,7 +3,7 @@ use Rattle.p21_spec_laws.specs.Keeping.{Kept}
 use Rattle.p21_spec_laws.specs.Stored.{with_lines}
 use Rattle.std.specs.Arc.{arc_value}
 use Rattle.p21_stream.proofs.PieceFeeding.{bounded-new, stands-new}
-use Rattle.p21_transcribe_instance.specs.ExternalSet.{AreExternalSets}
+use Rattle.p21_shorter_instances.specs.ExternalSet.{AreExternalSets}
 use Rattle.p21_stream.proofs.shared.SharedSession.new.Goals as goal
 
 pub invariant_of-result : goal.invariant_of-result

@@ -5,8 +5,8 @@ use Rattle.p21_stream_statements.specs.Place.{place_behind}
 use Rattle.p21_stream_statements.specs.StatementReader.{limits_of}
 use Rattle.p21_stream.proofs.Walking.{as-before, none-of_reader}
 use Rattle.p21_stream.specs.Walk.{EndsNoToken, IsUnderWay, NeedsNoMemory, PassGives, StepGives, StepPlaces, StepStops, TakesWithinPiece}
-use Rattle.p21_transcribe_instance.specs.ExternalSet.{AreExternalSets}
-use Rattle.p21_transcribe_instance.specs.Steps.{IsPlanOf}
+use Rattle.p21_shorter_instances.specs.ExternalSet.{AreExternalSets}
+use Rattle.p21_shorter_instances.specs.Steps.{IsPlanOf}
 use Rattle.p21_stream.proofs.walk.Walk.advance.Goals as goal
 
 pub step-requires-clause-way : goal.step-requires-clause-way

@@ -1,7 +1,7 @@
 use Rattle.std.proofs.Common.{◌-◌, ◌^◌}
 use Rattle.p21_stream.proofs.Walking.{IsRest}
-use Rattle.p21_transcribe_instance.specs.ExternalSet.{AreExternalSets}
-use Rattle.p21_transcribe_instance.specs.Steps.{IsPlanOf}
+use Rattle.p21_shorter_instances.specs.ExternalSet.{AreExternalSets}
+use Rattle.p21_shorter_instances.specs.Steps.{IsPlanOf}
 use Rattle.p21_stream.proofs.walk.Walk.read.Given as goal
 
 -- what the rest gives, the piece gives

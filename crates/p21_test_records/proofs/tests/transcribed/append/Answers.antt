@@ -1,5 +1,5 @@
 use Rattle.std.proofs.Common.{sym, subst}
-use Rattle.p21_transcribe_instance.specs.ExternalSet.{AreExternalSets}
+use Rattle.p21_shorter_instances.specs.ExternalSet.{AreExternalSets}
 use Rattle.p21_test_records.proofs.tests.transcribed.append.Goals as goal
 
 pub take_instance-requires-clause-plan : goal.take_instance-requires-clause-plan

@@ -1,5 +1,0 @@
-use Rattle.p21_express_tables.proofs.HeldLists.{notes}
-use Rattle.p21_express_tables.proofs.holders.Holders.note.Goals as goal
-
-pub returns : goal.returns
-returns c = notes c.args.self.now.of_lists.items c.args.list record { set = c.args.set; entity = c.args.entity } c.requires

@@ -1,7 +1,0 @@
-use Rattle.std.proofs.Common.{sym, ◌∙◌}
-use Rattle.p21_express_graph.specs.Meaning.{place}
-use Rattle.p21_express_tables.proofs.Places.{finds-option}
-use Rattle.p21_express_tables.proofs.place_positions.PlacePositions.find.Goals as goal
-
-pub returns : goal.returns
-returns c places is = finds-option c.args.self.now.found places is (place c.args.place) c.copied.result (sym (c.copied.ensures ∙ c.get.ensures.value))

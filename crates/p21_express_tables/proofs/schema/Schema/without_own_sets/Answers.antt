@@ -1,4 +1,0 @@
-use Rattle.p21_express_tables.proofs.schema.Schema.without_own_sets.Goals as goal
-
-pub invariant_of-result : goal.invariant_of-result
-invariant_of-result c = (c.requires.holds_together, c.requires.named, c.in_ok-tables.ensures)

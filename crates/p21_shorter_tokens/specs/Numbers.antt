@@ -1,0 +1,46 @@
+-- Reals, and whole numbers where a NUMBER may stand.
+use Rattle.std.specs.Prelude.{◌≡◌, ℕ, ◌^◌, ◌<◌, ℤ, nat_abs, Bool, true, false, List, [], ◌∷◌, ◌++◌, Ok, Some, if◌then◌else◌}
+use Rattle.p21_spec_exchange.specs.Number.{Decimal, Exponent, IsExponentInRange, IsReduced, IsInRange, Ratio, SameRatio, ratio_of, whole_ratio}
+use Rattle.p21_spec_exchange.specs.Spelling.{exponent_spelling, spelling}
+use Rattle.p21_spec_exchange.specs.Token.{real, whole}
+use Rattle.p21_values.specs.Canonical.{Continues}
+use Rattle.p21_values.specs.Decimal.{ReducesRatio}
+use Rattle.p21_scan.specs.Digits.{BeginsWithoutByte, WithoutTrailingZeros}
+use Rattle.p21_scan.specs.Number.{IsExponentAt, ReadsExponent}
+use Rattle.p21_values.specs.Stored.{significand_spelling}
+use Rattle.p21_shorter_tokens.specs.LeadingToken.{IsLeadingToken, Transcribes}
+
+-- A real stands at the front, and its canonical spelling is appended. Where whole numbers may stand too, as at a NUMBER
+-- (ISO 10303-21, mapping of EXPRESS data types), one may stand there, and the real of the same ratio is written
+pub data TranscribesNumber (wholes : Bool) (bytes : List ℕ) (count : ℕ) (old new : List ℕ) : Type 0 where
+  a_real : (d : Decimal) → Transcribes bytes count (real d) old new → TranscribesNumber wholes bytes count old new
+  a_whole : (z : ℤ) (d : Decimal) → wholes ≡ true → IsLeadingToken bytes count (whole z) → IsReduced d → IsInRange (ratio_of d) → SameRatio (ratio_of d) (whole_ratio z) → new ≡ old ++ spelling (real d)
+      → TranscribesNumber wholes bytes count old new
+
+-- the canonical spelling of the number of this ratio is appended, or a part of it
+abbrev pub AppendsNumber : Bool → Ratio → List ℕ → List ℕ → Type 0
+AppendsNumber true ratio old new = (d : Decimal) × ReducesRatio ratio (Ok d) × (new ≡ old ++ spelling (real d))
+AppendsNumber false ratio old new = Continues old new
+
+-- a minus or none, the digits without the zeros at the end, the first of them before the point
+abbrev pub signed_significand : Bool → List ℕ → List ℕ
+signed_significand negative digits = (if negative then 45 ∷ [] else []) ++ significand_spelling digits
+
+-- digits without the zeros at their end are appended so, with this exponent, or a part of that
+abbrev pub AppendsNormalised : Bool → Bool → List ℕ → ℤ → List ℕ → List ℕ → Type 0
+AppendsNormalised true negative digits exponent old new =
+    (kept : List ℕ) × WithoutTrailingZeros digits kept × IsExponentInRange exponent × (new ≡ old ++ (signed_significand negative kept ++ exponent_spelling exponent))
+AppendsNormalised false negative digits exponent old new = Continues old new
+
+-- the same with no exponent
+abbrev pub AppendsWithoutExponent : Bool → Bool → List ℕ → List ℕ → List ℕ → Type 0
+AppendsWithoutExponent true negative digits old new = (kept : List ℕ) × WithoutTrailingZeros digits kept × (new ≡ old ++ signed_significand negative kept)
+AppendsWithoutExponent false negative digits old new = Continues old new
+
+-- an exponent or none, of this value, and behind it what doesn't go on with the real
+pub record EndsReal (bytes : List ℕ) (value : ℤ) (rest : List ℕ) : Type 0 where
+  pub power : Exponent
+  pub power_at : IsExponentAt bytes power rest
+  pub value_is : ReadsExponent power (Some value)
+  pub small : nat_abs value < 10 ^ 9
+  pub no_exponent : BeginsWithoutByte 69 rest

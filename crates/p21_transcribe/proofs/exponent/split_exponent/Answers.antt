@@ -1,5 +1,0 @@
-use Rattle.p21_transcribe.proofs.ExponentParts.{no_exponent-ends}
-use Rattle.p21_transcribe.proofs.exponent.split_exponent.Goals as goal
-
-pub returns : goal.returns
-returns c = no_exponent-ends c.args.bytes.now c.requires (c.begins_exponent.ensures.0 c.if-begins_exponent.false)

@@ -1,6 +1,0 @@
-use Rattle.std.proofs.Common.{refl}
-use Rattle.p21_transcribe.proofs.LeadingTokens.{scanned}
-use Rattle.p21_transcribe.proofs.keyword.leading_keyword.Goals as goal
-
-pub returns : goal.returns
-returns c = scanned c.args.bytes.now _ _ _ c.in_ok-word.ensures.some refl

@@ -1,5 +1,0 @@
-use Rattle.p21_transcribe.proofs.WideWrites.{written-front}
-use Rattle.p21_transcribe.proofs.significand.write_narrow.Goals as goal
-
-pub returns-clause-front : goal.returns-clause-front
-returns-clause-front c = λ count short. written-front c.args.room.now c.args.bytes.now c.args.at 16 count c.requires.bytes c.requires.room short

@@ -1,6 +1,0 @@
-use Rattle.std.proofs.Common.{◌≤◌}
-use Rattle.p21_transcribe_instance.proofs.ahead.behind_parameters.Given as goal
-
--- each parenthesis that is open stood before
-abbrev pub invariant-loop-at : goal.invariant-loop-at
-invariant-loop-at l = l.open ≤ l.at

@@ -1,6 +1,0 @@
-use Rattle.std.proofs.lemmas.Bool.{eqb-true}
-use Rattle.p21_transcribe_instance.proofs.Keywords.{whole-keyword}
-use Rattle.p21_transcribe_instance.proofs.keyword.is_keyword.Goals as goal
-
-pub returns-in-Some : goal.returns-in-Some
-returns-in-Some c = λ same. whole-keyword c.args.bytes.now c.in-Some.word.now c.in-Some.ensures (eqb-true _ _ same)

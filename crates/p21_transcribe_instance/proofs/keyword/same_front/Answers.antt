@@ -1,6 +1,0 @@
-use Rattle.std.proofs.Common.{ℕ, ◌≤◌, subst}
-use Rattle.p21_transcribe_instance.proofs.KeywordRows.{fronts-masked}
-use Rattle.p21_transcribe_instance.proofs.keyword.same_front.Goals as goal
-
-pub returns : goal.returns
-returns c = λ count before few. fronts-masked c.args.row.now c.args.bytes.now count c.told-row c.requires (subst (λ (n : ℕ). count ≤ n) c.trailing_ones.ensures before) few

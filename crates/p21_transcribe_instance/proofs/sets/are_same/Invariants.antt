@@ -1,7 +1,0 @@
-use Rattle.std.proofs.Common.{◌≡◌, take}
-use Rattle.p21_express_graph.specs.Orders.{numbers}
-use Rattle.p21_transcribe_instance.proofs.sets.are_same.Given as goal
-
--- those so far are the same
-abbrev pub invariant-loop-at : goal.invariant-loop-at
-invariant-loop-at l = numbers (take l.at l.entities) ≡ numbers (take l.at l.others)
