@@ -6,8 +6,8 @@ mod param;
 mod places;
 mod reopened;
 mod runs;
+mod shorter;
 mod texts;
-mod transcribed;
 
 use p21_tokens::{Absent, Canonical, Lexer, Limits, Token, TokenFault};
 use std::alloc::Global;
