@@ -19,15 +19,15 @@ use Rattle.p21_stream_statements.specs.Fault.{fault_number, fault_of_check}
 use Rattle.p21_stream_statements.specs.declared.fault.Fault.{Fault}
 use Rattle.p21_stream_statements.specs.declared.fault.Fault.TheVariants.{Check, NoMemory}
 use Rattle.p21_stream_statements.specs.declared.refusal.Refusal.{Refusal}
-use Rattle.p21_stream.proofs.SieveEnding.{ends-dead}
-use Rattle.p21_stream.proofs.SieveTaking.{alone-gives, listed-or_ended}
+use Rattle.p21_stream_sieve.proofs.SieveEnding.{ends-dead}
+use Rattle.p21_stream_sieve.proofs.SieveTaking.{alone-gives, listed-or_ended}
 use Rattle.p21_stream.specs.Bounds.{IsNothingLeft}
-use Rattle.p21_stream.specs.Sifting.{AreSifted}
-use Rattle.p21_stream.specs.SieveSteps as sieve_steps
-use Rattle.p21_stream.specs.SieveSteps.{HasCome, IsRefusedAlone, ListsOne, ListsOrEnds}
+use Rattle.p21_stream_sieve.specs.Sifting.{AreSifted}
+use Rattle.p21_stream_sieve.specs.SieveSteps as sieve_steps
+use Rattle.p21_stream_sieve.specs.SieveSteps.{HasCome, IsRefusedAlone, ListsOne, ListsOrEnds}
 use Rattle.p21_stream.specs.Surveying.{IsFull, IsKeptOf, IsLeftOf}
 use Rattle.p21_stream.specs.Walk.{Follows, FollowsFound, Takes}
-use Rattle.p21_stream.specs.declared.sieve.Sieve.{Sieve}
+use Rattle.p21_stream_sieve.specs.declared.sieve.Sieve.{Sieve}
 use Rattle.p21_stream.specs.declared.surveying.Surveying.{Surveying}
 
 -- ---- a session

@@ -15,8 +15,3 @@ pub mod Texts
 pub mod Keepers
 pub mod SurveyFeeding
 pub mod SurveyEnding
-pub mod RefusedNames
-pub mod Sifted
-pub mod SieveTaking
-pub mod UnservedListing
-pub mod SieveEnding

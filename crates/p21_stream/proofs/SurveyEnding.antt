@@ -42,11 +42,11 @@ use Rattle.p21_stream_statements.specs.declared.fault.Fault.TheVariants.{Canonic
 use Rattle.p21_stream_statements.specs.declared.refusal.Refusal.{Refusal}
 use Rattle.p21_stream_statements.specs.StatementReader as statements
 use Rattle.p21_stream_statements.specs.StatementReader.{StatementHistory}
-use Rattle.p21_stream.proofs.Sifted.{all-passed, each-answered, refused-dead, refusals-of_instances}
-use Rattle.p21_stream.specs.Sifting.{HasRefusal, HaveNames, IsOfInstance, Sifts, at_instance}
-use Rattle.p21_stream.specs.declared.sieve.Sieve.{Sieve}
-use Rattle.p21_stream.specs.Unserved as unserved
-use Rattle.p21_stream.specs.Unserved.{IsRefusalOf}
+use Rattle.p21_stream_sieve.proofs.Sifted.{all-passed, each-answered, refused-dead, refusals-of_instances}
+use Rattle.p21_stream_sieve.specs.Sifting.{HasRefusal, HaveNames, IsOfInstance, Sifts, at_instance}
+use Rattle.p21_stream_sieve.specs.declared.sieve.Sieve.{Sieve}
+use Rattle.p21_stream_sieve.specs.Unserved as unserved
+use Rattle.p21_stream_sieve.specs.Unserved.{IsRefusalOf}
 use Rattle.p21_stream.proofs.Checking.{records-mean}
 use Rattle.p21_stream.proofs.Ending.{end-accepted, tokens-laid, whole-kept}
 use Rattle.p21_stream.proofs.Feeding.{refused-by}

@@ -16,7 +16,7 @@ use Rattle.p21_spec_schema.specs.Schema.{Schema}
 use Rattle.p21_stream_statements.specs.declared.refusal.Refusal.{Refusal}
 use Rattle.p21_stream_statements.specs.StatementReader as statements
 use Rattle.p21_stream_statements.specs.StatementReader.{StatementHistory, nothing_read}
-use Rattle.p21_stream.specs.Sifting.{AreSifted, HaveNames, none}
+use Rattle.p21_stream_sieve.specs.Sifting.{AreSifted, HaveNames, none}
 use Rattle.p21_stream.proofs.Feeding.{dead-piece, each-byte, refused-by}
 use Rattle.p21_stream.proofs.Within.{source-within}
 use Rattle.p21_stream.specs.Feeding.{TakesAtMost}

@@ -18,9 +18,6 @@ pub mod Surveying
 pub mod SurveyKeeping
 pub mod SurveyReading
 pub mod Survey
-pub mod Sifting
-pub mod SieveSteps
-pub mod Unserved
 pub mod Listed
 -- What the clauses of its calls cite, for callers who name this crate alone
 pub use Rattle.p21_spec_basics.specs as p21_spec_basics
@@ -39,6 +36,7 @@ pub use Rattle.p21_grammar_tree.specs as p21_grammar_tree
 pub use Rattle.p21_mapping_values.specs as p21_mapping_values
 pub use Rattle.p21_stream_statements.specs as p21_stream_statements
 pub use Rattle.p21_stream_kept.specs as p21_stream_kept
+pub use Rattle.p21_stream_sieve.specs as p21_stream_sieve
 pub use Rattle.p21_stream_io.specs as p21_stream_io
 pub use Rattle.p21_stream_store.specs as p21_stream_store
 pub use Rattle.p21_stream_output.specs as p21_stream_output

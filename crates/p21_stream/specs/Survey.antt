@@ -22,7 +22,7 @@ use Rattle.p21_stream.specs.declared.listing.Surveyed.TheVariants as survey
 use Rattle.p21_stream_statements.specs.Fault.{fault_number}
 use Rattle.p21_stream_statements.specs.declared.fault.Fault.TheVariants.{Read}
 use Rattle.p21_stream_statements.specs.declared.refusal.Refusal.{Refusal}
-use Rattle.p21_stream.specs.Sifting.{AreSifted, HasRefusal, at_instance}
+use Rattle.p21_stream_sieve.specs.Sifting.{AreSifted, HasRefusal, at_instance}
 
 -- The refusal is of a reference of one of these instances: no instance of its target's name was refused, and either no instance
 -- has the name or the one that has it doesn't serve

@@ -9,7 +9,7 @@ use Rattle.p21_stream_statements.specs.declared.fault.Fault.TheVariants.{NoMemor
 use Rattle.p21_stream_statements.specs.declared.refusal.Refusal.{Refusal}
 use Rattle.p21_stream_statements.specs.StatementReader as statements
 use Rattle.p21_stream_statements.specs.StatementReader.{StatementHistory}
-use Rattle.p21_stream.specs.Sifting.{AreSifted, Sifts}
+use Rattle.p21_stream_sieve.specs.Sifting.{AreSifted, Sifts}
 use Rattle.p21_stream.specs.Walk as walk
 use Rattle.p21_stream.specs.declared.keeper.Stop.{Stop}
 use Rattle.p21_stream.specs.declared.keeper.Stop.TheVariants.{Most, Refused}

@@ -10,12 +10,12 @@ ghost use Rattle.p21_stream.specs.ReaderInput.{ConsumesAtMost, IsWholeInput, Ref
 
 use crate::any_session::AnySession;
 use crate::claim::headline;
-use crate::indices::Indices;
 use crate::located::Located;
 use crate::read::feed_all;
 use p21_schema::Schema;
 use p21_stream_io::Watched;
 use p21_stream_kept::Kept;
+use p21_stream_sieve::Indices;
 use p21_stream_statements::{Expected, Fault, Place, Refusal};
 use p21_values::Limits;
 use std::alloc::Global;

@@ -3,11 +3,11 @@ ghost use Rattle.std.specs.Prelude.{◌≡◌, ◌≤◌, ◌+◌, IfErr, IfOk, 
 ghost use Rattle.p21_stream.specs.ReaderInput.{ConsumesAtMost, IsCountedInput, RefusesRead, read_failures};
 
 use crate::any_session::AnySession;
-use crate::indices::Indices;
 use crate::located::Located;
 use crate::read::feed_all;
 use p21_schema::Schema;
 use p21_stream_io::Watched;
+use p21_stream_sieve::Indices;
 use p21_stream_statements::{Expected, Place, Refusal};
 use p21_values::Limits;
 use std::alloc::Global;

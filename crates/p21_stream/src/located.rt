@@ -1,5 +1,5 @@
-use crate::indices::Indices;
 use p21_express_graph::Place as AttributePlace;
+use p21_stream_sieve::Indices;
 use p21_stream_statements::{Expected, Place, Refusal};
 
 /// Why a file is refused, and where in it this stands.

@@ -12,7 +12,7 @@ ghost use Rattle.p21_shorter_instances.specs.Steps.{IsPlanOf};
 ghost use Rattle.p21_shorter_instances.specs.ExternalSet.{AreExternalSets};
 
 use crate::keeper::Keeper;
-use crate::spots::{bytes_of_statement, note_passed};
+use crate::noting::{bytes_of_statement, note_passed};
 use crate::walk::{Walk, refused};
 use p21_express_graph::EntityId;
 use p21_schema::Schema;

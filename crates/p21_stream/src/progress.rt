@@ -15,15 +15,13 @@ ghost use Rattle.p21_shorter_instances.specs.Steps.{IsPlanOf};
 
 use crate::counting::Counted;
 use crate::held::Held;
-use crate::indices::Indices;
 use crate::keeper::Stop;
-use crate::placing::{attribute_of, elements_of, inside, place_of};
-use crate::spots::Spots;
 use crate::walk::{Walk, refused};
 use p21_express_graph::Place as AttributePlace;
 use p21_schema::Schema;
 use p21_stream_kept::Kept;
 use p21_stream_output::Accepted;
+use p21_stream_sieve::{Indices, Spots, attribute_of, elements_of, inside, place_of};
 use p21_stream_statements::{Expected, Fault, Place, Places, Refusal, StatementReader};
 use p21_values::{Limits, Name};
 use std::alloc::Global;

@@ -11,11 +11,11 @@ ghost use Rattle.p21_stream.specs.Held.{limits_of, schema_of};
 ghost use Rattle.p21_stream.specs.Histories.{FeedGives, KeepsSchema, Stands, nothing_taken};
 
 use crate::any_session::AnySession;
-use crate::indices::Indices;
 use crate::located::Located;
 use p21_schema::Schema;
 use p21_stream_io::{Watched, read_piece};
 use p21_stream_output::Accepted;
+use p21_stream_sieve::Indices;
 use p21_stream_statements::{Expected, Fault, Place, Refusal};
 use p21_values::Limits;
 use std::alloc::Global;

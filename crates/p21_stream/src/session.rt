@@ -7,10 +7,10 @@ ghost use Rattle.p21_stream.specs.Inside.{held_of};
 
 use crate::any_session::AnySession;
 use crate::held::Held;
-use crate::indices::Indices;
 use p21_express_graph::Place as AttributePlace;
 use p21_schema::Schema;
 use p21_stream_output::Accepted;
+use p21_stream_sieve::Indices;
 use p21_stream_statements::{Expected, Fault, Place, Places, Refusal};
 use p21_values::Limits;
 use std::alloc::Global;

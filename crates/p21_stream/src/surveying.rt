@@ -4,22 +4,28 @@
 //! it, what is known of the entity (`KnownEntities` of p21_mapping) is asked first, and only a record that it doesn't refuse
 //! is checked the general way. A session ends with its first refusal, and has no part in it. Where places are asked for, the
 //! first records that are refused so are walked through all the same, since only the walk tells which value is refused.
+//!
+//! A `Surveying`, a `Sieve` (p21_stream_sieve) with the number of refusals that are asked for, is the other `Keeper`:
+//! `specs/Surveying` says what it keeps, and what is left of it where a refusal ends the reading (`proofs/Keepers`),
+//! `specs/SurveyReading` what a reader gives (`proofs/SurveyFeeding`, `SurveyEnding`), and `specs/Survey` what a list
+//! says. As many refusals as were asked for aren't listed before each step (`is_full` of `Keeper`), or the survey stops
+//! (`StopsWithin`, `ListsAtMost`). What `check --all` prints of a list is `specs/CheckAll` of `p21_commands` (`listed_text`).
 ghost use Rattle.std.specs.Prelude.{◌≡◌, ◌≢◌, ◌≤◌, [], IfErr, IfSome, length, true, false};
 ghost use Rattle.p21_grammar.specs.Statements.{statement_of};
 ghost use Rattle.p21_mapping.specs.Checked.{needs_view};
 ghost use Rattle.p21_mapping_values.specs.TypedView.{ids_view};
 ghost use Rattle.p21_spec_laws.specs.Keeping.{nothing_kept};
 ghost use Rattle.p21_stream_statements.specs.Source.{IsOfStatement};
-ghost use Rattle.p21_stream.specs.SieveSteps.{IsRefusedAlone};
-ghost use Rattle.p21_stream.specs.Sifting.{HaveNames};
+ghost use Rattle.p21_stream_sieve.specs.SieveSteps.{IsRefusedAlone};
+ghost use Rattle.p21_stream_sieve.specs.Sifting.{HaveNames};
 ghost use Rattle.p21_stream.specs.Surveying.{IsFull, IsKeptOf, IsLeftOf};
 
 use crate::keeper::Keeper;
-use crate::sieve::Sieve;
 use p21_grammar::Event;
 use p21_mapping::{KnownEntities, Trail, check_owned_record};
 use p21_schema::Schema;
 use p21_stream_kept::{FoundInstance, Workspace};
+use p21_stream_sieve::Sieve;
 use p21_stream_statements::{Fault, Refusal};
 use p21_values::{Limits, Name};
 use std::alloc::Global;

@@ -9,12 +9,12 @@ ghost use Rattle.p21_stream.specs.ReaderInput.{IsOfBytes};
 ghost use Rattle.p21_stream_output.specs.Output.{output_text};
 
 use crate::claim::headline;
-use crate::indices::Indices;
 use crate::located::Located;
 use crate::session::Session;
 use p21_schema::Schema;
 use p21_stream_io::Watched;
 use p21_stream_output::Accepted;
+use p21_stream_sieve::Indices;
 use p21_stream_statements::{Expected, Fault, Place, Refusal};
 use p21_values::Limits;
 use std::alloc::Global;

@@ -16,11 +16,12 @@ ghost use Rattle.p21_shorter_instances.specs.ExternalSet.{AreExternalSets};
 ghost use Rattle.p21_shorter_instances.specs.Steps.{IsPlanOf};
 
 use crate::keeper::{Keeper, Stop};
-use crate::spots::{Spots, note_listed};
+use crate::noting::note_listed;
 use p21_grammar::Event;
 use p21_schema::Schema;
 use p21_shorter_instances::{Plan, Sets, Taken};
 use p21_stream_kept::Workspace;
+use p21_stream_sieve::Spots;
 use p21_stream_statements::{At, Fault, Refusal, Source, StatementReader};
 use p21_values::{Limits, Name};
 use std::alloc::Global;

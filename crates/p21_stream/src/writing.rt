@@ -5,11 +5,11 @@ ghost use Rattle.p21_stream.specs.Claim.{Claim};
 ghost use Rattle.p21_stream.specs.ReaderInput.{ConsumesAtMost, read_failures, write_failures};
 
 use crate::claim::headline;
-use crate::indices::Indices;
 use crate::located::Located;
 use crate::read::accept_located;
 use p21_schema::Schema;
 use p21_stream_io::Watched;
+use p21_stream_sieve::Indices;
 use p21_stream_statements::{Expected, Refusal};
 use p21_values::Limits;
 use std::alloc::Global;

@@ -7,7 +7,7 @@ use Rattle.p21_spec_exchange.specs.Statement.{Statement}
 use Rattle.p21_spec_schema.specs.Schema.{Schema}
 use Rattle.p21_stream_output.specs.Ending.{IsFileOfKept}
 use Rattle.p21_stream_statements.specs.declared.refusal.Refusal.{Refusal}
-use Rattle.p21_stream.specs.Unserved.{ListsUnserved}
+use Rattle.p21_stream_sieve.specs.Unserved.{ListsUnserved}
 use Rattle.p21_stream.proofs.SurveyEnding.{ended-counted, ended-unread, finish-accepted, finish-ended, finish-kept, finish-listed, listed-counted, listed-unread, none-listed, some-listed}
 use Rattle.p21_stream.specs.SurveyReading.{EndsWith, IsExtent}
 use Rattle.p21_stream.specs.declared.listing.Refusals.{Refusals}

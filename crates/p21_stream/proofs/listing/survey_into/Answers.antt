@@ -7,9 +7,9 @@ use Rattle.p21_stream.proofs.SurveyFeeding.{surveyed-none}
 use Rattle.p21_stream.specs.Survey.{EndsByRead, ListsAtMost}
 use Rattle.p21_stream.specs.SurveyReading.{StopsByRead, StoppedGives, StopsSurvey}
 use Rattle.p21_stream.specs.Surveying.{StopsWithin}
-use Rattle.p21_stream.specs.Sifting.{HaveNames}
+use Rattle.p21_stream_sieve.specs.Sifting.{HaveNames}
 use Rattle.p21_stream.specs.declared.listing.Surveyed.{Surveyed}
-use Rattle.p21_stream.specs.declared.sieve.Sieve.{Sieve}
+use Rattle.p21_stream_sieve.specs.declared.sieve.Sieve.{Sieve}
 use Rattle.p21_stream.specs.declared.surveying.Surveying.{Surveying}
 use Rattle.p21_shorter_instances.specs.ExternalSet.{AreExternalSets}
 use Rattle.p21_stream.proofs.listing.survey_into.Goals as goal

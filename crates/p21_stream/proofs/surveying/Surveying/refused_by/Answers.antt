@@ -3,7 +3,7 @@ use Rattle.p21_grammar.specs.Statements.{statement_of}
 use Rattle.p21_grammar.specs.declared.event.Event.{Event}
 use Rattle.p21_grammar_tree.specs.View.{record_view}
 use Rattle.p21_stream.proofs.Keepers.{refused-alone}
-use Rattle.p21_stream.specs.SieveSteps.{IsRefusedAlone}
+use Rattle.p21_stream_sieve.specs.SieveSteps.{IsRefusedAlone}
 use Rattle.p21_stream.proofs.surveying.Surveying.refused_by.Goals as goal
 
 pub returns-clause-refuses : goal.returns-clause-refuses

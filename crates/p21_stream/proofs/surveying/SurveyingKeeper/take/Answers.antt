@@ -1,7 +1,7 @@
 use Rattle.std.proofs.Common.{refl, ap, subst, sym}
 use Rattle.p21_grammar.specs.Statements.{statement_of}
 use Rattle.p21_stream.proofs.Keepers.{alone-takes, sifted-follows, sifted-open, sifted-takes}
-use Rattle.p21_stream.specs.SieveSteps.{Follows, ListsOne, StepGives}
+use Rattle.p21_stream_sieve.specs.SieveSteps.{Follows, ListsOne, StepGives}
 use Rattle.p21_stream.specs.declared.surveying.Surveying.{Surveying}
 use Rattle.p21_stream.proofs.surveying.SurveyingKeeper.take.Goals as goal
 

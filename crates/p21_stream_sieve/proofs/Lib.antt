@@ -1,0 +1,5 @@
+pub mod RefusedNames
+pub mod Sifted
+pub mod SieveTaking
+pub mod UnservedListing
+pub mod SieveEnding
