@@ -7,7 +7,7 @@ use Rattle.p21_spec_exchange.specs.Spelling.{name_spelling, spelling}
 use Rattle.p21_spec_exchange.specs.Token as token
 use Rattle.p21_spec_schema.specs.Schema.{EntityNamed, Schema}
 use Rattle.p21_shorter_tokens.specs.Gaps.{PassesSeparators}
-use Rattle.p21_shorter_tokens.specs.LeadingToken.{Transcribes}
+use Rattle.p21_shorter_tokens.specs.LeadingToken.{AppendsToken}
 use Rattle.p21_shorter_instances.specs.TakenParameters.{TakesTokens, TakesEntity, TakesDelimiter}
 use Rattle.p21_shorter_instances.proofs.Laid.{laid-join, laid-next}
 use Rattle.p21_shorter_instances.specs.TakenValues.{LaidBefore, PassesDelimiter}
@@ -34,7 +34,7 @@ takes-mark mark one bytes rest old new spells any h = record {
 }
 
 pub takes-leaf : (bytes front rest : List ℕ) (count : ℕ) (one : Token) (old new : List ℕ) → PassesSeparators bytes front → rest ≡ drop count front
-    → Transcribes front count one old new → TakesTokens (one ∷ []) (spelling one) bytes rest old new
+    → AppendsToken front count one old new → TakesTokens (one ∷ []) (spelling one) bytes rest old new
 takes-leaf bytes front rest count one old new passes is h = record {
   laid = (passes.gap, take count front, drop count front, passes.bytes_are ∙ ap (λ (x : List ℕ). passes.gap ++ x) (sym (take-append-drop count front)), passes.is_gap, h.stands.spells, h.stands.followed, sym is);
   appended = h.appended;
@@ -46,13 +46,13 @@ mark-behind mark bytes rest old new (passes, appended) = record { passes = passe
 -- ---- the parts of an instance
 
 pub head-taken : (bytes front behind rest : List ℕ) (count n : ℕ) (old middle new : List ℕ) → PassesSeparators bytes front → behind ≡ drop count front
-    → Transcribes front count (token.name n) old middle → TakesDelimiter 61 behind rest middle new
+    → AppendsToken front count (token.name n) old middle → TakesDelimiter 61 behind rest middle new
     → TakesTokens (token.name n ∷ token.equals ∷ []) (name_spelling n ++ 61 ∷ []) bytes rest old new
 head-taken bytes front behind rest count n old middle new passes is leaf mark =
     takes-join (token.name n ∷ []) (token.equals ∷ []) (name_spelling n) (61 ∷ []) bytes behind rest old middle new (takes-leaf bytes front behind count (token.name n) old middle passes is leaf) (takes-mark 61 token.equals behind rest middle new refl (λ byte. tt) mark)
 
 pub entity-taken : (s : Schema) (e : ℕ) (word bytes front rest old new : List ℕ) → PassesSeparators bytes front → rest ≡ drop (length word) front
-    → Transcribes front (length word) (token.keyword word) old new → EntityNamed s e word → TakesEntity s e bytes rest old new
+    → AppendsToken front (length word) (token.keyword word) old new → EntityNamed s e word → TakesEntity s e bytes rest old new
 entity-taken s e word bytes front rest old new passes is leaf named = (word, named, takes-leaf bytes front rest (length word) (token.keyword word) old new passes is leaf)
 
 pub end-taken : (bytes closed rest old middle new : List ℕ) → TakesDelimiter 41 bytes closed old middle → TakesDelimiter 59 closed rest middle new

@@ -8,6 +8,7 @@ pub mod Laid
 pub mod Scalars
 pub mod Typed
 pub mod Values
+pub mod Leaving
 pub mod Joining
 pub mod KeywordRows
 pub mod Keywords

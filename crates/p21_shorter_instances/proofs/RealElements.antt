@@ -16,7 +16,7 @@ use Rattle.p21_spec_schema.specs.WellFormed.{HasDistinctTypes}
 use Rattle.p21_shorter_tokens.proofs.Gaps.{token-first}
 use Rattle.p21_shorter_tokens.specs.Gaps.{PassesSeparators}
 use Rattle.p21_shorter_tokens.specs.LeadingToken.{IsLeadingToken}
-use Rattle.p21_shorter_tokens.specs.Numbers.{TranscribesNumber, a_real, a_whole}
+use Rattle.p21_shorter_tokens.specs.Numbers.{AppendsNumberToken, a_real, a_whole}
 use Rattle.p21_shorter_instances.proofs.Elements.{Along, aggregate-taken, along-ends, along-first, along-next, compared-as, no-elements, unique-compares_elements}
 use Rattle.p21_shorter_instances.proofs.Values.{taken-front, needs-nothing, no-deeper, scalar-value, stored-taken}
 use Rattle.p21_shorter_instances.specs.ArrangedElements.{ClosesAggregate, arranged_elements, compares_elements}
@@ -29,16 +29,16 @@ use Rattle.p21_values.specs.Canonical.{Continues}
 
 -- ---- one real
 
-number-continues : (wholes : Bool) (bytes : List ℕ) (count : ℕ) (old new : List ℕ) → TranscribesNumber wholes bytes count old new → Continues old new
+number-continues : (wholes : Bool) (bytes : List ℕ) (count : ℕ) (old new : List ℕ) → AppendsNumberToken wholes bytes count old new → Continues old new
 number-continues wholes bytes count old new (a_real d h) = (spelling (token.real d), h.appended)
 number-continues wholes bytes count old new (a_whole z d _ _ _ _ _ text) = (spelling (token.real d), text)
 
-pub real-continues : (found : Option ℕ) (bytes old new : List ℕ) → IfSome found (λ count. TranscribesNumber false bytes count old new) → IfNone found (Continues old new)
+pub real-continues : (found : Option ℕ) (bytes old new : List ℕ) → IfSome found (λ count. AppendsNumberToken false bytes count old new) → IfNone found (Continues old new)
     → Continues old new
 real-continues None bytes old new some none = none
 real-continues (Some count) bytes old new some none = number-continues false bytes count old new some
 
-pub plain-continues : (found : Option ℕ) (bytes old new : List ℕ) → IfSome found (λ count. (wholes : Bool) → TranscribesNumber wholes bytes count old new) → IfNone found (new ≡ old)
+pub plain-continues : (found : Option ℕ) (bytes old new : List ℕ) → IfSome found (λ count. (wholes : Bool) → AppendsNumberToken wholes bytes count old new) → IfNone found (new ≡ old)
     → Continues old new
 plain-continues None bytes old new some none = continues-same old new none
 plain-continues (Some count) bytes old new some none = number-continues false bytes count old new (some false)

@@ -17,7 +17,7 @@ use Rattle.p21_spec_schema.specs.Order.{order, places}
 use Rattle.p21_spec_schema.specs.PlaceType.{PlaceType, TypeAt}
 use Rattle.p21_spec_schema.specs.Schema.{Place, Schema}
 use Rattle.p21_shorter_tokens.specs.Gaps.{PassesSeparators}
-use Rattle.p21_shorter_tokens.specs.LeadingToken.{Transcribes}
+use Rattle.p21_shorter_tokens.specs.LeadingToken.{AppendsToken}
 use Rattle.p21_shorter_instances.proofs.LaidRuns.{takes-join, takes-mark}
 use Rattle.p21_shorter_instances.specs.TakenParameters.{AreStepsIn, IsPlacedParameter, PlacedParameter, TakesTokens, TakesEntity, TakesDelimiter, TakesOpenedEntity, TakesOpening, TakesParameters, TakesPlaces, TakesStep, TakesSteps, body_text, body_tokens, needs_at, params_at, texts_at}
 use Rattle.p21_shorter_instances.specs.Prepared.{Prepared, PreparedStep}
@@ -244,7 +244,7 @@ none_from (Some x) holds = tt
 pub entity-goes_on : (s : Schema) (e : ℕ) (bytes rest old new : List ℕ) → TakesEntity s e bytes rest old new → Continues old new
 entity-goes_on s e bytes rest old new (word, named, h) = (word, h.appended)
 
-pub leaf-goes_on : (bytes : List ℕ) (count : ℕ) (one : Token) (old new : List ℕ) → Transcribes bytes count one old new → Continues old new
+pub leaf-goes_on : (bytes : List ℕ) (count : ℕ) (one : Token) (old new : List ℕ) → AppendsToken bytes count one old new → Continues old new
 leaf-goes_on bytes count one old new h = (spelling one, h.appended)
 
 pub opened-goes_on : (s : Schema) (e : ℕ) (bytes rest old new : List ℕ) → TakesOpenedEntity s e bytes rest old new → Continues old new

@@ -16,7 +16,7 @@ use Rattle.p21_spec_schema.specs.Schema.{Schema, TypeNamed, TypeUse, type_member
 use Rattle.p21_spec_schema.specs.Select.{Offers}
 use Rattle.p21_shorter_tokens.proofs.Parts.{goes-on}
 use Rattle.p21_shorter_tokens.specs.Gaps.{PassesSeparators}
-use Rattle.p21_shorter_tokens.specs.LeadingToken.{Transcribes}
+use Rattle.p21_shorter_tokens.specs.LeadingToken.{AppendsToken}
 use Rattle.p21_shorter_instances.proofs.Laid.{laid-enclosed, laid-join, laid-one, param-behind}
 use Rattle.p21_shorter_instances.proofs.Values.{comes-fits}
 use Rattle.p21_shorter_instances.specs.declared.taken.Taken.{Taken}
@@ -73,7 +73,7 @@ enclosed-refused s base most inside behind old marked middle (type, known, (last
 
 -- ---- typed parameters
 
-pub keyword-taken : (s : Schema) (t u : ℕ) (word bytes rest old new : List ℕ) → rest ≡ drop (length word) bytes → Transcribes bytes (length word) (token.keyword word) old new
+pub keyword-taken : (s : Schema) (t u : ℕ) (word bytes rest old new : List ℕ) → rest ≡ drop (length word) bytes → AppendsToken bytes (length word) (token.keyword word) old new
     → Offers s t (type_member u) → TypeNamed s u word → TakesKeyword s t u bytes rest old new
 keyword-taken s t u word bytes rest old new e h offers named = record {
   word = word;

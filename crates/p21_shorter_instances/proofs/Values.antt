@@ -1,5 +1,5 @@
 -- Values that are taken, by what may stand there.
-use Rattle.std.proofs.Common.{◌≡◌, ◌∙◌, ℕ, ◌-◌, ◌≤◌, length, Bool, true, List, [], ◌∷◌, ◌++◌, drop, refl, sym, subst, arith, Option, Some, None, Contains, IfNone}
+use Rattle.std.proofs.Common.{◌≡◌, ◌∙◌, ℕ, ◌-◌, ◌≤◌, length, Bool, true, List, [], ◌∷◌, ◌++◌, drop, refl, sym, subst, arith, Some, Result, Ok, Err, Contains, OnErr}
 use Rattle.std.proofs.lemmas.List.{append-nil}
 use denote.Ref.{Bor}
 use Rattle.p21_spec_laws.specs.Needs.{FitsAtWithNeeds, FitsWithNeeds, with_chosen_instance, with_dollar, with_fit, with_instance, with_item, with_star, with_underlying}
@@ -30,7 +30,7 @@ use Rattle.p21_spec_schema.specs.PlaceType.{PlaceType, TypeAt, derived_place, st
 use Rattle.p21_spec_schema.specs.Schema as schema
 use Rattle.p21_spec_schema.specs.Schema.{Schema, TypeUse}
 use Rattle.p21_spec_schema.specs.Select.{IsSelect, Offers}
-use Rattle.p21_shorter_tokens.specs.LeadingToken.{IsLeadingToken, Transcribes}
+use Rattle.p21_shorter_tokens.specs.LeadingToken.{AppendsToken, IsLeadingToken}
 use Rattle.p21_shorter_instances.specs.Steps.{IsStepForSome, IsStepFor}
 use Rattle.p21_shorter_instances.specs.declared.step.Step.{Step}
 use Rattle.p21_shorter_instances.specs.declared.step.Step.TheVariants.{Derived, Placed, Stored}
@@ -59,7 +59,7 @@ scalar-value s type bytes rest count old new e h =
     token-value s (λ p v. FitsWithNeeds s type p v []) h.token h.parameter h.value bytes rest count old new h.stands e h.tokens_are h.flat (h.fits s) (h.text_is s)
 
 pub item-front : (words known : List (List ℕ)) (bytes : List ℕ) (count : ℕ) (old new : List ℕ) → known ≡ words
-    → (word : List ℕ) × Contains known word × Transcribes bytes count (token.item word) old new
+    → (word : List ℕ) × Contains known word × AppendsToken bytes count (token.item word) old new
     → (count ≤ length bytes) × ((s : Schema) (t : ℕ) → schema.kind_of s t ≡ Some (schema.items words) → TakesValue s (λ p v. FitsWithNeeds s (schema.defined t) p v []) 0 bytes (drop count bytes) old new)
 item-front words known bytes count old new same (word, among, h) = (
   h.stands.within,
@@ -110,7 +110,7 @@ taken-shorter s F most bytes rest old new h = laid-shorter bytes rest (param_tok
 
 -- ---- references
 
-pub name-taken : (s : Schema) (type : TypeUse) (wanted : Member) (bytes : List ℕ) (count n : ℕ) (old new : Taken) → Transcribes bytes count (token.name n) old.draft new.draft
+pub name-taken : (s : Schema) (type : TypeUse) (wanted : Member) (bytes : List ℕ) (count n : ℕ) (old new : Taken) → AppendsToken bytes count (token.name n) old.draft new.draft
     → new.needs.items ≡ old.needs.items ++ record { target = n; wanted = wanted } ∷ [] → TakesReferencesTo s type (member wanted)
     → TakesWithNeeds s (FitsWithNeeds s type) 0 bytes (drop count bytes) old new
 name-taken s type wanted bytes count n old new h pushed takes = record {
@@ -207,9 +207,9 @@ placed-taken s holds step e p found bytes rest old new is found_at takes at says
 pub base-select : (s : Schema) (base : Base) (t : TypeId) → base ≡ Select t → IsBaseInSchema s base → IsSelect s t.0
 base-select s base t is (type, known, (last, comes, found)) = (subst (IsBase s last) is found).1
 
-pub needs-kept : {A : Type 0} (found : Option A) (needs : List Need) → IfNone found (KeepsNeeds needs needs)
-needs-kept None needs = ([], sym (append-nil needs))
-needs-kept (Some x) needs = tt
+pub needs-kept : {A E : Type 0} (result : Result A E) (needs : List Need) → OnErr result (KeepsNeeds needs needs)
+needs-kept (Ok x) needs = tt
+needs-kept (Err e) needs = ([], sym (append-nil needs))
 
 pub needs-same : (old new : List Need) → new ≡ old → KeepsNeeds old new
 needs-same old new e = ([], e ∙ sym (append-nil old))

@@ -3,6 +3,7 @@ pub mod Steps
 pub mod ArrangedElements
 pub mod Elements
 pub mod TakenValues
+pub mod Leaving
 pub mod Instance
 pub mod Reals
 pub mod Records

@@ -1,11 +1,13 @@
 //! Values of selects (ISO 10303-21, mapping of EXPRESS select data types).
-ghost use Rattle.std.specs.Prelude.{◌≡◌, IfNone, IfSome};
+ghost use Rattle.std.specs.Prelude.{◌≡◌, IfNone, IfSome, IfOk, OnErr};
 ghost use Rattle.p21_spec_laws.specs.Needs.{FitsWithNeeds};
 ghost use Rattle.p21_spec_schema.specs.Schema.{TypeNamed, defined, type_member};
 ghost use Rattle.p21_spec_schema.specs.Select.{IsSelect, Offers};
+ghost use Rattle.p21_shorter_instances.specs.Leaving.{LeavesText};
 ghost use Rattle.p21_shorter_instances.specs.TakenValues.{TakesFront, TakesKeyword};
 ghost use Rattle.p21_values.specs.Canonical.{Continues};
 
+use crate::given_up::GivenUp;
 use crate::reference::append_reference;
 use crate::taken::Taken;
 use p21_express_graph::{Member, TypeId};
@@ -18,14 +20,14 @@ pub(crate) fn append_chosen(
     select: TypeId,
     bytes: &[u8],
     taken: &mut Taken,
-) -> Option<usize>
+) -> Result<usize, GivenUp>
     requires { IsSelect schema.now select.0 }
-    ensures some { IfSome result (λ count. TakesFront schema.now (FitsWithNeeds schema.now (defined select.0)) 0 bytes.now count taken.old taken.new) }
-    ensures draft { IfNone result (Continues taken.old.draft taken.new.draft) }
-    ensures needs { IfNone result (taken.new.needs.items ≡ taken.old.needs.items) }
+    ensures some { IfOk result (λ count. TakesFront schema.now (FitsWithNeeds schema.now (defined select.0)) 0 bytes.now count taken.old taken.new) }
+    ensures draft { LeavesText result taken.old.draft taken.new.draft }
+    ensures needs { OnErr result (taken.new.needs.items ≡ taken.old.needs.items) }
 {
     if !schema.offers_entity(select) {
-        return None;
+        return Err(GivenUp::NotUsual);
     }
     append_reference(Member::Defined(select), bytes, taken)
 }

@@ -1,11 +1,13 @@
 //! What stands in front of the parameters of an instance (ISO 10303-21, mapping of EXPRESS entity data types).
-ghost use Rattle.std.specs.Prelude.{◌≡◌, ◌<◌, ◌≤◌, IfNone, IfSome, length, slice_index, take};
+ghost use Rattle.std.specs.Prelude.{◌≡◌, ◌<◌, ◌≤◌, IfNone, IfSome, length, slice_index, take, IfOk};
 ghost use Rattle.p21_express_graph.specs.Resolved.{IsEntity};
 ghost use Rattle.p21_spec_schema.specs.Schema.{Schema as Meant};
+ghost use Rattle.p21_shorter_instances.specs.Leaving.{LeavesText};
 ghost use Rattle.p21_shorter_instances.specs.TakenParameters.{IsNamedBy, TakesEntity, TakesOpenedEntity, TakesOpening};
 ghost use Rattle.p21_shorter_instances.specs.Steps.{IsPlanOf};
 ghost use Rattle.p21_values.specs.Canonical.{Continues};
 
+use crate::given_up::GivenUp;
 use crate::keyword::ROW;
 use crate::plan::Plan;
 use crate::separated_delimiter::append_delimiter;
@@ -27,14 +29,14 @@ pub(crate) fn append_opening<'a>(
     plan: &mut Plan,
     bytes: &'a [u8],
     draft: &mut Draft,
-) -> Option<(Option<EntityId>, &'a [u8])>
+) -> Result<(Option<EntityId>, &'a [u8]), GivenUp>
     requires { IsPlanOf schema.now plan.old }
-    ensures some { IfSome result (λ found. TakesOpening schema.now found.0 bytes.now found.1.now draft.old draft.new) }
-    ensures none { IfNone result (Continues draft.old draft.new) }
+    ensures some { IfOk result (λ found. TakesOpening schema.now found.0 bytes.now found.1.now draft.old draft.new) }
+    ensures none { LeavesText result draft.old draft.new }
     ensures plan { IsPlanOf schema.now plan.new }
 {
     match append_guessed(plan, bytes, draft) {
-        Some((entity, inside)) => Some((Some(entity), inside)),
+        Some((entity, inside)) => Ok((Some(entity), inside)),
         None => append_other_opening(schema, plan, bytes, draft),
     }
 }
@@ -46,25 +48,27 @@ fn append_other_opening<'a>(
     plan: &mut Plan,
     bytes: &'a [u8],
     draft: &mut Draft,
-) -> Option<(Option<EntityId>, &'a [u8])>
+) -> Result<(Option<EntityId>, &'a [u8]), GivenUp>
     requires { IsPlanOf schema.now plan.old }
-    ensures some { IfSome result (λ found. TakesOpening schema.now found.0 bytes.now found.1.now draft.old draft.new) }
-    ensures none { IfNone result (Continues draft.old draft.new) }
+    ensures some { IfOk result (λ found. TakesOpening schema.now found.0 bytes.now found.1.now draft.old draft.new) }
+    ensures none { LeavesText result draft.old draft.new }
     ensures plan { IsPlanOf schema.now plan.new }
 {
     let front = behind_separators(bytes);
     if let Some((entity, count)) = guessed_entity(plan, front) {
         if !draft.append_prefix(front, count) {
-            return None;
+            return Err(GivenUp::NotUsual);
         }
-        let inside = append_delimiter(b'(', &front[count..], draft)?;
-        return Some((Some(entity), inside));
+        let Some(inside) = append_delimiter(b'(', &front[count..], draft) else {
+            return Err(GivenUp::NotUsual);
+        };
+        return Ok((Some(entity), inside));
     }
     match append_delimiter(b'(', bytes, draft) {
-        Some(inside) => Some((None, inside)),
+        Some(inside) => Ok((None, inside)),
         None => {
             let (entity, inside) = append_entity(schema, plan, bytes, draft)?;
-            Some((Some(entity), inside))
+            Ok((Some(entity), inside))
         }
     }
 }
@@ -151,22 +155,25 @@ fn append_entity<'a>(
     plan: &mut Plan,
     bytes: &'a [u8],
     draft: &mut Draft,
-) -> Option<(EntityId, &'a [u8])>
+) -> Result<(EntityId, &'a [u8]), GivenUp>
     requires { IsPlanOf schema.now plan.old }
-    ensures some { IfSome result (λ found. TakesOpenedEntity schema.now found.0.0 bytes.now found.1.now draft.old draft.new) }
-    ensures none { IfNone result (Continues draft.old draft.new) }
+    ensures some { IfOk result (λ found. TakesOpenedEntity schema.now found.0.0 bytes.now found.1.now draft.old draft.new) }
+    ensures none { LeavesText result draft.old draft.new }
     ensures plan { IsPlanOf schema.now plan.new }
 {
-    let (entity, behind) = append_named(schema, plan, bytes, draft)?;
+    let Some((entity, behind)) = append_named(schema, plan, bytes, draft) else {
+        return Err(GivenUp::NotUsual);
+    };
     let Ok(prepared) = is_prepared(plan, schema, entity) else {
-        draft.note_want_of_memory();
-        return None;
+        return Err(GivenUp::NoMemory);
     };
     if !prepared {
-        return None;
+        return Err(GivenUp::NotUsual);
     }
-    let inside = append_delimiter(b'(', behind, draft)?;
-    Some((entity, inside))
+    let Some(inside) = append_delimiter(b'(', behind, draft) else {
+        return Err(GivenUp::NotUsual);
+    };
+    Ok((entity, inside))
 }
 
 /// Appends the keyword at the front, where it is the name of an entity: that, and what stands behind the keyword.

@@ -1,12 +1,12 @@
 //! The parameters of an instance of internal mapping, and the end of its statement (ISO 10303-21, mapping of EXPRESS entity data
 //! types: internal mapping).
-ghost use Rattle.std.specs.Prelude.{IfNone, IfSome};
+ghost use Rattle.std.specs.Prelude.{IfOk};
+ghost use Rattle.p21_shorter_instances.specs.Leaving.{LeavesNeeds, LeavesText};
 ghost use Rattle.p21_shorter_instances.specs.Steps.{IsPlanOf};
 ghost use Rattle.p21_shorter_instances.specs.TakenParameters.{TakesParameters};
-ghost use Rattle.p21_shorter_instances.specs.TakenValues.{KeepsNeeds};
-ghost use Rattle.p21_values.specs.Canonical.{Continues};
 
 use crate::end::append_end;
+use crate::given_up::GivenUp;
 use crate::places::append_places;
 use crate::plan::Plan;
 use crate::taken::Taken;
@@ -22,13 +22,15 @@ pub(crate) fn append_parameters<'a>(
     entity: EntityId,
     bytes: &'a [u8],
     taken: &mut Taken,
-) -> Option<&'a [u8]>
+) -> Result<&'a [u8], GivenUp>
     requires { IsPlanOf schema.now plan.now }
-    ensures some { IfSome result (λ rest. TakesParameters schema.now entity.0 bytes.now rest.now taken.old taken.new) }
-    ensures draft { IfNone result (Continues taken.old.draft taken.new.draft) }
-    ensures needs { IfNone result (KeepsNeeds taken.old.needs.items taken.new.needs.items) }
+    ensures some { IfOk result (λ rest. TakesParameters schema.now entity.0 bytes.now rest.now taken.old taken.new) }
+    ensures draft { LeavesText result taken.old.draft taken.new.draft }
+    ensures needs { LeavesNeeds result taken.old.needs.items taken.new.needs.items }
 {
-    let row = plan.row(entity)?;
+    let Some(row) = plan.row(entity) else {
+        return Err(GivenUp::NotUsual);
+    };
     let behind = append_places(schema, &row.steps, bytes, taken)?;
-    append_end(behind, &mut taken.draft)
+    append_end(behind, &mut taken.draft).ok_or(GivenUp::NotUsual)
 }

@@ -18,6 +18,7 @@ mod end;
 mod entity;
 mod external;
 mod external_set;
+mod given_up;
 mod guess;
 mod instance;
 mod internal;
@@ -39,6 +40,7 @@ mod step;
 mod taken;
 mod value;
 
+pub use given_up::GivenUp;
 pub use instance::{Instance, Set, take_instance};
 pub use plan::Plan;
 pub use sets::Sets;

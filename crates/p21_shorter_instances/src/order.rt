@@ -2,18 +2,19 @@
 //!
 //! Elements that are compared are first held each against the one before it. In most files they rise, as names of
 //! instances do that were written in turn; then none is twice and their order stays, and nothing is copied or sorted.
-ghost use Rattle.std.specs.Prelude.{◌≡◌, ℕ, ◌≤◌, [], ◌∷◌, ◌++◌, List, true, drop, length, sum, take, IfNone, IfOk, IfSome, IsTrue};
+ghost use Rattle.std.specs.Prelude.{◌≡◌, ℕ, ◌≤◌, [], ◌∷◌, ◌++◌, List, true, drop, length, sum, take, IfOk, IfSome, IsTrue};
 ghost use Rattle.p21_express_graph.specs.Meaning.{type_use};
 ghost use Rattle.p21_spec_file.specs.ParameterKind.{IsUnique};
 ghost use Rattle.p21_spec_file.specs.Sorting.{is_below, sort_texts};
 ghost use Rattle.p21_spec_file.specs.ValueText.{list_text};
 ghost use Rattle.p21_mapping_values.specs.SplitTexts.{NoneTwice, joined, split_texts};
+ghost use Rattle.p21_shorter_instances.specs.Leaving.{LeavesText};
 ghost use Rattle.p21_shorter_instances.specs.ArrangedElements.{AreStrictlyRising, ArrangesElements, ClosesAggregate, HoldsElements, compares_elements, has_no_order};
 ghost use Rattle.p21_shorter_instances.specs.TakenValues.{PassesDelimiter};
-ghost use Rattle.p21_values.specs.Canonical.{Continues};
 
 use crate::aggregate::are_compared;
 use crate::delimiter::append_next_delimiter;
+use crate::given_up::GivenUp;
 use p21_express_graph::TypeUse;
 use p21_mapping::is_unique;
 use p21_mapping_values::{append_rising, are_distinct};
@@ -22,8 +23,8 @@ use p21_values::NoMemory;
 use std::alloc::Global;
 
 /// Puts the elements of an aggregate into rising order, where they have none. The text of the aggregate begins at a place,
-/// and its elements are as long as the lengths say. None where two are equal that may not be; then the text goes on from
-/// that before the place.
+/// and its elements are as long as the lengths say. Where two are equal that may not be, it isn't usual. Where it is given
+/// up, the text goes on from that before the place.
 #[inline(never)]
 fn arrange(
     alloc: Global,
@@ -31,36 +32,34 @@ fn arrange(
     start: usize,
     lengths: &[usize],
     draft: &mut Draft,
-) -> Option<()>
+) -> Result<(), GivenUp>
     requires start { start ≤ length draft.old }
     requires holds { (texts : List (List ℕ)) × HoldsElements (drop start draft.old) lengths.now texts }
-    ensures some { IfSome result (λ done. (texts : List (List ℕ)) → HoldsElements (drop start draft.old) lengths.now texts → ArrangesElements (type_use of.now) (take start draft.old) texts draft.new) }
-    ensures none { IfNone result (Continues (take start draft.old) draft.new) }
+    ensures some { IfOk result (λ done. (texts : List (List ℕ)) → HoldsElements (drop start draft.old) lengths.now texts → ArrangesElements (type_use of.now) (take start draft.old) texts draft.new) }
+    ensures none { LeavesText result (take start draft.old) draft.new }
 {
     if lengths.len() < 2 {
-        return Some(());
+        return Ok(());
     }
     let text = text_behind(draft, start);
     if are_rising(text, lengths) {
-        return Some(());
+        return Ok(());
     }
     let Ok(joined) = joined_texts(alloc, text, lengths) else {
-        draft.note_want_of_memory();
-        return None;
+        return Err(GivenUp::NoMemory);
     };
     let Some(bytes) = joined else {
-        return None;
+        return Err(GivenUp::NotUsual);
     };
     let all: &[u8] = &bytes;
     let Ok(unique) = keeps_unique(alloc, of, all, lengths) else {
-        draft.note_want_of_memory();
-        return None;
+        return Err(GivenUp::NoMemory);
     };
     if !unique {
-        return None;
+        return Err(GivenUp::NotUsual);
     }
     if !is_unordered(of) {
-        return Some(());
+        return Ok(());
     }
     rewrite_in_order(alloc, start, all, lengths, draft)
 }
@@ -164,22 +163,21 @@ fn rewrite_in_order(
     bytes: &[u8],
     lengths: &[usize],
     draft: &mut Draft,
-) -> Option<()>
+) -> Result<(), GivenUp>
     requires start { start ≤ length draft.old }
     requires within { sum lengths.now ≤ length bytes.now }
-    ensures some { IfSome result (λ done. draft.new ≡ take start draft.old ++ list_text (sort_texts (split_texts bytes.now lengths.now))) }
-    ensures none { IfNone result (Continues (take start draft.old) draft.new) }
+    ensures some { IfOk result (λ done. draft.new ≡ take start draft.old ++ list_text (sort_texts (split_texts bytes.now lengths.now))) }
+    ensures none { LeavesText result (take start draft.old) draft.new }
 {
     let mut list = Vec::new(alloc);
     let Ok(()) = append_rising(bytes, lengths, &mut list) else {
-        draft.note_want_of_memory();
-        return None;
+        return Err(GivenUp::NoMemory);
     };
     draft.cut(start);
     if !draft.append(&list) {
-        return None;
+        return Err(GivenUp::NotUsual);
     }
-    Some(())
+    Ok(())
 }
 
 /// Closes the text of an aggregate that begins at a place, and puts its elements into order: what stands behind the
@@ -190,16 +188,18 @@ pub(crate) fn append_close<'a>(
     lengths: &Vec<usize>,
     bytes: &'a [u8],
     draft: &mut Draft,
-) -> Option<&'a [u8]>
+) -> Result<&'a [u8], GivenUp>
     requires start { start ≤ length draft.old }
     requires holds { compares_elements (type_use of.now) ≡ true → (texts : List (List ℕ)) × HoldsElements (drop start (draft.old ++ 41 ∷ [])) lengths.now.items texts }
-    ensures some { IfSome result (λ rest. PassesDelimiter 41 bytes.now rest.now × ClosesAggregate (type_use of.now) start (draft.old ++ 41 ∷ []) lengths.now.items draft.new) }
-    ensures none { IfNone result (Continues (take start draft.old) draft.new) }
+    ensures some { IfOk result (λ rest. PassesDelimiter 41 bytes.now rest.now × ClosesAggregate (type_use of.now) start (draft.old ++ 41 ∷ []) lengths.now.items draft.new) }
+    ensures none { LeavesText result (take start draft.old) draft.new }
 {
-    let rest = append_next_delimiter(b')', bytes, draft)?;
+    let Some(rest) = append_next_delimiter(b')', bytes, draft) else {
+        return Err(GivenUp::NotUsual);
+    };
     if !are_compared(of) {
-        return Some(rest);
+        return Ok(rest);
     }
     arrange(*lengths.allocator(), of, start, lengths, draft)?;
-    Some(rest)
+    Ok(rest)
 }

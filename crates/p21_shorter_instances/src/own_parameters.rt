@@ -1,15 +1,15 @@
 //! The parameters of a simple record of external mapping, at the attributes that its entity declares itself (ISO 10303-21,
 //! mapping of EXPRESS entity data types: external mapping).
-ghost use Rattle.std.specs.Prelude.{◌≡◌, ◌≤◌, length, IfNone, IfSome};
+ghost use Rattle.std.specs.Prelude.{◌≡◌, ◌≤◌, length, IfOk};
 ghost use Rattle.p21_express_graph.specs.Lookups.{AreEntities};
 ghost use Rattle.p21_express_graph.specs.Orders.{numbers};
 ghost use Rattle.p21_express_graph.specs.Resolved.{IsEntity, IsPlace};
 ghost use Rattle.p21_express_graph.specs.Meaning.{place as place_of};
 ghost use Rattle.p21_spec_schema.specs.Schema.{attributes_of};
+ghost use Rattle.p21_shorter_instances.specs.Leaving.{LeavesNeeds, LeavesText};
 ghost use Rattle.p21_shorter_instances.specs.Records.{TakesAtPlace, TakesFurtherPlaces, TakesOwnPlaces};
-ghost use Rattle.p21_shorter_instances.specs.TakenValues.{KeepsNeeds};
-ghost use Rattle.p21_values.specs.Canonical.{Continues};
 
+use crate::given_up::GivenUp;
 use crate::separated_delimiter::append_delimiter;
 use crate::taken::Taken;
 use crate::value::append_placed;
@@ -36,16 +36,16 @@ pub(crate) fn append_own_parameters<'a>(
     owner: EntityId,
     bytes: &'a [u8],
     taken: &mut Taken,
-) -> Option<&'a [u8]>
+) -> Result<&'a [u8], GivenUp>
     requires set { AreEntities schema.now (numbers set.now) }
     requires owner { IsEntity schema.now owner.0 }
-    ensures some { IfSome result (λ rest. TakesOwnPlaces schema.now (numbers set.now) owner.0 bytes.now rest.now taken.old taken.new) }
-    ensures draft { IfNone result (Continues taken.old.draft taken.new.draft) }
-    ensures needs { IfNone result (KeepsNeeds taken.old.needs.items taken.new.needs.items) }
+    ensures some { IfOk result (λ rest. TakesOwnPlaces schema.now (numbers set.now) owner.0 bytes.now rest.now taken.old taken.new) }
+    ensures draft { LeavesText result taken.old.draft taken.new.draft }
+    ensures needs { LeavesNeeds result taken.old.needs.items taken.new.needs.items }
 {
     let count = schema.attribute_count(owner);
     if count == 0 {
-        return Some(bytes);
+        return Ok(bytes);
     }
     let rest = append_parameter_at(
         schema,
@@ -71,24 +71,26 @@ fn append_further_parameters<'a>(
     owner: Owner,
     bytes: &'a [u8],
     taken: &mut Taken,
-) -> Option<&'a [u8]>
+) -> Result<&'a [u8], GivenUp>
     requires set { AreEntities schema.now (numbers set.now) }
     requires count { owner.count ≡ length (attributes_of schema.now owner.entity.0) }
     requires some { 1 ≤ owner.count }
-    ensures some { IfSome result (λ rest. TakesFurtherPlaces schema.now (numbers set.now) owner.entity.0 owner.count bytes.now rest.now taken.old taken.new) }
-    ensures draft { IfNone result (Continues taken.old.draft taken.new.draft) }
-    ensures needs { IfNone result (KeepsNeeds taken.old.needs.items taken.new.needs.items) }
+    ensures some { IfOk result (λ rest. TakesFurtherPlaces schema.now (numbers set.now) owner.entity.0 owner.count bytes.now rest.now taken.old taken.new) }
+    ensures draft { LeavesText result taken.old.draft taken.new.draft }
+    ensures needs { LeavesNeeds result taken.old.needs.items taken.new.needs.items }
 {
     let mut rest = bytes;
     for index in 1..owner.count {
-        let behind = append_delimiter(b',', rest, &mut taken.draft)?;
+        let Some(behind) = append_delimiter(b',', rest, &mut taken.draft) else {
+            return Err(GivenUp::NotUsual);
+        };
         let place = Place {
             entity: owner.entity,
             index,
         };
         rest = append_parameter_at(schema, set, place, behind, taken)?;
     }
-    Some(rest)
+    Ok(rest)
 }
 
 /// The value at one attribute, behind separators.
@@ -99,21 +101,21 @@ fn append_parameter_at<'a>(
     place: Place,
     bytes: &'a [u8],
     taken: &mut Taken,
-) -> Option<&'a [u8]>
+) -> Result<&'a [u8], GivenUp>
     requires set { AreEntities schema.now (numbers set.now) }
     requires place { IsPlace schema.now (place_of place) }
-    ensures some { IfSome result (λ rest. TakesAtPlace schema.now (numbers set.now) (place_of place) bytes.now rest.now taken.old taken.new) }
-    ensures draft { IfNone result (Continues taken.old.draft taken.new.draft) }
-    ensures needs { IfNone result (KeepsNeeds taken.old.needs.items taken.new.needs.items) }
+    ensures some { IfOk result (λ rest. TakesAtPlace schema.now (numbers set.now) (place_of place) bytes.now rest.now taken.old taken.new) }
+    ensures draft { LeavesText result taken.old.draft taken.new.draft }
+    ensures needs { LeavesNeeds result taken.old.needs.items taken.new.needs.items }
 {
     if is_dear(schema, set, place) {
-        return None;
+        return Err(GivenUp::NotUsual);
     }
     schema.holds_together();
     let at = schema.type_at(set, place);
     let front = behind_separators(bytes);
     let count = append_placed(schema, at, front, taken)?;
-    Some(&front[count..])
+    Ok(&front[count..])
 }
 
 /// Whether a walk through many entities would say what may stand at a place.

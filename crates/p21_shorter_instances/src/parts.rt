@@ -1,15 +1,16 @@
 //! The simple records of an instance of external mapping (ISO 10303-21, mapping of EXPRESS entity data types: external
 //! mapping).
-ghost use Rattle.std.specs.Prelude.{◌≡◌, [], ◌∷◌, IfNone, IfSome, IsTrue};
+ghost use Rattle.std.specs.Prelude.{◌≡◌, [], ◌∷◌, IfNone, IfSome, IsTrue, IfOk};
 ghost use Rattle.p21_express_graph.specs.Lookups.{AreEntities};
 ghost use Rattle.p21_express_graph.specs.Orders.{numbers};
 ghost use Rattle.p21_express_graph.specs.Resolved.{IsEntity};
+ghost use Rattle.p21_shorter_instances.specs.Leaving.{LeavesNeeds, LeavesText};
 ghost use Rattle.p21_shorter_instances.specs.Records.{TakesParts, TakesRecord};
 ghost use Rattle.p21_shorter_instances.specs.TakenParameters.{TakesEntity};
-ghost use Rattle.p21_shorter_instances.specs.TakenValues.{KeepsNeeds};
 ghost use Rattle.p21_values.specs.Canonical.{Continues};
 
 use crate::end::append_end;
+use crate::given_up::GivenUp;
 use crate::own_parameters::append_own_parameters;
 use crate::same::are_same;
 use crate::separated_delimiter::append_delimiter;
@@ -25,14 +26,14 @@ pub(crate) fn append_record<'a>(
     set: &[EntityId],
     bytes: &'a [u8],
     taken: &mut Taken,
-) -> Option<&'a [u8]>
+) -> Result<&'a [u8], GivenUp>
     requires { AreEntities schema.now (numbers set.now) }
-    ensures some { IfSome result (λ rest. TakesRecord schema.now (numbers set.now) bytes.now rest.now taken.old taken.new) }
-    ensures draft { IfNone result (Continues taken.old.draft taken.new.draft) }
-    ensures needs { IfNone result (KeepsNeeds taken.old.needs.items taken.new.needs.items) }
+    ensures some { IfOk result (λ rest. TakesRecord schema.now (numbers set.now) bytes.now rest.now taken.old taken.new) }
+    ensures draft { LeavesText result taken.old.draft taken.new.draft }
+    ensures needs { LeavesNeeds result taken.old.needs.items taken.new.needs.items }
 {
     let behind = append_parts(schema, set, bytes, taken)?;
-    append_end(behind, &mut taken.draft)
+    append_end(behind, &mut taken.draft).ok_or(GivenUp::NotUsual)
 }
 
 /// Appends the simple records.
@@ -41,17 +42,17 @@ fn append_parts<'a>(
     set: &[EntityId],
     bytes: &'a [u8],
     taken: &mut Taken,
-) -> Option<&'a [u8]>
+) -> Result<&'a [u8], GivenUp>
     requires { AreEntities schema.now (numbers set.now) }
-    ensures some { IfSome result (λ rest. TakesParts schema.now (numbers set.now) (numbers set.now) bytes.now rest.now taken.old taken.new) }
-    ensures draft { IfNone result (Continues taken.old.draft taken.new.draft) }
-    ensures needs { IfNone result (KeepsNeeds taken.old.needs.items taken.new.needs.items) }
+    ensures some { IfOk result (λ rest. TakesParts schema.now (numbers set.now) (numbers set.now) bytes.now rest.now taken.old taken.new) }
+    ensures draft { LeavesText result taken.old.draft taken.new.draft }
+    ensures needs { LeavesNeeds result taken.old.needs.items taken.new.needs.items }
 {
     let mut rest = bytes;
     for owner in set {
         rest = append_part(schema, set, *owner, rest, taken)?;
     }
-    Some(rest)
+    Ok(rest)
 }
 
 /// Appends the simple record of an entity.
@@ -61,18 +62,21 @@ fn append_part<'a>(
     owner: EntityId,
     bytes: &'a [u8],
     taken: &mut Taken,
-) -> Option<&'a [u8]>
+) -> Result<&'a [u8], GivenUp>
     requires set { AreEntities schema.now (numbers set.now) }
     requires owner { IsEntity schema.now owner.0 }
-    ensures some { IfSome result (λ rest. TakesParts schema.now (numbers set.now) (owner.0 ∷ []) bytes.now rest.now taken.old taken.new) }
-    ensures draft { IfNone result (Continues taken.old.draft taken.new.draft) }
-    ensures needs { IfNone result (KeepsNeeds taken.old.needs.items taken.new.needs.items) }
+    ensures some { IfOk result (λ rest. TakesParts schema.now (numbers set.now) (owner.0 ∷ []) bytes.now rest.now taken.old taken.new) }
+    ensures draft { LeavesText result taken.old.draft taken.new.draft }
+    ensures needs { LeavesNeeds result taken.old.needs.items taken.new.needs.items }
 {
-    let keyed = append_name_of(schema, owner, bytes, &mut taken.draft)?;
-    let inside = append_delimiter(b'(', keyed, &mut taken.draft)?;
+    let Some(keyed) = append_name_of(schema, owner, bytes, &mut taken.draft) else {
+        return Err(GivenUp::NotUsual);
+    };
+    let Some(inside) = append_delimiter(b'(', keyed, &mut taken.draft) else {
+        return Err(GivenUp::NotUsual);
+    };
     let behind = append_own_parameters(schema, set, owner, inside, taken)?;
-    let rest = append_delimiter(b')', behind, &mut taken.draft)?;
-    Some(rest)
+    append_delimiter(b')', behind, &mut taken.draft).ok_or(GivenUp::NotUsual)
 }
 
 /// Appends the keyword at the front, where it is the name of the entity: what stands behind it.

@@ -6,7 +6,7 @@ ghost use Rattle.std.specs.Prelude.{◌≡◌, ◌≤◌, ℕ, [], length, IfNon
 ghost use Rattle.p21_spec_laws.specs.Needs.{FitsWithNeeds};
 ghost use Rattle.p21_express_graph.specs.Meaning.{type_use, width_option};
 ghost use Rattle.p21_spec_schema.specs.Schema as schema;
-ghost use Rattle.p21_shorter_tokens.specs.Numbers.{TranscribesNumber};
+ghost use Rattle.p21_shorter_tokens.specs.Numbers.{AppendsNumberToken};
 ghost use Rattle.p21_shorter_instances.specs.TakenValues.{TakesScalar, TakesValue};
 ghost use Rattle.p21_values.specs.Canonical.{Continues};
 
@@ -67,7 +67,7 @@ fn append_simple(of: &TypeUse, bytes: &[u8], draft: &mut Draft) -> Option<usize>
 /// Appends the real at the front, or the whole number where one may stand: how many bytes it has.
 #[inline(never)]
 fn append_single_real(bytes: &[u8], wholes: bool, draft: &mut Draft) -> Option<usize>
-    ensures some { IfSome result (λ count. TranscribesNumber wholes bytes.now count draft.old draft.new) }
+    ensures some { IfSome result (λ count. AppendsNumberToken wholes bytes.now count draft.old draft.new) }
     ensures none { IfNone result (Continues draft.old draft.new) }
 {
     append_real(bytes, wholes, draft)

@@ -4,9 +4,9 @@ use Rattle.std.proofs.Math.Seq.{take-append_seam, drop-append_seam}
 use Rattle.p21_spec_exchange.specs.Spelling.{spelling}
 use Rattle.p21_spec_exchange.specs.Token.{Token, IsFollowed, Spells}
 use Rattle.p21_scan.specs.Word.{IsTokenAt}
-use Rattle.p21_shorter_tokens.specs.LeadingToken.{IsCanonicalLeadingToken, Transcribes}
+use Rattle.p21_shorter_tokens.specs.LeadingToken.{AppendsToken, IsCanonicalLeadingToken}
 
-pub copied : (bytes : List ℕ) (count : ℕ) (token : Token) (old new : List ℕ) → IsCanonicalLeadingToken bytes count token → new ≡ old ++ take count bytes → Transcribes bytes count token old new
+pub copied : (bytes : List ℕ) (count : ℕ) (token : Token) (old new : List ℕ) → IsCanonicalLeadingToken bytes count token → new ≡ old ++ take count bytes → AppendsToken bytes count token old new
 copied bytes count token old new h e = record { stands = h.stands; appended = e ∙ ap (λ (x : List ℕ). old ++ x) h.own }
 
 -- a token that is scanned stands there

@@ -13,7 +13,7 @@ use Rattle.p21_scan.proofs.NamesAt.{name-spells}
 use Rattle.p21_scan.specs.Digits.{BeginsWithoutByte}
 use Rattle.p21_scan.specs.Name.{IsNameAt}
 use Rattle.p21_shorter_tokens.proofs.Splits.{behind-count}
-use Rattle.p21_shorter_tokens.specs.LeadingToken.{Transcribes}
+use Rattle.p21_shorter_tokens.specs.LeadingToken.{AppendsToken}
 
 -- digits with no zero in front of another one
 pub plain-front : (bytes : List ℕ) (count : ℕ) → AllDigits (take count bytes) → 0 < count → count ≤ length bytes → (1 < count → get_or bytes 0 0 ≢ 48) → ArePlain (take count bytes)
@@ -52,9 +52,9 @@ padded-name digits old marked new mark is =
     let spelled : List ℕ = plain_digits (number (take (length digits) digits)) in
     is ∙ ap (λ (x : List ℕ). x ++ spelled) mark ∙ append_assoc old (35 ∷ []) spelled ∙ ap (λ (ds : List ℕ). old ++ 35 ∷ plain_digits (number ds)) (take_all (length digits) digits (omega arith))
 
-pub name-transcribed : (bytes digits rest old new : List ℕ) (n : ℕ) → IsNameAt bytes digits rest → n ≡ number digits → number digits < 2 ^ 64 → new ≡ old ++ name_spelling (number digits)
-    → Transcribes bytes (length bytes - length rest) (name n) old new
-name-transcribed bytes digits rest old new n x value small appended =
+pub name-appended : (bytes digits rest old new : List ℕ) (n : ℕ) → IsNameAt bytes digits rest → n ≡ number digits → number digits < 2 ^ 64 → new ≡ old ++ name_spelling (number digits)
+    → AppendsToken bytes (length bytes - length rest) (name n) old new
+name-appended bytes digits rest old new n x value small appended =
     let front = name-front bytes digits rest x in
     let behind : drop (length bytes - length rest) bytes ≡ rest = behind-count bytes (35 ∷ digits) rest x.bytes_are in
     record {

@@ -32,7 +32,7 @@ use Rattle.p21_tokens_automaton.specs.declared.mode.TextMode.{TextMode}
 use Rattle.p21_tokens_automaton.specs.declared.mode.TextMode.TheVariants.{Inside}
 use Rattle.p21_shorter_tokens.proofs.TextTokens.{characters-encoded, size-within, text-stands}
 use Rattle.p21_shorter_tokens.specs.Characters.{AreCharacters}
-use Rattle.p21_shorter_tokens.specs.LeadingToken.{Transcribes}
+use Rattle.p21_shorter_tokens.specs.LeadingToken.{AppendsToken}
 use Rattle.p21_shorter_tokens.specs.Respelling.{AreExtended, AreGroups, Respells, RespellsAll}
 
 both : {A : Type 0} (P : A → Type 0) (xs ys : List A) → Each P xs → Each P ys → Each P (xs ++ ys)
@@ -318,8 +318,8 @@ module _ (bytes inside : List ℕ) (count size : ℕ) (old middle after new : Li
       ∙ (ap (λ (x : List ℕ). x ++ 39 ∷ []) (r.appended ∙ (ap (λ (x : List ℕ). x ++ written) begins ∙ append_assoc old (39 ∷ []) written))
       ∙ append_assoc old (39 ∷ written) (39 ∷ []))
 
-  own : Transcribes (39 ∷ inside) (count + 2) (text r.characters) old new
+  own : AppendsToken (39 ∷ inside) (count + 2) (text r.characters) old new
   own = record { stands = text-stands inside r.characters count all.ends r.stand_for; appended = appends }
 
-  pub text-respelled : (characters : List ℕ) × (size ≡ length characters) × Transcribes bytes (count + 2) (text characters) old new
-  text-respelled = (r.characters, r.size_is, subst (λ (x : List ℕ). Transcribes x (count + 2) (text r.characters) old new) (sym is) own)
+  pub text-respelled : (characters : List ℕ) × (size ≡ length characters) × AppendsToken bytes (count + 2) (text characters) old new
+  text-respelled = (r.characters, r.size_is, subst (λ (x : List ℕ). AppendsToken x (count + 2) (text r.characters) old new) (sym is) own)

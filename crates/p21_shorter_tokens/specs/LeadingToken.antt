@@ -15,6 +15,6 @@ pub record IsCanonicalLeadingToken (bytes : List ℕ) (count : ℕ) (token : Tok
   pub own : take count bytes ≡ spelling token
 
 -- the token stands there, and its canonical spelling is appended
-pub record Transcribes (bytes : List ℕ) (count : ℕ) (token : Token) (old new : List ℕ) : Type 0 where
+pub record AppendsToken (bytes : List ℕ) (count : ℕ) (token : Token) (old new : List ℕ) : Type 0 where
   pub stands : IsLeadingToken bytes count token
   pub appended : new ≡ old ++ spelling token

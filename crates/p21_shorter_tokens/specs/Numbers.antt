@@ -8,14 +8,14 @@ use Rattle.p21_values.specs.Decimal.{ReducesRatio}
 use Rattle.p21_scan.specs.Digits.{BeginsWithoutByte, WithoutTrailingZeros}
 use Rattle.p21_scan.specs.Number.{IsExponentAt, ReadsExponent}
 use Rattle.p21_values.specs.Stored.{significand_spelling}
-use Rattle.p21_shorter_tokens.specs.LeadingToken.{IsLeadingToken, Transcribes}
+use Rattle.p21_shorter_tokens.specs.LeadingToken.{AppendsToken, IsLeadingToken}
 
 -- A real stands at the front, and its canonical spelling is appended. Where whole numbers may stand too, as at a NUMBER
 -- (ISO 10303-21, mapping of EXPRESS data types), one may stand there, and the real of the same ratio is written
-pub data TranscribesNumber (wholes : Bool) (bytes : List ℕ) (count : ℕ) (old new : List ℕ) : Type 0 where
-  a_real : (d : Decimal) → Transcribes bytes count (real d) old new → TranscribesNumber wholes bytes count old new
+pub data AppendsNumberToken (wholes : Bool) (bytes : List ℕ) (count : ℕ) (old new : List ℕ) : Type 0 where
+  a_real : (d : Decimal) → AppendsToken bytes count (real d) old new → AppendsNumberToken wholes bytes count old new
   a_whole : (z : ℤ) (d : Decimal) → wholes ≡ true → IsLeadingToken bytes count (whole z) → IsReduced d → IsInRange (ratio_of d) → SameRatio (ratio_of d) (whole_ratio z) → new ≡ old ++ spelling (real d)
-      → TranscribesNumber wholes bytes count old new
+      → AppendsNumberToken wholes bytes count old new
 
 -- the canonical spelling of the number of this ratio is appended, or a part of it
 abbrev pub AppendsNumber : Bool → Ratio → List ℕ → List ℕ → Type 0

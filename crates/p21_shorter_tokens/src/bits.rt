@@ -1,7 +1,7 @@
 //! Binaries (ISO 10303-21, clause 6: tokens, binary).
 ghost use Rattle.std.specs.Prelude.{◌≡◌, Bool, List, length, IfNone, IfSome};
 ghost use Rattle.p21_spec_exchange.specs.Token.{bits};
-ghost use Rattle.p21_shorter_tokens.specs.LeadingToken.{IsCanonicalLeadingToken, Transcribes};
+ghost use Rattle.p21_shorter_tokens.specs.LeadingToken.{AppendsToken, IsCanonicalLeadingToken};
 
 use crate::draft::Draft;
 use p21_scan::scan_binary;
@@ -12,7 +12,7 @@ const MOST_HEX_DIGITS: usize = 65_536;
 /// Appends the binary at the front: how many bytes it has, and how many bits.
 #[inline(never)]
 pub fn append_bits(bytes: &[u8], draft: &mut Draft) -> Option<(usize, usize)>
-    ensures some { IfSome result (λ front. (value : List Bool) × (front.1 ≡ length value) × Transcribes bytes.now front.0 (bits value) draft.old draft.new) }
+    ensures some { IfSome result (λ front. (value : List Bool) × (front.1 ≡ length value) × AppendsToken bytes.now front.0 (bits value) draft.old draft.new) }
     ensures none { IfNone result (draft.new ≡ draft.old) }
 {
     let (count, size) = leading_bits(bytes)?;

@@ -1,12 +1,4 @@
 //! The text that is written of some statements.
-//!
-//! An instance for which memory is refused where it is taken straight from its bytes is refused, and doesn't go the
-//! general way. Who gives it up for that leaves a note in the draft (`Draft::note_want_of_memory`), and the loop over a
-//! piece answers want of memory where an instance isn't taken and there is a note. With a third answer beside taken and
-//! not taken each function on that way would ask after it at each token. The note is no part of a draft's value, since
-//! no clause can say that memory was refused: so none says that a note is made, or looked at. `hostile/allocations.py`
-//! refuses each allocation in turn. Clauses say that want of memory isn't answered for separators between tokens
-//! (`no_memory`).
 ghost use Rattle.std.specs.Prelude.{◌≡◌, ℕ, ◌+◌, ◌≤◌, [], ◌∷◌, ◌++◌, length, drop, take, slice_range};
 ghost use Rattle.p21_spec_basics.specs.Digits.{AllDigits};
 ghost use Rattle.p21_scan.specs.Digits.{WithoutTrailingZeros};
@@ -22,12 +14,11 @@ use std::simd::prelude::*;
 pub(crate) const WIDE: usize = 32;
 
 /// Text that is written into room of a fixed size, which is used again for the next one. Behind the text any bytes may
-/// stand. It also has a note of want of memory: who gives an instance up since memory was refused sets it.
+/// stand.
 #[derive(Drop)]
 pub struct Draft {
     pub(crate) room: Vec<u8>,
     pub(crate) used: usize,
-    wants_memory: bool,
 }
 
 impl Model for Draft {
@@ -41,27 +32,14 @@ impl Model for Draft {
 }
 
 impl Draft {
-    /// No text, no room, and no note. It takes no memory.
+    /// No text and no room. It takes no memory.
     pub fn new(alloc: Global) -> Draft
         ensures { result ≡ [] }
     {
         Draft {
             room: Vec::new(alloc),
             used: 0,
-            wants_memory: false,
         }
-    }
-
-    /// Notes that memory was refused for what goes with the text.
-    pub fn note_want_of_memory(&mut self)
-        ensures { self.new ≡ self.old }
-    {
-        self.wants_memory = true;
-    }
-
-    /// Whether that was noted. A note stays.
-    pub fn wants_memory(&self) -> bool {
-        self.wants_memory
     }
 
     /// How many bytes the text may have.

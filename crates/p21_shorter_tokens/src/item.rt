@@ -3,7 +3,7 @@ ghost use Rattle.std.specs.Prelude.{◌≡◌, ℕ, ◌+◌, List, length, Conta
 ghost use Rattle.p21_spec_exchange.specs.Keyword.{IsUpper};
 ghost use Rattle.p21_spec_exchange.specs.Token.{item};
 ghost use Rattle.p21_spec_file.specs.Fits.{boolean_items, logical_items};
-ghost use Rattle.p21_shorter_tokens.specs.LeadingToken.{IsCanonicalLeadingToken, Transcribes};
+ghost use Rattle.p21_shorter_tokens.specs.LeadingToken.{AppendsToken, IsCanonicalLeadingToken};
 
 use crate::draft::Draft;
 use p21_scan::scan_item;
@@ -11,7 +11,7 @@ use p21_values::Word;
 
 /// Appends the item at the front, if its word is one of these: how many bytes it has.
 pub fn append_item(bytes: &[u8], words: &[Word], draft: &mut Draft) -> Option<usize>
-    ensures some { IfSome result (λ count. (word : List ℕ) × Contains words.now word × Transcribes bytes.now count (item word) draft.old draft.new) }
+    ensures some { IfSome result (λ count. (word : List ℕ) × Contains words.now word × AppendsToken bytes.now count (item word) draft.old draft.new) }
     ensures none { IfNone result (draft.new ≡ draft.old) }
 {
     let word = leading_item(bytes)?;
@@ -24,7 +24,7 @@ pub fn append_item(bytes: &[u8], words: &[Word], draft: &mut Draft) -> Option<us
 
 /// Appends the truth value at the front, `.T.` or `.F.`, or `.U.` where that is allowed: how many bytes it has.
 pub fn append_logical(bytes: &[u8], unknown: bool, draft: &mut Draft) -> Option<usize>
-    ensures some { IfSome result (λ count. (word : List ℕ) × Contains (if unknown then logical_items else boolean_items) word × Transcribes bytes.now count (item word) draft.old draft.new) }
+    ensures some { IfSome result (λ count. (word : List ℕ) × Contains (if unknown then logical_items else boolean_items) word × AppendsToken bytes.now count (item word) draft.old draft.new) }
     ensures none { IfNone result (draft.new ≡ draft.old) }
 {
     let [b'.', letter, b'.', ..] = bytes else {

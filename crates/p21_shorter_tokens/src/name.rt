@@ -4,7 +4,7 @@ ghost use Rattle.p21_spec_basics.specs.Digits.{AllDigits, number};
 ghost use Rattle.p21_spec_exchange.specs.Spelling.{name_spelling};
 ghost use Rattle.p21_spec_exchange.specs.Token.{name};
 ghost use Rattle.p21_shorter_tokens.specs.Appending.{AppendsAllOrNone};
-ghost use Rattle.p21_shorter_tokens.specs.LeadingToken.{Transcribes};
+ghost use Rattle.p21_shorter_tokens.specs.LeadingToken.{AppendsToken};
 
 use crate::digits::begins_with;
 use crate::draft::Draft;
@@ -14,7 +14,7 @@ use p21_scan::{name_number, scan_name};
 /// Appends the name at the front: how many bytes it has, and its number.
 #[inline(always)]
 pub fn append_name(bytes: &[u8], draft: &mut Draft) -> Option<(usize, u64)>
-    ensures some { IfSome result (λ front. Transcribes bytes.now front.0 (name front.1) draft.old draft.new) }
+    ensures some { IfSome result (λ front. AppendsToken bytes.now front.0 (name front.1) draft.old draft.new) }
     ensures none { IfNone result (draft.new ≡ draft.old) }
 {
     let (digits, rest) = scan_name(bytes)?;

@@ -6,7 +6,7 @@ ghost use Rattle.p21_spec_exchange.specs.Spelling.{whole_spelling};
 ghost use Rattle.p21_spec_exchange.specs.Token.{whole};
 ghost use Rattle.p21_values.specs.Canonical.{Continues};
 ghost use Rattle.p21_shorter_tokens.specs.Appending.{AppendsAllOrSome};
-ghost use Rattle.p21_shorter_tokens.specs.LeadingToken.{Transcribes};
+ghost use Rattle.p21_shorter_tokens.specs.LeadingToken.{AppendsToken};
 
 use crate::digits::{begins_with, leading_zeros};
 use crate::draft::Draft;
@@ -14,7 +14,7 @@ use p21_scan::scan_integer;
 
 /// Appends the whole number at the front: how many bytes it has.
 pub fn append_whole(bytes: &[u8], draft: &mut Draft) -> Option<usize>
-    ensures some { IfSome result (λ count. (value : ℤ) × Transcribes bytes.now count (whole value) draft.old draft.new) }
+    ensures some { IfSome result (λ count. (value : ℤ) × AppendsToken bytes.now count (whole value) draft.old draft.new) }
     ensures none { IfNone result (Continues draft.old draft.new) }
 {
     let (integer, rest) = scan_integer(bytes)?;

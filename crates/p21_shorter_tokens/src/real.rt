@@ -5,7 +5,7 @@ ghost use Rattle.p21_values.specs.Canonical.{Continues};
 ghost use Rattle.p21_scan.specs.Digits.{HasNoLeadingZero};
 ghost use Rattle.p21_values.specs.RealComponents.{digits_ratio};
 ghost use Rattle.p21_shorter_tokens.specs.Appending.{AppendsAllOrNone};
-ghost use Rattle.p21_shorter_tokens.specs.Numbers.{AppendsNormalised, AppendsNumber, AppendsWithoutExponent, EndsReal, TranscribesNumber};
+ghost use Rattle.p21_shorter_tokens.specs.Numbers.{AppendsNormalised, AppendsNumber, AppendsNumberToken, AppendsWithoutExponent, EndsReal};
 ghost use Rattle.p21_shorter_tokens.specs.Runs.{AreDigits};
 ghost use Rattle.p21_shorter_tokens.specs.Significands.{AppendsSignificand, placed_ratio, significand};
 
@@ -29,7 +29,7 @@ struct Digits<'a> {
 /// Appends the real at the front: how many bytes it has. Where a whole number may stand too, it is written as a real.
 #[inline(always)]
 pub fn append_real(bytes: &[u8], wholes: bool, draft: &mut Draft) -> Option<usize>
-    ensures some { IfSome result (λ count. TranscribesNumber wholes bytes.now count draft.old draft.new) }
+    ensures some { IfSome result (λ count. AppendsNumberToken wholes bytes.now count draft.old draft.new) }
     ensures none { IfNone result (Continues draft.old draft.new) }
 {
     match append_plain_real(bytes, draft) {
@@ -41,7 +41,7 @@ pub fn append_real(bytes: &[u8], wholes: bool, draft: &mut Draft) -> Option<usiz
 /// Appends the real at the front, if it has no exponent and its digits end near: how many bytes it has.
 #[inline(always)]
 pub fn append_plain_real(bytes: &[u8], draft: &mut Draft) -> Option<usize>
-    ensures some { IfSome result (λ count. (wholes : Bool) → TranscribesNumber wholes bytes.now count draft.old draft.new) }
+    ensures some { IfSome result (λ count. (wholes : Bool) → AppendsNumberToken wholes bytes.now count draft.old draft.new) }
     ensures none { IfNone result (draft.new ≡ draft.old) }
 {
     let (negative, unsigned) = split_sign(bytes);
@@ -59,7 +59,7 @@ pub fn append_plain_real(bytes: &[u8], draft: &mut Draft) -> Option<usize>
 /// Appends the real at the front, which has an exponent or doesn't end near, or a whole number: how many bytes it has.
 #[inline(never)]
 pub fn append_other_real(bytes: &[u8], wholes: bool, draft: &mut Draft) -> Option<usize>
-    ensures some { IfSome result (λ count. TranscribesNumber wholes bytes.now count draft.old draft.new) }
+    ensures some { IfSome result (λ count. AppendsNumberToken wholes bytes.now count draft.old draft.new) }
     ensures none { IfNone result (Continues draft.old draft.new) }
 {
     let (negative, unsigned) = split_sign(bytes);
@@ -75,7 +75,7 @@ pub fn append_other_real(bytes: &[u8], wholes: bool, draft: &mut Draft) -> Optio
 /// The same for a real of more digits, at the end of a piece, and for a whole number.
 #[inline(never)]
 fn append_far(bytes: &[u8], wholes: bool, draft: &mut Draft) -> Option<usize>
-    ensures some { IfSome result (λ count. TranscribesNumber wholes bytes.now count draft.old draft.new) }
+    ensures some { IfSome result (λ count. AppendsNumberToken wholes bytes.now count draft.old draft.new) }
     ensures none { IfNone result (Continues draft.old draft.new) }
 {
     let (number, rest) = scan_number(bytes)?;

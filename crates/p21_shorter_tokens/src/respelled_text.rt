@@ -5,7 +5,7 @@ ghost use Rattle.p21_spec_exchange.specs.Text.{Encodes};
 ghost use Rattle.p21_spec_exchange.specs.Token.{text};
 ghost use Rattle.p21_tokens_automaton.specs.declared.mode.Mode.TheVariants.{Text};
 ghost use Rattle.p21_tokens_automaton.specs.declared.mode.TextMode.TheVariants.{Inside};
-ghost use Rattle.p21_shorter_tokens.specs.LeadingToken.{Transcribes};
+ghost use Rattle.p21_shorter_tokens.specs.LeadingToken.{AppendsToken};
 ghost use Rattle.p21_shorter_tokens.specs.Respelling.{Respells, RespellsAll};
 ghost use Rattle.p21_values.specs.Canonical.{Continues};
 
@@ -19,7 +19,7 @@ use p21_tokens_automaton::{Action, Mode, TextMode, advance};
 /// Appends the string at the front: how many bytes it has, and how many characters.
 #[inline(never)]
 pub(crate) fn append_respelled(bytes: &[u8], draft: &mut Draft) -> Option<(usize, usize)>
-    ensures some { IfSome result (λ front. (characters : List ℕ) × (front.1 ≡ length characters) × Transcribes bytes.now front.0 (text characters) draft.old draft.new) }
+    ensures some { IfSome result (λ front. (characters : List ℕ) × (front.1 ≡ length characters) × AppendsToken bytes.now front.0 (text characters) draft.old draft.new) }
     ensures none { IfNone result (draft.new ≡ draft.old) }
 {
     let before = draft.len();
@@ -31,7 +31,7 @@ pub(crate) fn append_respelled(bytes: &[u8], draft: &mut Draft) -> Option<(usize
 }
 
 fn append_string(bytes: &[u8], draft: &mut Draft) -> Option<(usize, usize)>
-    ensures some { IfSome result (λ front. (characters : List ℕ) × (front.1 ≡ length characters) × Transcribes bytes.now front.0 (text characters) draft.old draft.new) }
+    ensures some { IfSome result (λ front. (characters : List ℕ) × (front.1 ≡ length characters) × AppendsToken bytes.now front.0 (text characters) draft.old draft.new) }
     ensures none { IfNone result (Continues draft.old draft.new) }
 {
     let inside = behind(b'\'', bytes)?;

@@ -2,7 +2,7 @@
 ghost use Rattle.std.specs.Prelude.{◌≡◌, ℕ, ◌<◌, ◌≤◌, ◌⊎◌, List, length, IfNone, IfSome, IsTrue};
 ghost use Rattle.p21_spec_exchange.specs.Token.{text};
 ghost use Rattle.p21_shorter_tokens.specs.Characters.{AreCharacters, IsLoneGroup};
-ghost use Rattle.p21_shorter_tokens.specs.LeadingToken.{IsCanonicalLeadingToken, Transcribes};
+ghost use Rattle.p21_shorter_tokens.specs.LeadingToken.{AppendsToken, IsCanonicalLeadingToken};
 
 use crate::draft::Draft;
 use crate::respelled_text::append_respelled;
@@ -13,7 +13,7 @@ use p21_tokens_automaton::plain_characters;
 /// canonical spelling, its bytes are copied.
 #[inline(always)]
 pub fn append_text(bytes: &[u8], draft: &mut Draft) -> Option<(usize, usize)>
-    ensures some { IfSome result (λ front. (characters : List ℕ) × (front.1 ≡ length characters) × Transcribes bytes.now front.0 (text characters) draft.old draft.new) }
+    ensures some { IfSome result (λ front. (characters : List ℕ) × (front.1 ≡ length characters) × AppendsToken bytes.now front.0 (text characters) draft.old draft.new) }
     ensures none { IfNone result (draft.new ≡ draft.old) }
 {
     match leading_text(bytes) {

@@ -29,22 +29,31 @@ use Rattle.p21_stream.specs.Passing.{IsFoundIn}
 use Rattle.p21_stream.specs.Walk.{EndsNoToken, FollowsFound, IsUnderWay, NeedsNoMemory, StepGives, TakesFound}
 use Rattle.p21_tokens.specs.Histories.{AreSeparators}
 use Rattle.p21_shorter_tokens.specs.Gaps.{PassesSeparators}
+use Rattle.p21_shorter_instances.specs.Leaving.{BeginsWithName}
 use Rattle.p21_shorter_instances.specs.Instance.{HasEntities, TakesInstance}
 use Rattle.p21_shorter_instances.specs.declared.instance.Set.{Set}
 use Rattle.p21_shorter_instances.specs.declared.instance.Set.TheVariants.{Numbered, Own}
 use Rattle.p21_shorter_instances.specs.declared.taken.Taken.{Taken}
 use Rattle.p21_shorter_instances.specs.TakenValues.{LaidBefore}
 
--- a `#` is no separator: bytes that have one behind their separators have a byte that is none
+-- a `#` is no separator
+number_sign-none : IsSeparator (blank 35) → ⊥
+number_sign-none (inl below) = omega (arith, below)
+number_sign-none (inr same) = omega (arith, same)
+
+-- bytes that have one behind their separators have a byte that is no separator
 pub number_sign-separates : (bytes rest behind : List ℕ) → PassesSeparators bytes rest → rest ≡ 35 ∷ behind → AreSeparators bytes → ⊥
 number_sign-separates bytes rest behind passes begins are =
     let all = subst AreSeparators passes.bytes_are are in
     let last = Each-back (λ byte. IsSeparator (blank byte)) passes.gap rest all in
-    none (subst AreSeparators begins last).0
-  where
-    none : IsSeparator (blank 35) → ⊥
-    none (inl below) = omega (arith, below)
-    none (inr same) = omega (arith, same)
+    number_sign-none (subst AreSeparators begins last).0
+
+-- a name begins with one
+pub name-separates : (bytes : List ℕ) → BeginsWithName bytes → AreSeparators bytes → ⊥
+name-separates bytes (n, rest, laid) are =
+    let (gap, spelling, behind, is, separates, spells, followed, more) = laid in
+    let last = Each-back (λ byte. IsSeparator (blank byte)) gap (spelling ++ behind) (subst AreSeparators is are) in
+    number_sign-none (subst (λ (front : List ℕ). AreSeparators (front ++ behind)) spells.form.bytes_are last).0
 
 -- where bytes are no separators alone, memory may be asked for
 pub begun-quiet : {K : Type 0} (keeps : List Statement → K → Type 0) (limits : Limits) (held : statements.Held) (kept : K) (piece : List ℕ) (result : Result (Option ℕ) Refusal) → (AreSeparators piece → ⊥) → NeedsNoMemory keeps limits held kept piece result

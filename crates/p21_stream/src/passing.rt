@@ -4,7 +4,7 @@ ghost use Rattle.p21_mapping_values.specs.TypedView.{ids_view};
 ghost use Rattle.p21_spec_schema.specs.Schema.{Schema as Meant};
 ghost use Rattle.p21_stream_statements.specs.Source.{IsOfStatement};
 ghost use Rattle.p21_stream_statements.specs.StatementReader.{limits_of};
-ghost use Rattle.p21_stream.specs.Passing.{FindsInstance, some_count};
+ghost use Rattle.p21_stream.specs.Passing.{FindsInstance, SparesSeparators, some_count};
 ghost use Rattle.p21_stream.specs.Walk.{EndsNoToken, IsUnderWay, NeedsNoMemory, PassGives, TakesWithinPiece};
 ghost use Rattle.p21_tokens.specs.Histories.{AreSeparators};
 ghost use Rattle.p21_shorter_instances.specs.Instance.{HasEntities};
@@ -16,7 +16,7 @@ use crate::noting::{bytes_of_statement, note_passed};
 use crate::walk::{Walk, refused};
 use p21_express_graph::EntityId;
 use p21_schema::Schema;
-use p21_shorter_instances::{Plan, Set, Sets, Taken, take_instance};
+use p21_shorter_instances::{GivenUp, Plan, Set, Sets, Taken, take_instance};
 use p21_shorter_tokens::{Draft, behind_separators};
 use p21_stream_kept::FoundInstance;
 use p21_stream_statements::{Fault, Refusal};
@@ -108,17 +108,18 @@ impl<K: Keeper> Walk<K> {
             return Ok(None);
         }
         schema.well_formed();
-        let Some(found) = find(
+        let found = match find(
             schema,
             &mut self.plan,
             &mut self.sets,
             piece,
             &mut self.taken,
-        ) else {
-            if lacks_memory(piece, &self.taken.draft) {
+        ) {
+            Ok(found) => found,
+            Err(GivenUp::NotUsual) => return Ok(None),
+            Err(GivenUp::NoMemory) => {
                 return Err(refused(Fault::NoMemory, None, self.statement));
             }
-            return Ok(None);
         };
         let Some(entities) = entities_of(found.set, &self.plan, &self.sets) else {
             return Ok(None);
@@ -163,7 +164,11 @@ fn some_bytes(count: usize) -> Option<usize>
 }
 
 /// Finds the instance at the beginning of a piece, where it stands there whole and is usual. Its canonical line is the text
-/// then, and its references are the needs. None where it isn't, and where memory is refused, which is noted in the draft.
+/// then, and its references are the needs.
+///
+/// # Errors
+///
+/// Why it isn't taken: it isn't usual, or memory was refused for it.
 #[inline(always)]
 pub(crate) fn find(
     schema: &Schema,
@@ -171,53 +176,51 @@ pub(crate) fn find(
     sets: &mut Sets,
     piece: &[u8],
     taken: &mut Taken,
-) -> Option<Passing>
+) -> Result<Passing, GivenUp>
     requires plan { IsPlanOf schema.now plan.old }
     requires sets { AreExternalSets schema.now sets.old }
-    ensures found { IfSome result (λ found. FindsInstance schema.now sets.new found piece.now taken.new) }
-    ensures within { IfSome result (λ found. found.count ≤ length piece.now) }
+    ensures found { IfOk result (λ found. FindsInstance schema.now sets.new found piece.now taken.new) }
+    ensures within { IfOk result (λ found. found.count ≤ length piece.now) }
+    ensures spares { SparesSeparators result piece.now }
     ensures plan { IsPlanOf schema.now plan.new }
     ensures sets { AreExternalSets schema.now sets.new }
 {
-    if !has_room(piece, &mut taken.draft) {
-        return None;
-    }
+    have_room(piece, &mut taken.draft)?;
     forget(taken);
-    let Some(instance) = take_instance(schema, plan, sets, piece, taken) else {
-        return None;
+    let instance = match take_instance(schema, plan, sets, piece, taken) {
+        Ok(instance) => instance,
+        Err(why) => return Err(why),
     };
-    Some(Passing {
+    Ok(Passing {
         name: instance.name,
         set: instance.set,
         count: piece.len() - instance.rest.len(),
     })
 }
 
-/// Whether there is room for a canonical line. Where an instance begins, it is made.
+/// Has there be room for a canonical line. Where an instance begins, it is made.
 #[inline(always)]
-fn has_room(piece: &[u8], draft: &mut Draft) -> bool {
-    draft.room() >= ROOM_OF_A_LINE || makes_room(piece, draft)
+fn have_room(piece: &[u8], draft: &mut Draft) -> Result<(), GivenUp>
+    ensures { SparesSeparators result piece.now }
+{
+    if draft.room() >= ROOM_OF_A_LINE {
+        return Ok(());
+    }
+    make_room(piece, draft)
 }
 
 /// Makes the room where an instance begins: so between statements no memory is asked for.
 #[inline(never)]
-fn makes_room(piece: &[u8], draft: &mut Draft) -> bool {
+fn make_room(piece: &[u8], draft: &mut Draft) -> Result<(), GivenUp>
+    ensures { SparesSeparators result piece.now }
+{
     if !begins_instance(piece) {
-        return false;
+        return Err(GivenUp::NotUsual);
     }
     let Ok(()) = draft.make_room(ROOM_OF_A_LINE) else {
-        draft.note_want_of_memory();
-        return false;
+        return Err(GivenUp::NoMemory);
     };
-    true
-}
-
-/// Whether memory was refused for the instance at the beginning of a piece.
-#[inline(never)]
-pub(crate) fn lacks_memory(piece: &[u8], draft: &Draft) -> bool
-    ensures { IsTrue result → AreSeparators piece.now → ⊥ }
-{
-    draft.wants_memory() && begins_instance(piece)
+    Ok(())
 }
 
 /// Whether the mark of a name stands first behind the separators, as in an instance.

@@ -9,7 +9,7 @@ mod places;
 mod same_values;
 mod sameness;
 mod schemas;
-mod shorter;
+mod shorter_way;
 mod texts;
 mod trees;
 mod typed;

@@ -6,7 +6,7 @@ mod param;
 mod places;
 mod reopened;
 mod runs;
-mod shorter;
+mod shorter_way;
 mod texts;
 
 use p21_tokens::{Absent, Canonical, Lexer, Limits, Token, TokenFault};

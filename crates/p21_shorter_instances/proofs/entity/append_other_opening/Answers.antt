@@ -1,7 +1,7 @@
 use Rattle.std.proofs.Common.{List, ℕ, drop, subst}
 use Rattle.p21_spec_basics.proofs.Members.{rest_is}
 use Rattle.p21_shorter_instances.proofs.Keywords.{entity-behind, named-before}
-use Rattle.p21_shorter_instances.proofs.Stepping.{none_from}
+use Rattle.p21_shorter_instances.proofs.Leaving.{err-from}
 use Rattle.p21_shorter_instances.specs.TakenParameters.{TakesDelimiter}
 use Rattle.p21_shorter_instances.proofs.entity.append_other_opening.Goals as goal
 
@@ -18,11 +18,11 @@ returns-in-Some-clause-some c =
       behind = drop count front;
       between = keyed;
       entity = entity-behind s e c.args.bytes.now front (drop count front) old keyed c.behind_separators-front.ensures entity;
-      opened = subst (λ (behind : List ℕ). TakesDelimiter 40 behind c.in_ok-inside.inside.now keyed c.append_delimiter.new.draft) (rest_is front count) c.in_ok-inside.ensures.some;
+      opened = subst (λ (behind : List ℕ). TakesDelimiter 40 behind c.in-Some-append_delimiter.inside.now keyed c.append_delimiter.new.draft) (rest_is front count) c.in-Some-append_delimiter.ensures.some;
     }
 
 pub returns-in_ok-entity-in-None-clause-some : goal.returns-in_ok-entity-in-None-clause-some
 returns-in_ok-entity-in-None-clause-some c = rw c.in-None.ensures.none at c.in_ok-entity-in-None.ensures.some
 
 pub returns-in_err-entity-in-None-clause-none : goal.returns-in_err-entity-in-None-clause-none
-returns-in_err-entity-in-None-clause-none c = none_from _ (rw c.in-None.ensures.none at c.in_err-entity-in-None.ensures.none)
+returns-in_err-entity-in-None-clause-none c = err-from _ (rw c.in-None.ensures.none at c.in_err-entity-in-None.ensures.none)

@@ -8,7 +8,7 @@ pub append_by_set-requires : goal.append_by_set-requires
 append_by_set-requires c = subst (AreExternalSets c.args.schema.now) (sym c.expect.ensures) c.set_ahead.ensures.sets
 
 pub returns-in_default-clause-draft : goal.returns-in_default-clause-draft
-returns-in_default-clause-draft c = rw c.note_want_of_memory.ensures (continues-same _ _ refl)
+returns-in_default-clause-draft c = continues-same _ _ refl
 
 pub returns-in_default-clause-needs : goal.returns-in_default-clause-needs
 returns-in_default-clause-needs c = needs-same _ _ refl
@@ -18,9 +18,3 @@ returns-in_default-found-clause-draft c = continues-same _ _ refl
 
 pub returns-in_default-found-clause-needs : goal.returns-in_default-found-clause-needs
 returns-in_default-found-clause-needs c = needs-same _ _ refl
-
-pub returns-then-wants_memory-clause-draft : goal.returns-then-wants_memory-clause-draft
-returns-then-wants_memory-clause-draft c = continues-same _ _ refl
-
-pub returns-then-wants_memory-clause-needs : goal.returns-then-wants_memory-clause-needs
-returns-then-wants_memory-clause-needs c = needs-same _ _ refl

@@ -4,8 +4,9 @@ use Rattle.p21_express_graph.specs.Lookups.{places_from}
 use Rattle.p21_express_graph.specs.Orders.{numbers}
 use Rattle.p21_spec_file.specs.ValueText.{with_commas}
 use Rattle.p21_shorter_tokens.proofs.Parts.{stays-behind}
+use Rattle.p21_shorter_instances.proofs.Leaving.{err-from}
 use Rattle.p21_shorter_instances.proofs.Joining.{at-goes_on, own-next}
-use Rattle.p21_shorter_instances.proofs.Stepping.{mark-goes_on, needs-join, none-places, none_from}
+use Rattle.p21_shorter_instances.proofs.Stepping.{mark-goes_on, needs-join, none-places}
 use Rattle.p21_shorter_instances.specs.TakenParameters.{TakesPlaces}
 use Rattle.p21_shorter_instances.proofs.Values.{needs-same}
 use Rattle.p21_shorter_instances.proofs.own_parameters.append_further_parameters.Goals as goal
@@ -22,18 +23,18 @@ loop-index-init c = record {
 pub append_parameter_at-requires-clause-place : goal.append_parameter_at-requires-clause-place
 append_parameter_at-requires-clause-place c = omega (arith, c.loop-index-test.true, c.requires.count)
 
-pub returns-in_err-behind-clause-draft : goal.returns-in_err-behind-clause-draft
-returns-in_err-behind-clause-draft c = none_from _ (stays-behind _ _ _ c.loop-index.invariant.draft c.in_err-behind.ensures.none)
+pub returns-in_default-clause-draft : goal.returns-in_default-clause-draft
+returns-in_default-clause-draft c = stays-behind _ _ _ c.loop-index.invariant.draft c.in_default.ensures.none
 
-pub returns-in_err-behind-clause-needs : goal.returns-in_err-behind-clause-needs
-returns-in_err-behind-clause-needs c = none_from _ c.loop-index.invariant.needs
+pub returns-in_default-clause-needs : goal.returns-in_default-clause-needs
+returns-in_default-clause-needs c = c.loop-index.invariant.needs
 
 pub returns-in_err-rest-clause-draft : goal.returns-in_err-rest-clause-draft
 returns-in_err-rest-clause-draft c =
-    none_from _ (continues-join _ _ _ c.loop-index.invariant.draft (continues-join _ _ _ (mark-goes_on _ _ _ _ _ c.in_ok-behind.ensures.some) c.in_err-rest.ensures.draft))
+    err-from _ (continues-join _ _ _ c.loop-index.invariant.draft (continues-join _ _ _ (mark-goes_on _ _ _ _ _ c.in-Some.ensures.some) c.in_err-rest.ensures.draft))
 
 pub returns-in_err-rest-clause-needs : goal.returns-in_err-rest-clause-needs
-returns-in_err-rest-clause-needs c = none_from _ (needs-join _ _ _ c.loop-index.invariant.needs c.in_err-rest.ensures.needs)
+returns-in_err-rest-clause-needs c = err-from _ (needs-join _ _ _ c.loop-index.invariant.needs c.in_err-rest.ensures.needs)
 
 pub loop-index-preserved : goal.loop-index-preserved
 loop-index-preserved c =
@@ -41,8 +42,8 @@ loop-index-preserved c =
     let some = c.loop-index.invariant.some in
     record {
       some = omega (arith, some);
-      takes = own-next c.args.schema.now (numbers c.args.set.now) c.args.owner.entity.0 c.loop-index.index c.args.bytes.now _ _ _ _ c.loop-index.taken _ _ some c.loop-index.invariant.takes c.in_ok-behind.ensures.some c.in_ok-rest.ensures.some;
-      draft = continues-join _ _ _ c.loop-index.invariant.draft (continues-join _ _ _ (mark-goes_on _ _ _ _ _ c.in_ok-behind.ensures.some) goes_on.0);
+      takes = own-next c.args.schema.now (numbers c.args.set.now) c.args.owner.entity.0 c.loop-index.index c.args.bytes.now _ _ _ _ c.loop-index.taken _ _ some c.loop-index.invariant.takes c.in-Some.ensures.some c.in_ok-rest.ensures.some;
+      draft = continues-join _ _ _ c.loop-index.invariant.draft (continues-join _ _ _ (mark-goes_on _ _ _ _ _ c.in-Some.ensures.some) goes_on.0);
       needs = needs-join _ _ _ c.loop-index.invariant.needs goes_on.1;
     }
 

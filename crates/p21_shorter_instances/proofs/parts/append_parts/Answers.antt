@@ -3,8 +3,9 @@ use Rattle.std.proofs.lemmas.List.{take_all}
 use Rattle.p21_express_graph.proofs.Gatherings.{numbered-at}
 use Rattle.p21_express_graph.specs.Orders.{numbers}
 use Rattle.p21_express_graph.specs.declared.number.EntityId.{EntityId}
+use Rattle.p21_shorter_instances.proofs.Leaving.{err-from}
 use Rattle.p21_shorter_instances.proofs.Joining.{next-part, no-parts, parts-go_on}
-use Rattle.p21_shorter_instances.proofs.Stepping.{needs-join, none_from}
+use Rattle.p21_shorter_instances.proofs.Stepping.{needs-join}
 use Rattle.p21_shorter_instances.specs.Records.{TakesParts}
 use Rattle.p21_shorter_instances.proofs.Values.{needs-same}
 use Rattle.p21_shorter_instances.proofs.parts.append_parts.Goals as goal
@@ -21,10 +22,10 @@ pub append_part-requires-clause-owner : goal.append_part-requires-clause-owner
 append_part-requires-clause-owner c = c.requires _ (numbered-at (λ e. e.0) c.args.set.now c.loop-owner.owner-index record { 0 = 0 } c.loop-owner-test.true)
 
 pub returns-in_err-rest-clause-draft : goal.returns-in_err-rest-clause-draft
-returns-in_err-rest-clause-draft c = none_from _ (continues-join _ _ _ c.loop-owner.invariant.draft c.in_err-rest.ensures.draft)
+returns-in_err-rest-clause-draft c = err-from _ (continues-join _ _ _ c.loop-owner.invariant.draft c.in_err-rest.ensures.draft)
 
 pub returns-in_err-rest-clause-needs : goal.returns-in_err-rest-clause-needs
-returns-in_err-rest-clause-needs c = none_from _ (needs-join _ _ _ c.loop-owner.invariant.needs c.in_err-rest.ensures.needs)
+returns-in_err-rest-clause-needs c = err-from _ (needs-join _ _ _ c.loop-owner.invariant.needs c.in_err-rest.ensures.needs)
 
 pub loop-owner-preserved : goal.loop-owner-preserved
 loop-owner-preserved c =

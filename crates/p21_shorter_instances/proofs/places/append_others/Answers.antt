@@ -3,7 +3,8 @@ use Rattle.std.proofs.lemmas.List.{take_all}
 use Rattle.p21_spec_exchange.specs.Parameter.{more_tokens}
 use Rattle.p21_spec_file.specs.ValueText.{with_commas}
 use Rattle.p21_shorter_tokens.proofs.Parts.{stays-behind}
-use Rattle.p21_shorter_instances.proofs.Stepping.{each-in, mark-goes_on, needs-join, next-step, no-steps, none_from, step-goes_on}
+use Rattle.p21_shorter_instances.proofs.Leaving.{err-from}
+use Rattle.p21_shorter_instances.proofs.Stepping.{each-in, mark-goes_on, needs-join, next-step, no-steps, step-goes_on}
 use Rattle.p21_shorter_instances.specs.TakenParameters.{TakesSteps}
 use Rattle.p21_shorter_instances.specs.declared.step.Step.{Step}
 use Rattle.p21_shorter_instances.proofs.Values.{needs-same}
@@ -20,22 +21,22 @@ loop-step-init c = record {
 pub append_place-requires : goal.append_place-requires
 append_place-requires c = each-in _ _ _ _ c.step-item.is c.loop-step-test.true c.requires
 
-pub returns-in_err-behind-clause-draft : goal.returns-in_err-behind-clause-draft
-returns-in_err-behind-clause-draft c = none_from _ (stays-behind _ _ _ c.loop-step.invariant.draft c.in_err-behind.ensures.none)
+pub returns-in_default-clause-draft : goal.returns-in_default-clause-draft
+returns-in_default-clause-draft c = stays-behind _ _ _ c.loop-step.invariant.draft c.in_default.ensures.none
 
 pub returns-in_err-rest-clause-draft : goal.returns-in_err-rest-clause-draft
 returns-in_err-rest-clause-draft c =
-    none_from _ (continues-join _ _ _ c.loop-step.invariant.draft (continues-join _ _ _ (mark-goes_on _ _ _ _ _ c.in_ok-behind.ensures.some) c.in_err-rest.ensures.draft))
+    err-from _ (continues-join _ _ _ c.loop-step.invariant.draft (continues-join _ _ _ (mark-goes_on _ _ _ _ _ c.in-Some.ensures.some) c.in_err-rest.ensures.draft))
 
 pub returns-in_err-rest-clause-needs : goal.returns-in_err-rest-clause-needs
-returns-in_err-rest-clause-needs c = none_from _ (needs-join _ _ _ c.loop-step.invariant.needs c.in_err-rest.ensures.needs)
+returns-in_err-rest-clause-needs c = err-from _ (needs-join _ _ _ c.loop-step.invariant.needs c.in_err-rest.ensures.needs)
 
 pub loop-step-preserved : goal.loop-step-preserved
 loop-step-preserved c =
     let goes_on = step-goes_on _ _ _ _ _ _ (each-in _ _ _ _ c.step-item.is c.loop-step-test.true c.requires) c.in_ok-rest.ensures.some in
     record {
-      takes = next-step c.args.schema.now c.args.steps.now _ _ c.args.bytes.now _ _ _ _ c.loop-step.taken _ _ c.step-item.is c.loop-step-test.true c.loop-step.invariant.takes c.in_ok-behind.ensures.some c.in_ok-rest.ensures.some;
-      draft = continues-join _ _ _ c.loop-step.invariant.draft (continues-join _ _ _ (mark-goes_on _ _ _ _ _ c.in_ok-behind.ensures.some) goes_on.0);
+      takes = next-step c.args.schema.now c.args.steps.now _ _ c.args.bytes.now _ _ _ _ c.loop-step.taken _ _ c.step-item.is c.loop-step-test.true c.loop-step.invariant.takes c.in-Some.ensures.some c.in_ok-rest.ensures.some;
+      draft = continues-join _ _ _ c.loop-step.invariant.draft (continues-join _ _ _ (mark-goes_on _ _ _ _ _ c.in-Some.ensures.some) goes_on.0);
       needs = needs-join _ _ _ c.loop-step.invariant.needs goes_on.1;
     }
 

@@ -1,7 +1,7 @@
 use Rattle.std.proofs.Common.{refl, subst}
 use Rattle.p21_spec_exchange.specs.Parameter.{params_tokens}
 use Rattle.p21_spec_file.specs.ValueText.{with_commas_between}
-use Rattle.p21_shorter_tokens.proofs.Found.{none_to, some_to}
+use Rattle.p21_shorter_instances.proofs.Leaving.{err-to, ok-to}
 use Rattle.p21_shorter_instances.proofs.Stepping.{first-in, first-steps, needs-join, no-steps, others-in, step-goes_on}
 use Rattle.p21_shorter_instances.specs.TakenParameters.{AreStepsIn}
 use Rattle.p21_shorter_instances.proofs.places.append_places.Goals as goal
@@ -19,16 +19,16 @@ append_others-requires c = others-in c.args.schema.now c.in-Some.first.now c.in-
 
 pub returns-clause-some : goal.returns-clause-some
 returns-clause-some c =
-    some_to _ (λ rest. first-steps c.args.schema.now c.args.steps.now c.in-Some.first.now c.in-Some.others.now c.args.bytes.now _ rest.now _ _ _ c.in-Some.ensures.cases.0 c.in_ok-rest.ensures.some) c.append_others.ensures.some
+    ok-to _ (λ rest. first-steps c.args.schema.now c.args.steps.now c.in-Some.first.now c.in-Some.others.now c.args.bytes.now _ rest.now _ _ _ c.in-Some.ensures.cases.0 c.in_ok-rest.ensures.some) c.append_others.ensures.some
 
 pub returns-clause-draft : goal.returns-clause-draft
 returns-clause-draft c =
     let goes_on =
     step-goes_on _ _ _ _ _ _ (first-in c.args.schema.now c.in-Some.first.now c.in-Some.others.now (subst (AreStepsIn c.args.schema.now) c.in-Some.ensures.cases.0 c.requires)) c.in_ok-rest.ensures.some in
-    none_to _ (continues-join _ _ _ goes_on.0) c.append_others.ensures.draft
+    err-to _ (continues-join _ _ _ goes_on.0) c.append_others.ensures.draft
 
 pub returns-clause-needs : goal.returns-clause-needs
 returns-clause-needs c =
     let goes_on =
     step-goes_on _ _ _ _ _ _ (first-in c.args.schema.now c.in-Some.first.now c.in-Some.others.now (subst (AreStepsIn c.args.schema.now) c.in-Some.ensures.cases.0 c.requires)) c.in_ok-rest.ensures.some in
-    none_to _ (needs-join _ _ _ goes_on.1) c.append_others.ensures.needs
+    err-to _ (needs-join _ _ _ goes_on.1) c.append_others.ensures.needs

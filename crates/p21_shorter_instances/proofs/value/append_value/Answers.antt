@@ -1,5 +1,5 @@
 use Rattle.p21_spec_basics.proofs.Members.{rest_is}
-use Rattle.p21_shorter_tokens.proofs.Found.{none_to, some_to}
+use Rattle.p21_shorter_instances.proofs.Leaving.{err-none, ok-some, ok-to}
 use Rattle.p21_shorter_instances.proofs.Joining.{known-at}
 use Rattle.p21_shorter_instances.proofs.Values.{needs-kept, placed-known, placed-taken, rest-taken, star-taken, step-known, step-taken}
 use Rattle.p21_shorter_instances.proofs.value.append_value.Goals as goal
@@ -7,20 +7,20 @@ use Rattle.p21_values.proofs.Continuing.{continues-same}
 
 pub returns-in-Derived-clause-some : goal.returns-in-Derived-clause-some
 returns-in-Derived-clause-some c =
-    some_to _ (λ rest. star-taken c.args.schema.now c.args.step.now c.args.bytes.now rest.now c.args.taken.now _ c.in-Derived.is) c.append_delimiter.ensures.some
+    rw c.ok_or.ensures.value (ok-some _ _ (λ rest. star-taken c.args.schema.now c.args.step.now c.args.bytes.now rest.now c.args.taken.now _ c.in-Derived.is) c.append_delimiter.ensures.some)
 
 pub returns-in-Derived-clause-draft : goal.returns-in-Derived-clause-draft
-returns-in-Derived-clause-draft c = none_to _ (continues-same _ _) c.append_delimiter.ensures.none
+returns-in-Derived-clause-draft c = rw c.ok_or.ensures.value (err-none _ _ (continues-same _ _) c.append_delimiter.ensures.none)
 
 pub returns-in-Derived-clause-needs : goal.returns-in-Derived-clause-needs
-returns-in-Derived-clause-needs c = needs-kept c.append_delimiter.result c.args.taken.now.needs.items
+returns-in-Derived-clause-needs c = needs-kept c.ok_or.result c.args.taken.now.needs.items
 
 pub base_of-base-requires : goal.base_of-base-requires
 base_of-base-requires c = step-known c.args.schema.now c.args.step.now _ _ c.in-Stored.is c.requires
 
 pub returns-in-Stored-clause-some : goal.returns-in-Stored-clause-some
 returns-in-Stored-clause-some c =
-    some_to _ (λ rest. step-taken c.args.schema.now c.args.step.now _ _ _ c.args.bytes.now rest.now _ _ c.in-Stored.is c.base_of-base.ensures.has) c.append_stored.ensures.some
+    ok-to _ (λ rest. step-taken c.args.schema.now c.args.step.now _ _ _ c.args.bytes.now rest.now _ _ c.in-Stored.is c.base_of-base.ensures.has) c.append_stored.ensures.some
 
 pub own_type-at-requires-clause-entity : goal.own_type-at-requires-clause-entity
 own_type-at-requires-clause-entity c = (placed-known c.args.schema.now c.args.step.now _ _ c.in-Placed.is c.requires).0

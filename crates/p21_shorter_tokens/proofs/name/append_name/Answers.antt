@@ -1,5 +1,5 @@
 use Rattle.std.proofs.Common.{arith}
-use Rattle.p21_shorter_tokens.proofs.NameTokens.{name-front, name-transcribed}
+use Rattle.p21_shorter_tokens.proofs.NameTokens.{name-front, name-appended}
 use Rattle.p21_shorter_tokens.proofs.name.append_name.Goals as goal
 
 pub append_spelling-requires-clause-name : goal.append_spelling-requires-clause-name
@@ -10,4 +10,4 @@ append_spelling-requires-clause-within c = (name-front c.args.bytes.now _ _ c.in
 
 pub returns-clause-some : goal.returns-clause-some
 returns-clause-some c =
-    name-transcribed c.args.bytes.now _ _ c.args.draft.now c.append_spelling.new.draft c.in_ok-number.number c.in_ok-digits.ensures.some c.in_ok-number.ensures.some (omega (arith, c.in_ok-number.ensures.some)) (c.if-not-append_spelling.ensures {u = tt})
+    name-appended c.args.bytes.now _ _ c.args.draft.now c.append_spelling.new.draft c.in_ok-number.number c.in_ok-digits.ensures.some c.in_ok-number.ensures.some (omega (arith, c.in_ok-number.ensures.some)) (c.if-not-append_spelling.ensures {u = tt})

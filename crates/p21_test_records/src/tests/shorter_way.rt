@@ -20,8 +20,8 @@ fn append(alloc: Global, schema: &Schema, text: &[u8], taken: &mut Taken) -> boo
     let mut plan = Plan::new(alloc);
     let mut sets = Sets::new(alloc);
     match take_instance(schema, &mut plan, &mut sets, text, taken) {
-        Some(found) => found.rest.is_empty() && is_known(schema, &mut plan, &sets, found.set),
-        None => false,
+        Ok(found) => found.rest.is_empty() && is_known(schema, &mut plan, &sets, found.set),
+        Err(_) => false,
     }
 }
 
