@@ -15,7 +15,6 @@ use Rattle.p21_spec_exchange.specs.Laying.{AreStatementsWithin, Lexeme, count_be
 use Rattle.p21_spec_exchange.specs.Record.{Part}
 use Rattle.p21_spec_exchange.specs.Statement.{Statement, section, header, instance, begin, header_start, section_end, data_start, finish}
 use Rattle.p21_spec_exchange.specs.Structure.{Structure, statements}
-use Rattle.p21_spec_exchange.specs.Token as token
 use Rattle.p21_spec_exchange.specs.Token.{Token, semicolon}
 use Rattle.p21_spec_file.specs.Accepted.{IsAccepted, IsCanonicalOf, IsLineWithin, Means}
 use Rattle.p21_spec_file.specs.Canonical.{Canonical}
@@ -43,12 +42,9 @@ use Rattle.p21_spec_schema.specs.WellFormed.{IsWellFormed}
 use Rattle.p21_spec_exchange.proofs.Names.{name_spells}
 use Rattle.p21_spec_exchange.specs.Spelling.{name_spelling}
 use Rattle.p21_spec_numbering.proofs.Existence.{reads-renamed}
-use Rattle.p21_spec_numbering.proofs.Lists.{Shuffled-length}
-use Rattle.p21_spec_numbering.proofs.Orders.{number-injective, order-shuffled, position-low}
 use Rattle.p21_spec_numbering.proofs.Reading.{reads-whole}
 use Rattle.p21_spec_numbering.proofs.Renaming.{renamed-kept, renamed-twice}
 use Rattle.p21_spec_numbering.proofs.Targets.{one-typed}
-use Rattle.p21_spec_numbering.specs.Ordered.{IsOrder, Ranking, number_in, ordered}
 use Rattle.p21_spec_numbering.specs.RenamedRecord.{renamed_tree}
 use Rattle.p21_spec_numbering.specs.Renamed.{IsInjectiveOn, IsWhole, names, renamed, renamed_instance, renamed_section, renamed_typed}
 use Rattle.p21_canon.specs.Statement.{IsCanonicalStatement}
@@ -303,57 +299,51 @@ module _ (s : Schema) (formed : IsWellFormed s) (bytes : List ℕ) (m : FileMean
             (Each-of_members (λ (g : SectionEntries). (b : Block) × Contains blocks b × IsBlockOf g b) groups to_block)
             of.sections_rise of.lines_rise
 
--- ---- a file with the numbers of an order for names
+-- ---- a file with other names that can be written
 
-module _ (s : Schema) (formed : IsWellFormed s) (bytes : List ℕ) (m : FileMeaning) (reads : Reads s bytes m) (ranking : Ranking) (order : List ℕ) (is : IsOrder ranking m order) (few : length m.instances < 2 ^ 64) where
+module _ (s : Schema) (formed : IsWellFormed s) (bytes : List ℕ) (m : FileMeaning) (reads : Reads s bytes m) (f : ℕ → ℕ) (once : IsInjectiveOn (names m) f) (written : (n : ℕ) → Contains (names m) n → f n < 2 ^ 64) where
   whole_file : IsWhole m
   whole_file = (reads-whole s formed bytes m reads).0
 
-  once : IsInjectiveOn (names m) (number_in order)
-  once j k among among_ one = number-injective order j k ((is.all j).0 among) ((is.all k).0 among_) one
-
-  -- numbers that can be written, whatever the name
+  -- names that can be written, whatever the old one
   number : ℕ → ℕ
-  number k = if ltb (number_in order k) (2 ^ 64) then number_in order k else 0
+  number k = if ltb (f k) (2 ^ 64) then f k else 0
 
   number-low : (k : ℕ) → number k < 2 ^ 64
   unfolding number
-  number-low k = by (ltb (number_in order k) (2 ^ 64)) refl
+  number-low k = by (ltb (f k) (2 ^ 64)) refl
     where
-      by : (b : Bool) → ltb (number_in order k) (2 ^ 64) ≡ b → (if b then number_in order k else 0) < 2 ^ 64
-      by true e = ltb-true (number_in order k) (2 ^ 64) e
+      by : (b : Bool) → ltb (f k) (2 ^ 64) ≡ b → (if b then f k else 0) < 2 ^ 64
+      by true e = ltb-true (f k) (2 ^ 64) e
       by false e = omega arith
 
-  number-is : (n : ℕ) → Contains (names m) n → number n ≡ number_in order n
+  number-is : (n : ℕ) → Contains (names m) n → number n ≡ f n
   unfolding number
-  number-is n among =
-      let long : length order ≡ length m.instances = Shuffled-length order (names m) (order-shuffled ranking m whole_file order is) ∙ length-map m.instances (λ (i : ℕ × Typed). i.0) in
-      let low = position-low order n ((is.all n).0 among) in
-      ap (λ (b : Bool). if b then number_in order n else 0) (lt-ltb (number_in order n) (2 ^ 64) (omega (arith, low, long, few)))
+  number-is n among = ap (λ (b : Bool). if b then f n else 0) (lt-ltb (f n) (2 ^ 64) (written n among))
 
-  numbered : renamed number m ≡ ordered order m
-  numbered = ap (renamed number) (sym (renamed-kept m)) ∙ renamed-twice (λ n. n) number (number_in order) m whole_file number-is
+  named : renamed number m ≡ renamed f m
+  named = ap (renamed number) (sym (renamed-kept m)) ∙ renamed-twice (λ n. n) number f m whole_file number-is
 
   out : List ℕ
   out = flat_map line (statements (renamed_tree number reads.structure))
 
-  new_reads : Reads s out (ordered order m)
+  new_reads : Reads s out (renamed f m)
   unfolding out
   new_reads =
       let R : FileMeaning → Type 0 = λ x. Reads s (flat_map line (statements (renamed_tree number reads.structure))) x in
-      subst R numbered (reads-renamed s formed bytes m reads number (λ j k among among_ one. once j k among among_ (sym (number-is j among) ∙ one ∙ number-is k among_)) (λ k. (name_spelling (number k), name_spells (number k) (number-low k))))
+      subst R named (reads-renamed s formed bytes m reads number (λ j k among among_ one. once j k among among_ (sym (number-is j among) ∙ one ∙ number-is k among_)) (λ k. (name_spelling (number k), name_spells (number k) (number-low k))))
 
   -- the header, the sections and the lines of the instances are its canonical file
-  pub numbered-canonical : (limits : Limits) → AreHeadsWithin limits m → (kept : Kept) → IsKeptUnder s m (number_in order) kept → (blocks : List Block) → AreBlocksOf kept blocks
+  pub renamed-canonical : (limits : Limits) → AreHeadsWithin limits m → (kept : Kept) → IsKeptUnder s m f kept → (blocks : List Block) → AreBlocksOf kept blocks
       → length (text_with_header kept.header blocks) ≤ limits.file_canonical → Each (λ (x : StoredEntry). length x.text ≤ limits.record_canonical) kept.stored
-      → IsCanonicalOf s limits (ordered order m) (text_with_header kept.header blocks)
-  numbered-canonical limits within kept under blocks of short lines =
-      let has : HasCanonicalFile s (ordered order m) = has-canonical_file s formed out (ordered order m) new_reads in
+      → IsCanonicalOf s limits (renamed f m) (text_with_header kept.header blocks)
+  renamed-canonical limits within kept under blocks of short lines =
+      let has : HasCanonicalFile s (renamed f m) = has-canonical_file s formed out (renamed f m) new_reads in
       let lexemes : List Lexeme = new_reads.in_grammar.laid.lexemes in
       let big : Limits = record { record_source = total lexemes; record_canonical = length has.bytes; file_source = length out; file_canonical = length has.bytes } in
       let size = ap (λ (xs : List ℕ). length xs) has.canonical.lines in
       let accepted : IsAccepted s big out = (
-        ordered order m,
+        renamed f m,
         record {
           reads = new_reads;
           file_within = omega arith;
@@ -376,7 +366,7 @@ module _ (s : Schema) (formed : IsWellFormed s) (bytes : List ℕ) (m : FileMean
       let are_headings : AreHeadings (headings (map section_of groups)) = complete.in_grammar.is_file.headings_are in
       let none_ : NoneTwice (headings (map section_of groups)) = headings-differ (headings (map section_of groups)) are_headings (texts-none_twice (section_names (headings (map section_of groups))) complete.section_names_differ) in
       let none : NoneTwice (map (λ (g : SectionEntries). g.heading) groups) = subst NoneTwice (group-headings groups) none_ in
-      let blocks_rise : AreRisingBlocks groups blocks = rising s formed bytes m reads (number_in order) once out new_reads groups are none complete.printed kept under heads (subst AreHeadings (group-headings groups) are_headings) blocks of in
+      let blocks_rise : AreRisingBlocks groups blocks = rising s formed bytes m reads f once out new_reads groups are none complete.printed kept under heads (subst AreHeadings (group-headings groups) are_headings) blocks of in
       let text : file_text parts blocks ≡ text_with_header kept.header blocks = text-is parts blocks ∙ ap (λ (xs : List ℕ). text_with_header xs blocks) head_text in
       let text_size = ap (λ (xs : List ℕ). length xs) text in
       let wide : Limits = record { record_source = total complete.in_grammar.laid.lexemes; record_canonical = limits.record_canonical; file_source = length out; file_canonical = limits.file_canonical } in
@@ -409,24 +399,24 @@ module _ (s : Schema) (formed : IsWellFormed s) (bytes : List ℕ) (m : FileMean
             subst L line_is (Each-member (λ (y : StoredEntry). length y.text ≤ limits.record_canonical) kept.stored x lines at_x)));
       } in
       let (n, means, canonical_) = ended-accepted s formed wide out parts groups blocks whole_complete in
-      let one_meaning : n ≡ ordered order m = one-meaning s formed out n (ordered order m) means.reads new_reads in
+      let one_meaning : n ≡ renamed f m = one-meaning s formed out n (renamed f m) means.reads new_reads in
       let C : FileMeaning → Type 0 = λ x. IsCanonicalOf s wide x (file_text parts blocks) in
-      let canonical : IsCanonicalOf s wide (ordered order m) (file_text parts blocks) = subst C one_meaning canonical_ in
-      let T : List ℕ → Type 0 = λ x. IsCanonicalOf s limits (ordered order m) x in
+      let canonical : IsCanonicalOf s wide (renamed f m) (file_text parts blocks) = subst C one_meaning canonical_ in
+      let T : List ℕ → Type 0 = λ x. IsCanonicalOf s limits (renamed f m) x in
       subst T text (record { canonical = canonical.canonical; same = canonical.same; file_within = canonical.file_within; lines_within = canonical.lines_within })
 
   -- each canonical file of this meaning has these lines
-  pub stored-within : (limits : Limits) (found : List ℕ) → IsCanonicalOf s limits (ordered order m) found → (kept : Kept) → IsKeptUnder s m (number_in order) kept
+  pub stored-within : (limits : Limits) (found : List ℕ) → IsCanonicalOf s limits (renamed f m) found → (kept : Kept) → IsKeptUnder s m f kept
       → Each (λ (x : StoredEntry). length x.text ≤ limits.record_canonical) kept.stored
   stored-within limits found of kept under = Each-of_members (λ (x : StoredEntry). length x.text ≤ limits.record_canonical) kept.stored own
     where
       own : (x : StoredEntry) → Contains kept.stored x → length x.text ≤ limits.record_canonical
       own x at =
           let (k, y, h, at_k, at_h, entry) = under.back x at in
-          let kinds : EntitySets = entity_sets_of (ordered order m).instances in
-          let n : ℕ = number_in order k in
-          let typed_ : Typed = renamed_typed (number_in order) y in
-          let (i, at_i, holds) = AllZip-second_member (InstanceMeans s kinds) (instances_in new_reads.structure.sections) (ordered order m).instances (n, typed_) new_reads.means (Contains-mapped (renamed_instance (number_in order)) m.instances (k, y) at_k) in
+          let kinds : EntitySets = entity_sets_of (renamed f m).instances in
+          let n : ℕ = f k in
+          let typed_ : Typed = renamed_typed f y in
+          let (i, at_i, holds) = AllZip-second_member (InstanceMeans s kinds) (instances_in new_reads.structure.sections) (renamed f m).instances (n, typed_) new_reads.means (Contains-mapped (renamed_instance f) m.instances (k, y) at_k) in
           let st : IsCanonicalStatement s n typed_ x.text = entry.line_is in
           let printed : IsInstanceText s n i.1 x.text = record {
             kinds = kinds;
@@ -442,18 +432,18 @@ module _ (s : Schema) (formed : IsWellFormed s) (bytes : List ℕ) (m : FileMean
           } in
           let I : ℕ → Type 0 = λ j. Contains (instances_in new_reads.structure.sections) (j, i.1) in
           let u : Structure = of.canonical.reads.structure in
-          let there : Contains (instances_in u.sections) (n, st.canonical) = instance-in_canonical s formed out (ordered order m) new_reads found of.canonical of.same n i.1 x.text (subst I (sym holds.0) at_i) printed in
+          let there : Contains (instances_in u.sections) (n, st.canonical) = instance-in_canonical s formed out (renamed f m) new_reads found of.canonical of.same n i.1 x.text (subst I (sym holds.0) at_i) printed in
           let within : IsLineWithin limits (instance n st.canonical) = Each-member (IsLineWithin limits) (statements u) (instance n st.canonical) of.lines_within (among-statements u n st.canonical there) in
           let T : List ℕ → Type 0 = λ xs. length xs ≤ limits.record_canonical in
           subst T (sym st.text_is) within
 
   -- and no other text is one within the limits
-  pub only-canonical : (limits : Limits) → AreHeadsWithin limits m → (found : List ℕ) → IsCanonicalOf s limits (ordered order m) found → (kept : Kept) → IsKeptUnder s m (number_in order) kept
+  pub only-canonical : (limits : Limits) → AreHeadsWithin limits m → (found : List ℕ) → IsCanonicalOf s limits (renamed f m) found → (kept : Kept) → IsKeptUnder s m f kept
       → (blocks : List Block) → AreBlocksOf kept blocks → found ≡ text_with_header kept.header blocks
   only-canonical limits within found of kept under blocks are =
       let text : List ℕ = text_with_header kept.header blocks in
       let wide : Limits = record { record_source = 0; record_canonical = limits.record_canonical; file_source = 0; file_canonical = length text } in
       let heads : AreHeadsWithin wide m = record { sections_within = within.sections_within; headers_within = within.headers_within; headings_within = within.headings_within } in
-      let other : IsCanonicalOf s wide (ordered order m) text = numbered-canonical wide heads kept under blocks are (omega arith) (stored-within limits found of kept under) in
+      let other : IsCanonicalOf s wide (renamed f m) text = renamed-canonical wide heads kept under blocks are (omega arith) (stored-within limits found of kept under) in
       (bytes-tell s formed found text of.canonical other.canonical).0
-      (SameFileMeaning-transitive of.canonical.meaning (ordered order m) other.canonical.meaning of.same (SameFileMeaning-symmetric other.canonical.meaning (ordered order m) other.same))
+      (SameFileMeaning-transitive of.canonical.meaning (renamed f m) other.canonical.meaning of.same (SameFileMeaning-symmetric other.canonical.meaning (renamed f m) other.same))

@@ -1,10 +1,10 @@
-//! The lines of the instances of a file under the numbers that the model gives them.
+//! The lines of the instances of a file under new names, and under the numbers that the model gives them.
 ghost use Rattle.std.specs.List.{AllByRecursion as Each};
 ghost use Rattle.std.specs.Prelude.{◌≡◌, IfOk};
-ghost use Rattle.p21_spec_numbering.specs.Renamed.{renamed_typed};
+ghost use Rattle.p21_spec_numbering.specs.Renamed.{IsInjectiveOn, renamed_typed};
 ghost use Rattle.p21_mapping_values.specs.TypedView.{typed_view};
 ghost use Rattle.p21_canon.specs.Meant.{IsMeant};
-ghost use Rattle.p21_numbering.specs.Instances.{Instance as InstanceOf, file_instance, file_instances};
+ghost use Rattle.p21_numbering.specs.Instances.{Instance as InstanceOf, file_instance, file_instances, names_of};
 ghost use Rattle.p21_numbering.specs.NewNames.{new_name};
 ghost use Rattle.p21_numbering.specs.NodesOf.{HasKnownParts};
 ghost use Rattle.p21_numbered.specs.Lines.{AreLinesUnder, AreMeantUnder, AreOfFile, IsLineUnder, NumbersFile, held_line};
@@ -42,8 +42,29 @@ pub fn numbered_lines(
     Ok(lines)
 }
 
-/// The lines of instances under new names.
-fn lines_under(
+/// The canonical line of each instance of a file under its new name, of which no two are one, with new names for its references; in the
+/// order in which the instances come. The map has the new name for each old one.
+///
+/// # Errors
+///
+/// `NoMemory`.
+pub fn lines_under(
+    alloc: Global,
+    schema: &Schema,
+    instances: Vec<Instance<'_>>,
+    names: &BTreeMap<u64, u64>,
+) -> Result<Vec<NumberedLine>, NoMemory>
+    requires known { Each (λ (i : InstanceOf). HasKnownParts schema.now i.typed) (file_instances instances.items) }
+    requires file { AreOfFile schema.now (file_instances instances.items) }
+    requires apart { IsInjectiveOn (names_of (file_instances instances.items)) (new_name names.now) }
+    ensures { IfOk result (λ lines. AreLinesUnder schema.now (new_name names.now) (file_instances instances.entry.items) lines.items) }
+{
+    schema.well_formed();
+    written_lines(alloc, schema, instances, names)
+}
+
+/// The lines of instances that are meant under new names.
+fn written_lines(
     alloc: Global,
     schema: &Schema,
     instances: Vec<Instance<'_>>,
@@ -77,7 +98,7 @@ fn line_under(
         heading: _,
         typed,
     } = instance;
-    let number = number_of(names, name);
+    let number = new_name(names, name);
     let renamed = renamed_record(alloc, typed, names)?;
     let mut text = Vec::new(alloc);
     write_record(schema, Name(number), &renamed, &mut text)?;
@@ -85,7 +106,7 @@ fn line_under(
 }
 
 /// The new name for a name, by a map from old ones to new ones; 0 where it has none.
-fn number_of(names: &BTreeMap<u64, u64>, name: u64) -> u64
+pub fn new_name(names: &BTreeMap<u64, u64>, name: u64) -> u64
     ensures { result ≡ new_name names.now name }
 {
     match names.get(&name) {

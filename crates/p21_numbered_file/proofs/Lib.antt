@@ -6,4 +6,5 @@ pub mod PutTogether
 pub mod NumberedTexts
 pub mod Alike
 pub mod Telling
+pub mod PairedTexts
 pub mod Sections

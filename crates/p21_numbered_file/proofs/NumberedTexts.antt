@@ -9,7 +9,7 @@ use Rattle.std.proofs.lemmas.List.{length-map, map-append}
 use Rattle.std.proofs.lemmas.List.Sorted.{Contains-permutation, IsPermutation-sym}
 use Rattle.std.proofs.lemmas.Option.{slice_get_within}
 use Rattle.std.proofs.lemmas.Slice.Zip.{AllZip-long}
-use Rattle.p21_spec_basics.proofs.Members.{Contains-cases, Contains-first, Contains-later, Contains-mapped, Contains-none, Contains-unmapped, Each-member, Each-of_members}
+use Rattle.p21_spec_basics.proofs.Members.{AllZip-member, Contains-cases, Contains-first, Contains-later, Contains-mapped, Contains-none, Contains-unmapped, Each-member, Each-of_members}
 use Rattle.p21_spec_basics.proofs.Shuffles.{NoneTwice, Shuffled, Shuffled-reflexive, distinct-none_twice, one-keyed}
 use Rattle.p21_spec_basics.specs.Limits.{Limits}
 use Rattle.p21_spec_exchange.specs.CanonicalText.{tokens_text}
@@ -18,7 +18,7 @@ use Rattle.p21_spec_exchange.specs.Record.{record_tokens}
 use Rattle.p21_spec_exchange.specs.Statement.{Statement, instance, statement_tokens}
 use Rattle.p21_spec_exchange.specs.Text.{IsGraphic}
 use Rattle.p21_spec_exchange.specs.Token.{IsSpelled, semicolon}
-use Rattle.p21_spec_file.specs.Accepted.{IsAccepted, Means}
+use Rattle.p21_spec_file.specs.Accepted.{IsAccepted, IsCanonicalOf, Means}
 use Rattle.p21_spec_file.specs.File.{FileMeaning, Reads}
 use Rattle.p21_spec_file.specs.Meaning.{Typed}
 use Rattle.p21_spec_laws.proofs.CanonicalLaid.{laid-each_spelled}
@@ -34,7 +34,7 @@ use Rattle.p21_spec_numbering.specs.Claim.{IsNumberedFile}
 use Rattle.p21_spec_numbering.specs.Laws.{ranking_of}
 use Rattle.p21_spec_numbering.specs.Numbered.{heading_label}
 use Rattle.p21_spec_numbering.specs.Ordered.{number_in}
-use Rattle.p21_spec_numbering.specs.Renamed.{IsInjectiveOn, IsWhole, names, renamed_typed}
+use Rattle.p21_spec_numbering.specs.Renamed.{IsInjectiveOn, IsWhole, names, renamed, renamed_typed}
 use Rattle.p21_canon.specs.Statement.{IsCanonicalStatement}
 use Rattle.p21_grammar_tree.specs.declared.record.Part.{Part}
 use Rattle.p21_mapping_values.specs.TypedView.{typed_view}
@@ -45,9 +45,10 @@ use Rattle.p21_numbering.specs.Ordering.{Orders}
 use Rattle.p21_numbering.specs.declared.orders.Unordered.{Unordered}
 use Rattle.p21_numbering.specs.declared.orders.Unordered.TheVariants as unordered
 use Rattle.p21_numbering.specs.Rows.{lent_rows}
-use Rattle.p21_numbered.proofs.Numbering.{kept-numbered, kept-only_numbered}
+use Rattle.p21_numbered.proofs.Numbering.{kept-only_renamed, kept-renamed, numbered-is}
 use Rattle.p21_numbered.specs.Kept.{IsEntryUnder, IsKeptUnder}
 use Rattle.p21_numbered.specs.Lines.{AreNumbered, AreOfFile, IsLineUnder}
+use Rattle.p21_numbered.specs.NumberedLaws.{AreWritten}
 use Rattle.p21_stream_output.specs.Output.{IsNamed, Output, output_text}
 use Rattle.p21_numbered_file.specs.Assembly.{IsPutTogether, IsReady, entry_row, entry_rows, line_names, put_together}
 use Rattle.p21_numbered_file.specs.Headings.{AreTextsOf, heading_in, headings_in, label_in}
@@ -126,6 +127,12 @@ line-named s n x text is =
     let G : List ℕ → Type 0 = λ bytes. Each IsGraphic bytes in
     ((tokens_text (record_tokens is.canonical ++ (semicolon ∷ [])), is.text_is), subst G (sym is.text_is) (lines-graphic statement spelled))
 
+-- and its name can be written
+name-low : (s : Schema) (n : ℕ) (x : Typed) (text : List ℕ) → IsCanonicalStatement s n x text → n < 2 ^ 64
+name-low s n x text is =
+    let spelled : Each IsSpelled (statement_tokens (instance n is.canonical)) = laid-each_spelled text (statement_tokens (instance n is.canonical)) is.laid in
+    spelled.0.1.in_range
+
 -- ---- an accepted text
 
 -- what it means within the limits
@@ -176,7 +183,7 @@ module _ (s : Schema) (formed : IsWellFormed s) (text : List ℕ) (read : ReadFi
         heading_is = texts-at read.sections.items texts are i.section own.heading (subst H (sym is.headings_are) own.section_is);
       }
 
-  all-names : names_of (map (instance_in texts) read.instances.items) ≡ names is.meaning
+  pub all-names : names_of (map (instance_in texts) read.instances.items) ≡ names is.meaning
   all-names = own read.instances.items ∙ ap (λ (xs : List (ℕ × Typed)). map (λ (i : ℕ × Typed). i.0) xs) is.instances_are
     where
       own : (xs : List ReadInstance) → names_of (map (instance_in texts) xs) ≡ map (λ (i : ℕ × Typed). i.0) (map meant_of xs)
@@ -207,35 +214,32 @@ module _ (s : Schema) (formed : IsWellFormed s) (text : List ℕ) (read : ReadFi
 
   -- ---- their lines
 
-  module _ (lines : List Line) (numbered : AreNumbered s is.meaning (map (instance_in texts) read.instances.items) lines) where
-    once : IsInjectiveOn (names is.meaning) (number_in numbered.order)
-    once j k among among_ one = number-injective numbered.order j k ((numbered.aligned.is_order.all j).0 among) ((numbered.aligned.is_order.all k).0 among_) one
-
-    named-lines : (xs : List Instance) (ls : List Line) → AllZip (IsLineUnder s (number_in numbered.order)) xs ls → (line_names ls ≡ map (number_in numbered.order) (names_of xs)) × Each (λ (l : Line). IsNamed l.0 l.1) ls
+  module _ (f : ℕ → ℕ) (once : IsInjectiveOn (names is.meaning) f) (lines : List Line) (under : AllZip (IsLineUnder s f) (map (instance_in texts) read.instances.items) lines) where
+    named-lines : (xs : List Instance) (ls : List Line) → AllZip (IsLineUnder s f) xs ls → (line_names ls ≡ map f (names_of xs)) × Each (λ (l : Line). IsNamed l.0 l.1) ls
     named-lines [] [] zipped = (refl, tt)
     named-lines [] (l ∷ ls) zipped = absurd zipped
     named-lines (x ∷ xs) [] zipped = absurd zipped
     named-lines (x ∷ xs) (l ∷ ls) zipped =
         let rest = named-lines xs ls zipped.1 in
         let N : ℕ → Type 0 = λ n. IsNamed n l.1 in (
-          ap (λ (n : ℕ). n ∷ line_names ls) zipped.0.0 ∙ ap (λ (ns : List ℕ). number_in numbered.order x.name ∷ ns) rest.0,
-          (subst N (sym zipped.0.0) (line-named s (number_in numbered.order x.name) (renamed_typed (number_in numbered.order) x.typed) l.1 zipped.0.1), rest.1),
+          ap (λ (n : ℕ). n ∷ line_names ls) zipped.0.0 ∙ ap (λ (ns : List ℕ). f x.name ∷ ns) rest.0,
+          (subst N (sym zipped.0.0) (line-named s (f x.name) (renamed_typed f x.typed) l.1 zipped.0.1), rest.1),
         )
 
-    pub is-ready : IsReady read.sections.items (map (λ (i : ReadInstance). i.section) read.instances.items) lines
-    is-ready =
-        let own = named-lines (map (instance_in texts) read.instances.items) lines numbered.lines_are in
+    pub ready-under : IsReady read.sections.items (map (λ (i : ReadInstance). i.section) read.instances.items) lines
+    ready-under =
+        let own = named-lines (map (instance_in texts) read.instances.items) lines under in
         let P : List Heading → Type 0 = λ hs. AreHeadings hs in
         let D : List Heading → Type 0 = λ hs. IsDistinct bytes_eq (section_names hs) in
         let same : headings is.reads.structure.sections ≡ headings_in read.sections.items = sym is.reads.sections_are ∙ sym is.headings_are in
         let N : List ℕ → Type 0 = λ ns. NoneTwice ns in
         let one = length-map read.instances.items (λ (i : ReadInstance). i.section) in
         let two = length-map read.instances.items (instance_in texts) in
-        let three = AllZip-long (IsLineUnder s (number_in numbered.order)) (map (instance_in texts) read.instances.items) lines numbered.lines_are in
+        let three = AllZip-long (IsLineUnder s f) (map (instance_in texts) read.instances.items) lines under in
         record {
           as_many = omega (arith, one, two, three);
           of_sections = Each-of_members (λ (k : ℕ). k < length read.sections.items) (map (λ (i : ReadInstance). i.section) read.instances.items) low;
-          once = subst N (sym (own.0 ∙ ap (map (number_in numbered.order)) all-names)) (mapped-once (number_in numbered.order) (names is.meaning) once (distinct-none_twice (names is.meaning) whole_.names_differ));
+          once = subst N (sym (own.0 ∙ ap (map f) all-names)) (mapped-once f (names is.meaning) once (distinct-none_twice (names is.meaning) whole_.names_differ));
           named = own.1;
           headings = subst P same is.reads.in_grammar.is_file.headings_are;
           sections_once = subst D same is.reads.section_names_differ;
@@ -250,24 +254,24 @@ module _ (s : Schema) (formed : IsWellFormed s) (text : List ℕ) (read : ReadFi
             let long = length-map read.sections.items heading_in in
             omega (arith, same, within, many, long)
 
-    -- what is put together is what is kept of the file with the numbers for names
+    -- what is put together is what is kept of the file with the new names
     module _ (stored : List StoredEntry) (rows : IsPermutation (entry_rows (map (λ (i : ReadInstance). i.section) read.instances.items) lines) stored) where
-      entry-is : (i : ReadInstance) → Contains read.instances.items i → (l : Line) → IsLineUnder s (number_in numbered.order) (instance_in texts i) l → (h : Heading) → Contains is.meaning.instance_sections (i.name, h)
-          → IsEntryUnder s (number_in numbered.order) (headings_in read.sections.items) i.name (typed_view i.typed) h (entry_row (i.section, l))
-      entry-is i among l under h at =
+      entry-is : (i : ReadInstance) → Contains read.instances.items i → (l : Line) → IsLineUnder s f (instance_in texts i) l → (h : Heading) → Contains is.meaning.instance_sections (i.name, h)
+          → IsEntryUnder s f (headings_in read.sections.items) i.name (typed_view i.typed) h (entry_row (i.section, l))
+      entry-is i among l line h at =
           let own = Each-member (IsPlaced s is.meaning) read.instances.items i is.placed among in
           let D : List ℕ → Type 0 = λ ns. NoneTwice ns in
           let by_name : NoneTwice (map (λ (p : ℕ × Heading). p.0) is.meaning.instance_sections) = subst D (sym whole_.in_sections) (distinct-none_twice (names is.meaning) whole_.names_differ) in
           let one : own.heading ≡ h = ap (λ (p : ℕ × Heading). p.1) (one-keyed (λ (p : ℕ × Heading). p.0) is.meaning.instance_sections by_name (i.name, own.heading) (i.name, h) own.in_section at refl) in
           let H : List Heading → Type 0 = λ hs. slice_get hs i.section ≡ Some own.heading in
           record {
-            name_is = under.0;
+            name_is = line.0;
             in_section = subst H (sym is.headings_are) own.section_is ∙ ap (λ (k : Heading). Some k) one;
-            line_is = under.1;
+            line_is = line.1;
           }
 
-      is-kept : IsKeptUnder s is.meaning (number_in numbered.order) (put_together read.header.items read.sections.items stored)
-      is-kept = record {
+      kept-under : IsKeptUnder s is.meaning f (put_together read.header.items read.sections.items stored)
+      kept-under = record {
         header_is = is.header_is;
         headings_are = is.headings_are;
         onto = λ n x h at at_h.
@@ -275,28 +279,28 @@ module _ (s : Schema) (formed : IsWellFormed s) (text : List ℕ) (read : ReadFi
             let (i, at_i, same) = Contains-unmapped meant_of read.instances.items (n, x) (subst M (sym is.instances_are) at) in
             let name : i.name ≡ n = ap (λ (p : ℕ × Typed). p.0) same in
             let typed_ : typed_view i.typed ≡ x = ap (λ (p : ℕ × Typed). p.1) same in
-            let (l, under, row) = row-for (IsLineUnder s (number_in numbered.order)) (instance_in texts) read.instances.items lines numbered.lines_are i at_i in
+            let (l, line, row) = row-for (IsLineUnder s f) (instance_in texts) read.instances.items lines under i at_i in
             let H : ℕ → Type 0 = λ k. Contains is.meaning.instance_sections (k, h) in
-            let own = entry-is i at_i l under h (subst H (sym name) at_h) in
-            let E : ℕ → Type 0 = λ k. IsEntryUnder s (number_in numbered.order) (headings_in read.sections.items) k (typed_view i.typed) h (entry_row (i.section, l)) in
-            let F : Typed → Type 0 = λ y. IsEntryUnder s (number_in numbered.order) (headings_in read.sections.items) n y h (entry_row (i.section, l)) in (
+            let own = entry-is i at_i l line h (subst H (sym name) at_h) in
+            let E : ℕ → Type 0 = λ k. IsEntryUnder s f (headings_in read.sections.items) k (typed_view i.typed) h (entry_row (i.section, l)) in
+            let F : Typed → Type 0 = λ y. IsEntryUnder s f (headings_in read.sections.items) n y h (entry_row (i.section, l)) in (
               entry_row (i.section, l),
               Contains-permutation (entry_rows (map (λ (j : ReadInstance). j.section) read.instances.items) lines) stored (entry_row (i.section, l)) rows row,
               subst F typed_ (subst E name own),
             );
         back = λ e at.
             let turned = IsPermutation-sym (entry_rows (map (λ (j : ReadInstance). j.section) read.instances.items) lines) stored rows in
-            let (i, l, at_i, under, same) = row-of (IsLineUnder s (number_in numbered.order)) (instance_in texts) read.instances.items lines numbered.lines_are e
+            let (i, l, at_i, line, same) = row-of (IsLineUnder s f) (instance_in texts) read.instances.items lines under e
             (Contains-permutation stored (entry_rows (map (λ (j : ReadInstance). j.section) read.instances.items) lines) e turned at) in
             let own = Each-member (IsPlaced s is.meaning) read.instances.items i is.placed at_i in
             let M : List (ℕ × Typed) → Type 0 = λ xs. Contains xs (meant_of i) in
-            let E : StoredEntry → Type 0 = λ x. IsEntryUnder s (number_in numbered.order) (headings_in read.sections.items) i.name (typed_view i.typed) own.heading x in (
+            let E : StoredEntry → Type 0 = λ x. IsEntryUnder s f (headings_in read.sections.items) i.name (typed_view i.typed) own.heading x in (
               i.name,
               typed_view i.typed,
               own.heading,
               subst M is.instances_are (Contains-mapped meant_of read.instances.items i at_i),
               own.in_section,
-              subst E same (entry-is i at_i l under own.heading own.in_section),
+              subst E same (entry-is i at_i l line own.heading own.in_section),
             );
       }
 
@@ -314,7 +318,7 @@ module _ (s : Schema) (formed : IsWellFormed s) (text : List ℕ) (read : ReadFi
           ]
 
       lines-short : (most : ℕ) → Each (λ (x : StoredEntry). length x.text ≤ most) stored → Each (λ (l : Line). length l.1 ≤ most) lines
-      lines-short most short = own (map (λ (j : ReadInstance). j.section) read.instances.items) lines is-ready.as_many (λ e at. Each-member (λ (x : StoredEntry). length x.text ≤ most) stored e short (Contains-permutation (entry_rows (map (λ (j : ReadInstance). j.section) read.instances.items) lines) stored e rows at))
+      lines-short most short = own (map (λ (j : ReadInstance). j.section) read.instances.items) lines ready-under.as_many (λ e at. Each-member (λ (x : StoredEntry). length x.text ≤ most) stored e short (Contains-permutation (entry_rows (map (λ (j : ReadInstance). j.section) read.instances.items) lines) stored e rows at))
         where
           own : (ps : List ℕ) (ls : List Line) → length ps ≡ length ls → ((e : StoredEntry) → Contains (entry_rows ps ls) e → length e.text ≤ most) → Each (λ (l : Line). length l.1 ≤ most) ls
           own ps [] same each = tt
@@ -326,33 +330,66 @@ module _ (s : Schema) (formed : IsWellFormed s) (text : List ℕ) (read : ReadFi
 
     -- ---- the file
 
-    module _ (limits : Limits) (accepted : IsAccepted s limits text) (few : length read.instances.items < 2 ^ 64) (output : Output)
+    module _ (limits : Limits) (accepted : IsAccepted s limits text) (output : Output)
         (put : IsPutTogether read.header.items read.sections.items (map (λ (i : ReadInstance). i.section) read.instances.items) lines output) where
       means_ : Means s limits text is.meaning
       means_ = meant-within s formed limits text is.meaning is.reads accepted
 
-      few_ : length is.meaning.instances < 2 ^ 64
-      few_ =
-          let one = ap (λ (xs : List (ℕ × Typed)). length xs) is.instances_are in
-          let two = length-map read.instances.items meant_of in
-          omega (arith, one, two, few)
+      -- each new name stands in a line
+      written : AreWritten is.meaning f
+      written n among =
+          let M : List ℕ → Type 0 = λ ns. Contains ns n in
+          let (i, at, same) = Contains-unmapped (λ (j : Instance). j.name) (map (instance_in texts) read.instances.items) n (subst M (sym all-names) among) in
+          let (l, at_l, line) = AllZip-member (IsLineUnder s f) (map (instance_in texts) read.instances.items) lines i under at in
+          let P : ℕ → Type 0 = λ k. f k < 2 ^ 64 in
+          subst P same (name-low s (f i.name) (renamed_typed f i.typed) l.1 line.1)
+
+      -- the file is the canonical one of the meaning with the new names
+      pub is-renamed : IsWithin limits (output_text output) lines → IsCanonicalOf s limits (renamed f is.meaning) (output_text output)
+      is-renamed (short, short_lines) =
+          let P : List ℕ → Type 0 = λ bytes. length bytes ≤ limits.file_canonical in
+          let N : List ℕ → Type 0 = λ bytes. IsCanonicalOf s limits (renamed f is.meaning) bytes in
+          subst N (sym put.text_is)
+          (kept-renamed s formed limits text is.meaning means_ f once written (put_together read.header.items read.sections.items put.stored) (kept-under put.stored put.are_rows) put.blocks put.are_blocks
+          (subst P put.text_is short) (stored-short put.stored put.are_rows limits.record_canonical short_lines))
+
+      -- where it isn't within the limits there is none
+      pub none-renamed : ¬ IsWithin limits (output_text output) lines → (bytes : List ℕ) → ¬ IsCanonicalOf s limits (renamed f is.meaning) bytes
+      none-renamed long bytes found =
+          let (same, short) = kept-only_renamed s formed limits text is.meaning means_ f once written (put_together read.header.items read.sections.items put.stored) (kept-under put.stored put.are_rows) put.blocks put.are_blocks bytes found in
+          let P : List ℕ → Type 0 = λ xs. length xs ≤ limits.file_canonical in
+          long (subst P (same ∙ sym put.text_is) found.file_within, lines-short put.stored put.are_rows limits.record_canonical short)
+
+  -- ---- under the numbers that the model gives
+
+  module _ (lines : List Line) (numbered : AreNumbered s is.meaning (map (instance_in texts) read.instances.items) lines) where
+    numbers-once : IsInjectiveOn (names is.meaning) (number_in numbered.order)
+    numbers-once j k among among_ one = number-injective numbered.order j k ((numbered.aligned.is_order.all j).0 among) ((numbered.aligned.is_order.all k).0 among_) one
+
+    pub is-ready : IsReady read.sections.items (map (λ (i : ReadInstance). i.section) read.instances.items) lines
+    is-ready = ready-under (number_in numbered.order) numbers-once lines numbered.lines_are
+
+    module _ (limits : Limits) (accepted : IsAccepted s limits text) (output : Output)
+        (put : IsPutTogether read.header.items read.sections.items (map (λ (i : ReadInstance). i.section) read.instances.items) lines output) where
+      means_of : Means s limits text is.meaning
+      means_of = meant-within s formed limits text is.meaning is.reads accepted
 
       pub is-numbered : IsWithin limits (output_text output) lines → IsNumberedFile s limits (ranking_of s) text (output_text output)
-      is-numbered (short, short_lines) =
-          let P : List ℕ → Type 0 = λ bytes. length bytes ≤ limits.file_canonical in
-          let N : List ℕ → Type 0 = λ bytes. IsNumberedFile s limits (ranking_of s) text bytes in
-          subst N (sym put.text_is)
-          (kept-numbered s formed limits text is.meaning means_ few_ (ranking_of s) numbered.decided numbered.order numbered.aligned (put_together read.header.items read.sections.items put.stored) (is-kept put.stored put.are_rows) put.blocks put.are_blocks
-          (subst P put.text_is short) (stored-short put.stored put.are_rows limits.record_canonical short_lines))
+      is-numbered within = record {
+        meaning = is.meaning;
+        means = means_of;
+        decided = numbered.decided;
+        order = numbered.order;
+        aligned = numbered.aligned;
+        canonical = is-renamed (number_in numbered.order) numbers-once lines numbered.lines_are limits accepted output put within;
+      }
 
       -- where it isn't within the limits there is none
       pub is-too_long : ¬ IsWithin limits (output_text output) lines → IsTooLong s limits text
       is-too_long long = record {
         meaning = is.meaning;
-        means = means_;
+        means = means_of;
         decided = numbered.decided;
-        none = λ bytes found.
-            let (same, short) = kept-only_numbered s formed limits text is.meaning means_ few_ (ranking_of s) numbered.decided numbered.order numbered.aligned (put_together read.header.items read.sections.items put.stored) (is-kept put.stored put.are_rows) put.blocks put.are_blocks bytes found in
-            let P : List ℕ → Type 0 = λ xs. length xs ≤ limits.file_canonical in
-            long (subst P (same ∙ sym put.text_is) found.canonical.file_within, lines-short put.stored put.are_rows limits.record_canonical short);
+        none = λ bytes found. none-renamed (number_in numbered.order) numbers-once lines numbered.lines_are limits accepted output put long bytes
+            (numbered-is s formed limits text is.meaning means_of (ranking_of s) numbered.decided numbered.order numbered.aligned bytes found);
       }

@@ -6,3 +6,4 @@ pub mod Sizes
 pub mod Assembly
 pub mod Numbering
 pub mod Comparing
+pub mod Pairing

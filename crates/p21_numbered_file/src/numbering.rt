@@ -1,6 +1,6 @@
 //! The numbered file of a text.
 ghost use Rattle.std.specs.List.{AllByRecursion as Each};
-ghost use Rattle.std.specs.Prelude.{◌≡◌, ◌<◌, ◌^◌, ◌↔◌, length, map, IfOk, IsTrue};
+ghost use Rattle.std.specs.Prelude.{◌≡◌, ◌<◌, ◌↔◌, length, map, IfOk, IsTrue};
 ghost use Rattle.p21_spec_file.specs.Accepted.{IsAccepted};
 ghost use Rattle.p21_numbering.specs.Instances.{file_instances};
 ghost use Rattle.p21_numbered_file.specs.Numbering.{IsReadOfAccepted, IsWithin, NumbersRead, NumbersText, unnumbered_of};
@@ -105,7 +105,7 @@ fn numbered_file(
 }
 
 /// Whether a file and each of its lines have no more bytes than the limits allow.
-fn is_within(limits: Limits, file: &Accepted, lines: &[NumberedLine]) -> bool
+pub(crate) fn is_within(limits: Limits, file: &Accepted, lines: &[NumberedLine]) -> bool
     ensures { IsTrue result ↔ IsWithin limits (output_text file.now) (held_lines lines.now) }
 {
     file.len() <= limits.file_canonical() && are_within(limits.record_canonical(), lines)
@@ -122,9 +122,11 @@ fn without_order(fault: Unordered) -> Unnumbered
 }
 
 /// The number of the section of each instance.
-fn places_of(alloc: Global, instances: &[ReadInstance<'_>]) -> Result<Vec<usize>, NoMemory>
-    ensures places { IfOk result (λ places. places.items ≡ map (λ (i : Read). i.section) instances.now) }
-    ensures few { length instances.now < 2 ^ 64 }
+pub(crate) fn places_of(
+    alloc: Global,
+    instances: &[ReadInstance<'_>],
+) -> Result<Vec<usize>, NoMemory>
+    ensures { IfOk result (λ places. places.items ≡ map (λ (i : Read). i.section) instances.now) }
 {
     let mut places = Vec::with_capacity(alloc, instances.len())?;
     for k in 0..instances.len() {
@@ -134,7 +136,7 @@ fn places_of(alloc: Global, instances: &[ReadInstance<'_>]) -> Result<Vec<usize>
 }
 
 /// The instances with the texts of the headings of their sections.
-fn named_instances<'a>(
+pub(crate) fn named_instances<'a>(
     alloc: Global,
     instances: Vec<ReadInstance<'a>>,
     texts: &'a [Vec<&'a [char]>],

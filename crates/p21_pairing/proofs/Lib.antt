@@ -4,3 +4,4 @@ pub mod Leaving
 pub mod KindRows
 pub mod JointNodes
 pub mod Matched
+pub mod NewNames

@@ -73,7 +73,7 @@ fn with_holder_of(kinds: &[usize], pairs: Pairs, one: usize, second: Holder) -> 
 }
 
 /// What has each key, of instances without a partner; the keys of their file begin at a position.
-fn holders(
+pub fn holders(
     alloc: Global,
     keys: &[usize],
     start: usize,

@@ -2,14 +2,14 @@
 //!
 //! First what is alone in what it says; then, round by round, what is alone at the first level of `LEVELS` that has any, where partners
 //! stand for one another. What is then alike at the first level are copies: two are chosen, and what hangs on them follows in rounds, up
-//! to `MOST_CHOICES` times; other copies are paired in the order of the files.
+//! to `MOST_COPIES` times; other copies are paired in the order of the files.
 ghost use Rattle.std.specs.Prelude.{◌≡◌, ◌<◌, ◌+◌, ℕ, length, IfOk};
 ghost use Rattle.p21_numbering.specs.Arrays.{rank_at};
 ghost use Rattle.p21_pairing.specs.Clauses.{AreForBoth, Fit, More};
 
 use crate::alone::pair_alone;
+use crate::choices::pair_in_order;
 use crate::kinds::{ranks_of, ranks_of_lent};
-use crate::left::pair_left;
 use crate::pairs::Pairs;
 use p21_numbering::{Node, PlacedUse};
 use std::alloc::{AllocError, Global};
@@ -18,7 +18,7 @@ use std::alloc::{AllocError, Global};
 const MOST_ROUNDS: usize = 40;
 
 /// So often two copies are chosen.
-const MOST_CHOICES: usize = 100;
+const MOST_COPIES: usize = 100;
 
 /// A reference to another instance (0), or by another one (1), the number of its place, and that instance.
 type Neighbour = (u8, u64, usize);
@@ -103,7 +103,7 @@ pub fn pair_around(
     let near = pair_rounds(alloc, &around, kinds, alone)?;
     let chosen = pair_choices(alloc, &around, kinds, near)?;
     let alike = pair_alike(alloc, &around, kinds, LEVELS[0], chosen)?;
-    let left = pair_left(alloc, &around.labels, kinds, alike)?;
+    let left = pair_in_order(alloc, &around.labels, kinds, alike)?;
     Ok(left)
 }
 
@@ -166,7 +166,7 @@ fn pair_choices(
     ensures { IfOk result (λ more. More kinds.now pairs more) }
 {
     let mut more = pairs;
-    for choice in 0..MOST_CHOICES {
+    for choice in 0..MOST_COPIES {
         let before = paired(&more.partners);
         more = pair_choice(alloc, around, kinds, more)?;
         let is_done = paired(&more.partners) == before;
@@ -271,7 +271,7 @@ fn pair_alike(
     ensures { IfOk result (λ more. More kinds.now pairs more) }
 {
     let keys = keys(alloc, around, kinds, level, &pairs)?;
-    let more = pair_left(alloc, &keys, kinds, pairs)?;
+    let more = pair_in_order(alloc, &keys, kinds, pairs)?;
     Ok(more)
 }
 

@@ -5,12 +5,12 @@ ghost use Rattle.p21_numbering.specs.Instances.{Instance as InstanceOf, file_ins
 ghost use Rattle.p21_numbering.specs.NodesOf.{HasKnownParts};
 ghost use Rattle.p21_pairing.specs.Clauses.{AreWithin, Matched};
 ghost use Rattle.p21_pairing.specs.Pairs.{partner_at};
-ghost use Rattle.p21_pairing.specs.Partners.{ArePartners};
+ghost use Rattle.p21_pairing.specs.Partners.{LeadToPairing};
 
 use crate::alone::pair_alone;
 use crate::around::pair_around;
+use crate::choices::pair_in_order;
 use crate::kinds::kinds;
-use crate::left::pair_left;
 use crate::pairs::{Pairs, no_pairs};
 use crate::population::joint_nodes;
 use p21_numbering::{Instance, Node, ranks};
@@ -18,8 +18,21 @@ use p21_schema::Schema;
 use p21_values::NoMemory;
 use std::alloc::{AllocError, Global};
 
-/// For each instance of the first file the position of its partner in the second one, if it has one: what is alone in its rank among
-/// both, then what is alone in what it says and what is around it, and at last what is left of each set of entities, in order.
+/// Of more pairs than this that are made by order alone others may tell less: a list of what differs by them says more than anybody
+/// reads, and a caller had better say that nothing is decided.
+pub const MOST_CHOICES: usize = 1000;
+
+/// Partners of the instances of two files.
+#[derive(Drop)]
+pub struct FoundPartners {
+    /// For each instance of the first file the position of its partner in the second one, if it has one.
+    pub partners: Vec<Option<usize>>,
+    /// How many pairs were made by the order of the files alone, among several that are alike in what was looked at.
+    pub choices: usize,
+}
+
+/// The partners of the instances of two files: what is alone in its rank among both, then what is alone in what it says and what is
+/// around it, and at last what is left of each set of entities, in order.
 ///
 /// # Errors
 ///
@@ -29,19 +42,24 @@ pub fn partners(
     schema: &Schema,
     first: &[Instance<'_>],
     second: &[Instance<'_>],
-) -> Result<Vec<Option<usize>>, NoMemory>
+) -> Result<FoundPartners, NoMemory>
     requires first { Each (λ (i : InstanceOf). HasKnownParts schema.now i.typed) (file_instances first.now) }
     requires second { Each (λ (i : InstanceOf). HasKnownParts schema.now i.typed) (file_instances second.now) }
-    ensures size { IfOk result (λ found. length found.items ≡ length first.now) }
-    ensures within { IfOk result (λ found. (i j : ℕ) → partner_at found.items i ≡ Some j → j < length second.now) }
-    ensures pairing { IfOk result (λ found. ArePartners schema.now (file_instances first.now) (file_instances second.now) found.items) }
+    ensures size { IfOk result (λ found. length found.partners.items ≡ length first.now) }
+    ensures within { IfOk result (λ found. (i j : ℕ) → partner_at found.partners.items i ≡ Some j → j < length second.now) }
+    ensures pairing { IfOk result (λ found. LeadToPairing schema.now (file_instances first.now) (file_instances second.now) found.partners.items) }
 {
     schema.well_formed();
     let nodes = joint_nodes(alloc, schema, first, second)?;
     let ranks = ranks(alloc, &nodes)?;
     let kinds = kinds(alloc, first, second)?;
     let found = matched(alloc, &nodes, &ranks, &kinds, first.len(), second.len())?;
-    Ok(found.partners)
+    let Pairs {
+        partners,
+        owners: _,
+        choices,
+    } = found;
+    Ok(FoundPartners { partners, choices })
 }
 
 /// The pairs of so many instances in each file, by their nodes, their ranks and their kinds.
@@ -63,6 +81,6 @@ fn matched(
     let none = no_pairs(alloc, first, second)?;
     let alone = pair_alone(alloc, ranks, kinds, none)?;
     let near = pair_around(alloc, nodes, kinds, alone)?;
-    let left = pair_left(alloc, kinds, kinds, near)?;
+    let left = pair_in_order(alloc, kinds, kinds, near)?;
     Ok(left)
 }

@@ -6,11 +6,12 @@ ghost use Rattle.p21_pairing.specs.Pairs.{partner_at};
 
 use std::alloc::{AllocError, Global};
 
-/// The partner of each instance of the first file, and of each one of the second.
+/// The partner of each instance of the first file, and of each one of the second; and how many pairs were made by order alone.
 #[derive(Drop)]
 pub struct Pairs {
     pub partners: Vec<Option<usize>>,
     pub owners: Vec<Option<usize>>,
+    pub choices: usize,
 }
 
 /// No pairs of so many instances.
@@ -22,7 +23,11 @@ pub fn no_pairs(alloc: Global, first: usize, second: usize) -> Result<Pairs, All
 {
     let partners = vec![in alloc; None; first]?;
     let owners = vec![in alloc; None; second]?;
-    Ok(Pairs { partners, owners })
+    Ok(Pairs {
+        partners,
+        owners,
+        choices: 0,
+    })
 }
 
 /// The pairs with one more: these two, if neither has a partner and they are of one kind.
@@ -46,10 +51,15 @@ pub fn with_pair(kinds: &[usize], pairs: Pairs, one: usize, other: usize) -> Pai
     let Pairs {
         mut partners,
         mut owners,
+        choices,
     } = pairs;
     partners[one] = Some(other);
     owners[other] = Some(one);
-    Pairs { partners, owners }
+    Pairs {
+        partners,
+        owners,
+        choices,
+    }
 }
 
 /// Whether an instance has a partner.

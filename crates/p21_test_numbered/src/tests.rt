@@ -1,8 +1,14 @@
-use p21_stream::read_schema;
+ghost use Rattle.std.specs.Prelude.{IfSome};
+ghost use Rattle.p21_spec_file.specs.Accepted.{IsAccepted};
+ghost use Rattle.p21_stream_output.specs.Output.{output_text};
+
+use p21_numbered_file::{Unpaired, paired_file};
+use p21_stream::{accept, headline, read_schema};
 use p21_stream_numbered::{
     Accepted, Limits, Name, NumberingRefusal, Schema, Watched, Which, numbered, same_but_for_names,
 };
 use std::alloc::{AllocError, Global};
+use std::collections::BTreeMap;
 use std::process::Abort;
 
 /// A schema of nodes that may have a next one.
@@ -42,11 +48,19 @@ enum Compared {
 /// The instances of two files, and what is answered for these.
 type Pairs = &'static [(&'static str, &'static str, Compared)];
 
+/// The first one's instances under the names of their partners, and the new name and the old one of each; or none, where these are too
+/// long.
+type Renamed = Option<(&'static str, &'static [(u64, u64)])>;
+
+/// The instances of two files, and what is answered for these where a canonical file may have so many bytes.
+type Partners = &'static [(&'static str, &'static str, u64, Renamed)];
+
 /// Rows of one kind.
 #[derive(Clone, Copy)]
 enum Rows {
     Files(Files),
     Pairs(Pairs),
+    Partners(Partners),
 }
 
 const MANY: u64 = 1_000_000;
@@ -130,6 +144,44 @@ const PAIRS: Pairs = &[
     ),
 ];
 
+const PARTNERS: Partners = &[
+    ("", "", MANY, Some(("", &[]))),
+    (
+        "#7=NODE('b',#3);#3=NODE('a',$);",
+        "#1=NODE('b',#2);#2=NODE('a',$);",
+        MANY,
+        Some(("#1=NODE('b',#2);\n#2=NODE('a',$);\n", &[(1, 7), (2, 3)])),
+    ),
+    // One says something else.
+    (
+        "#7=NODE('b',#3);#3=NODE('a',$);",
+        "#1=NODE('c',#2);#2=NODE('a',$);",
+        MANY,
+        Some(("#1=NODE('b',#2);\n#2=NODE('a',$);\n", &[(1, 7), (2, 3)])),
+    ),
+    // What has no partner gets a name that is free in the second file.
+    (
+        "#7=NODE('a',$);#8=RING((#7));",
+        "#1=NODE('a',$);",
+        MANY,
+        Some(("#1=NODE('a',$);\n#2=RING((#1));\n", &[(1, 7), (2, 8)])),
+    ),
+    (
+        "#7=NODE('a',$);#8=RING((#7));",
+        "#2=NODE('a',$);",
+        MANY,
+        Some(("#1=RING((#2));\n#2=NODE('a',$);\n", &[(1, 8), (2, 7)])),
+    ),
+    // A name of two digits needs a byte more.
+    (
+        "#1=NODE('',$);#2=NODE('',$);",
+        "#10=NODE('',$);",
+        183,
+        Some(("#1=NODE('',$);\n#10=NODE('',$);\n", &[(10, 1), (1, 2)])),
+    ),
+    ("#1=NODE('',$);#2=NODE('',$);", "#10=NODE('',$);", 182, None),
+];
+
 /// A file of these instances: none where memory runs out.
 fn file_of(alloc: Global, instances: &str) -> Option<Vec<u8>> {
     let mut file = Vec::new(alloc);
@@ -203,6 +255,87 @@ fn is_pair(alloc: Global, schema: &Schema, one: &str, other: &str, wanted: Compa
     }
 }
 
+/// An accepted file: none where it is refused.
+fn accepted(alloc: Global, schema: &Schema, limits: Limits, file: &[u8]) -> Option<Accepted>
+    ensures { IfSome result (λ file. IsAccepted schema.now limits (output_text file)) }
+{
+    headline(schema, limits);
+    let mut reader = Watched::new(file);
+    match accept(alloc, schema, limits, &mut reader) {
+        Ok(accepted) => Some(accepted),
+        Err(_) => None,
+    }
+}
+
+/// Whether the new names lead to these old ones, and there are no others.
+fn are_old(found: &BTreeMap<u64, u64>, olds: &[(u64, u64)]) -> bool {
+    for (new, old) in olds {
+        if found.get(new) != Some(old) {
+            return false;
+        }
+    }
+    found.len() == olds.len()
+}
+
+fn is_renamed(
+    alloc: Global,
+    schema: &Schema,
+    limits: Limits,
+    one: &Accepted,
+    other: &Accepted,
+    wanted: Renamed,
+) -> bool
+    requires one { IsAccepted schema.now limits (output_text one.now) }
+    requires other { IsAccepted schema.now limits (output_text other.now) }
+{
+    match paired_file(alloc, schema, limits, one, other, 0) {
+        Ok(paired) => match wanted {
+            Some((lines, olds)) => {
+                has_lines(alloc, &paired.file, lines) && are_old(&paired.old_names, olds)
+            }
+            None => false,
+        },
+        Err(Unpaired::TooLong) => wanted.is_none(),
+        Err(Unpaired::NoMemory) => false,
+    }
+}
+
+fn are_partners(
+    alloc: Global,
+    schema: &Schema,
+    bytes: u64,
+    one: &[u8],
+    other: &[u8],
+    wanted: Renamed,
+) -> bool {
+    let Some(limits) = Limits::new(MANY, MANY, MANY, bytes) else {
+        return false;
+    };
+    let Some(one) = accepted(alloc, schema, limits, one) else {
+        return false;
+    };
+    match accepted(alloc, schema, limits, other) {
+        Some(other) => is_renamed(alloc, schema, limits, &one, &other, wanted),
+        None => false,
+    }
+}
+
+/// The number of the first two files for which something else is answered.
+fn wrong_partners(alloc: Global, schema: &Schema, pairs: Partners) -> Option<usize> {
+    for (place, (one, other, bytes, wanted)) in pairs.iter().enumerate() {
+        let Some(one) = file_of(alloc, one) else {
+            return Some(place);
+        };
+        let Some(other) = file_of(alloc, other) else {
+            return Some(place);
+        };
+        if !are_partners(alloc, schema, *bytes, &one, &other, *wanted) {
+            return Some(place);
+        }
+    }
+    None
+}
+
 /// The number of the first file for which something else is answered.
 fn wrong_file(alloc: Global, schema: &Schema, files: Files) -> Option<usize> {
     for (place, (instances, bytes, wanted)) in files.iter().enumerate() {
@@ -234,6 +367,7 @@ fn first_wrong(alloc: Global, rows: Rows) -> Option<usize> {
     match rows {
         Rows::Files(files) => wrong_file(alloc, &schema, files),
         Rows::Pairs(pairs) => wrong_pair(alloc, &schema, pairs),
+        Rows::Partners(pairs) => wrong_partners(alloc, &schema, pairs),
     }
 }
 
@@ -250,4 +384,9 @@ fn numbers_files(rt: HostRuntime) {
 #[test]
 fn compares_files(rt: HostRuntime) {
     check(&rt, rt.alloc(), Rows::Pairs(PAIRS));
+}
+
+#[test]
+fn renames_files(rt: HostRuntime) {
+    check(&rt, rt.alloc(), Rows::Partners(PARTNERS));
 }

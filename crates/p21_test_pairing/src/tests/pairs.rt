@@ -9,10 +9,11 @@ ghost use Rattle.p21_numbering.specs.NodesOf.{HasKnownParts};
 use p21_express::read_schema;
 use p21_express_graph::EntityId;
 use p21_mapping_values::{Ids, Rows, Typed, Value, Values};
-use p21_pairing::{Instance, partners};
+use p21_pairing::{Instance, names_by, partners};
 use p21_schema::Schema;
 use p21_values::{Name, NoMemory};
 use std::alloc::{AllocError, Global};
+use std::collections::BTreeMap;
 use std::rt::HostRuntime;
 
 const SCHEMA: &[u8] = b"SCHEMA s;
@@ -34,9 +35,20 @@ const TWO: &[&[u64]] = &[&[], &[]];
 
 const THREE: &[&[u64]] = &[&[], &[], &[]];
 
-/// Two small files, and the position of the partner of each instance of the first one.
-const FILES: &[(&[Row], &[Row], &[Option<usize>])] = &[
-    (&[], &[], &[]),
+const FOUR: &[&[u64]] = &[&[], &[], &[], &[]];
+
+/// Two small files; for each instance of the first one the position of its partner and its new name; and how many pairs are made by
+/// order alone.
+type Files = (
+    &'static [Row],
+    &'static [Row],
+    &'static [Option<usize>],
+    &'static [u64],
+    usize,
+);
+
+const FILES: &[Files] = &[
+    (&[], &[], &[], &[], 0),
     // Renumbered and reordered.
     (
         &[
@@ -50,6 +62,8 @@ const FILES: &[(&[Row], &[Row], &[Option<usize>])] = &[
             (20, 0, 0, &[30], &[]),
         ],
         &[Some(1), Some(2), Some(0)],
+        &[10, 20, 30],
+        0,
     ),
     // The third one says something else.
     (
@@ -64,8 +78,10 @@ const FILES: &[(&[Row], &[Row], &[Option<usize>])] = &[
             (9, 0, 0, &[7, 8], &[]),
         ],
         &[Some(2), Some(0), Some(1)],
+        &[9, 7, 8],
+        0,
     ),
-    // The list of the first one has one more.
+    // The list of the first one has one more: by the order alone its partner is not the one that says more.
     (
         &[(1, 0, 0, &[2], &[]), (2, 0, 0, &[], ONE)],
         &[
@@ -74,6 +90,8 @@ const FILES: &[(&[Row], &[Row], &[Option<usize>])] = &[
             (4, 0, 0, &[], TWO),
         ],
         &[Some(0), Some(1)],
+        &[1, 2],
+        1,
     ),
     // Two that say the same are told apart by what refers to them, though the first one of all says something else.
     (
@@ -92,9 +110,33 @@ const FILES: &[(&[Row], &[Row], &[Option<usize>])] = &[
             (5, 0, 0, &[], &[]),
         ],
         &[Some(0), Some(1), Some(2), Some(4), Some(3)],
+        &[1, 2, 3, 5, 4],
+        0,
     ),
     // Partners have one set of entities.
-    (&[(1, 0, 0, &[], &[])], &[(1, 0, 1, &[], &[])], &[None]),
+    (
+        &[(1, 0, 0, &[], &[])],
+        &[(1, 0, 1, &[], &[])],
+        &[None],
+        &[2],
+        0,
+    ),
+    // What has none gets the lowest names that the second file leaves.
+    (
+        &[
+            (7, 0, 0, &[], &[]),
+            (1, 0, 0, &[], ONE),
+            (3, 0, 0, &[], TWO),
+        ],
+        &[
+            (2, 0, 1, &[], &[]),
+            (5, 0, 1, &[], &[]),
+            (1, 0, 1, &[], &[]),
+        ],
+        &[None, None, None],
+        &[3, 4, 6],
+        0,
+    ),
     // Copies, in order.
     (
         &[
@@ -104,6 +146,8 @@ const FILES: &[(&[Row], &[Row], &[Option<usize>])] = &[
         ],
         &[(8, 0, 0, &[], &[]), (9, 0, 0, &[], &[])],
         &[Some(0), Some(1), None],
+        &[8, 9, 1],
+        0,
     ),
     (
         &[
@@ -117,6 +161,8 @@ const FILES: &[(&[Row], &[Row], &[Option<usize>])] = &[
             (3, 0, 0, &[1], &[]),
         ],
         &[Some(0), Some(1), Some(2)],
+        &[1, 2, 3],
+        0,
     ),
     // Of copies that hang together none is mixed with another.
     (
@@ -133,12 +179,39 @@ const FILES: &[(&[Row], &[Row], &[Option<usize>])] = &[
             (12, 0, 0, &[], &[]),
         ],
         &[Some(0), Some(3), Some(1), Some(2)],
+        &[10, 12, 11, 13],
+        0,
     ),
     // In another section.
     (
         &[(1, 0, 0, &[], &[]), (2, 0, 0, &[], ONE)],
         &[(1, 0, 0, &[], ONE), (2, 1, 0, &[], &[])],
         &[Some(1), Some(0)],
+        &[2, 1],
+        0,
+    ),
+    // Two that say what no other says are one another's only choice.
+    (
+        &[(1, 0, 0, &[], ONE)],
+        &[(8, 0, 0, &[], TWO)],
+        &[Some(0)],
+        &[8],
+        0,
+    ),
+    // Of two in the second file, or in both, it could have been another one.
+    (
+        &[(1, 0, 0, &[], ONE)],
+        &[(8, 0, 0, &[], TWO), (9, 0, 0, &[], THREE)],
+        &[Some(0)],
+        &[8],
+        1,
+    ),
+    (
+        &[(1, 0, 0, &[], ONE), (2, 0, 0, &[], FOUR)],
+        &[(8, 0, 0, &[], TWO), (9, 0, 0, &[], THREE)],
+        &[Some(0), Some(1)],
+        &[8, 9],
+        2,
     ),
 ];
 
@@ -229,28 +302,36 @@ fn instances(
     Ok(all)
 }
 
-fn partners_of(
-    alloc: Global,
-    schema: &Schema,
-    first: &[Row],
-    second: &[Row],
-) -> Result<Vec<Option<usize>>, NoMemory> {
+/// Whether the partners of these files, their new names and the choices are those that are wanted.
+fn is_paired(alloc: Global, schema: &Schema, files: &Files) -> Result<bool, NoMemory> {
+    let (first, second, wanted, news, choices) = *files;
     let one = instances(alloc, schema, first)?;
     let other = instances(alloc, schema, second)?;
-    partners(alloc, schema, &one, &other)
+    let found = partners(alloc, schema, &one, &other)?;
+    let names = names_by(alloc, &one, &other, &found.partners)?;
+    Ok(
+        found.partners.as_slice() == wanted
+            && found.choices == choices
+            && are_named(first, &names, news),
+    )
 }
 
-/// The first files whose partners are others, or how many there are.
+/// Whether instances have these new names, in order, and no others.
+fn are_named(first: &[Row], names: &BTreeMap<u64, u64>, news: &[u64]) -> bool {
+    for (one, new) in first.iter().zip(news) {
+        if names.get(&one.0) != Some(new) {
+            return false;
+        }
+    }
+    names.len() == news.len()
+}
+
+/// The first files that are paired otherwise, or how many there are.
 fn first_wrong(alloc: Global, schema: &Schema) -> usize {
-    for at in 0..FILES.len() {
-        let (first, second, wanted) = FILES[at];
-        match partners_of(alloc, schema, first, second) {
-            Ok(found) => {
-                if found.as_slice() != wanted {
-                    return at;
-                }
-            }
-            Err(_) => return at,
+    for (at, files) in FILES.iter().enumerate() {
+        match is_paired(alloc, schema, files) {
+            Ok(true) => {}
+            _ => return at,
         }
     }
     FILES.len()

@@ -8,7 +8,7 @@ use Rattle.p21_numbering.specs.declared.instances.Instance.{Instance as Code}
 use Rattle.p21_numbering.specs.Instances.{AreInstancesOf, Instance, file_instances}
 use Rattle.p21_numbering.specs.NewNames.{new_name}
 use Rattle.p21_numbering.specs.NodesOf.{HasKnownParts}
-use Rattle.p21_numbered.proofs.Numbering.{all-meant, lines-numbered}
+use Rattle.p21_numbered.proofs.Numbering.{lines-numbered, numbers-apart}
 use Rattle.p21_numbered.specs.Lines.{AreOfFile, held_lines}
 use Rattle.p21_numbered.proofs.lines.numbered_lines.Goals as goal
 
@@ -21,15 +21,15 @@ pub returns-in-Err : goal.returns-in-Err
 returns-in-Err c bytes m reads are =
     let A : List Code → Type 0 = λ all. AreInstancesOf m (file_instances all) in c.in-Err.ensures bytes m reads (subst A (sym c.deref.ensures.value) are)
 
-pub lines_under-requires : goal.lines_under-requires
-lines_under-requires c =
+pub lines_under-requires-clause-apart : goal.lines_under-requires-clause-apart
+lines_under-requires-clause-apart c =
     let s = c.args.schema.now in
     let file : AreOfFile s (file_instances c.args.instances.items) = c.requires.file in
     let A : List Code → Type 0 = λ all. AreInstancesOf file.meaning (file_instances all) in
     let answered : IsDecided (ranking_of s) file.meaning × IsAligned (ranking_of s) file.meaning c.in-Ok.order.items = c.in-Ok.ensures file.bytes file.meaning file.reads (subst A (sym c.deref.ensures.value) file.are) in
     let G : List ℕ → Type 0 = λ xs. IsDistinct nat_eq xs → (n : ℕ) → Contains xs n → new_name c.in_ok-numbers.numbers n ≡ number_in xs n in
-    all-meant s c.well_formed-2.ensures file.bytes file.meaning file.reads (file_instances c.args.instances.items) file.are (ranking_of s) c.in-Ok.order.items answered.1.is_order (new_name c.in_ok-numbers.numbers)
-    (subst G c.deref-2.ensures.value c.in_ok-numbers.ensures answered.1.is_order.once) c.requires.known
+    numbers-apart s c.well_formed-2.ensures file.bytes file.meaning file.reads (file_instances c.args.instances.items) file.are (ranking_of s) c.in-Ok.order.items answered.1.is_order (new_name c.in_ok-numbers.numbers)
+    (subst G c.deref-2.ensures.value c.in_ok-numbers.ensures answered.1.is_order.once)
 
 pub returns : goal.returns
 returns c bytes m reads are =

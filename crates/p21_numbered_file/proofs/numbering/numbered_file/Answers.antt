@@ -1,4 +1,4 @@
-use Rattle.std.proofs.Common.{◌≡◌, ◌∙◌, ◌<◌, ◌^◌, ℕ, List, length, map, sym, subst}
+use Rattle.std.proofs.Common.{◌≡◌, ◌∙◌, ◌<◌, ℕ, List, length, map, sym, subst}
 use Rattle.std.proofs.lemmas.Bool.{false≢true}
 use Rattle.std.specs.Global.{Vec}
 use Rattle.std.specs.List.{AllByRecursion as Each}
@@ -91,7 +91,7 @@ put_together-requires c =
     let M : List Instance → Type 0 = λ xs. AreNumbered s is.meaning xs lines in
     let numbered : AreNumbered s is.meaning (map (instance_in texts) read.instances.items) lines = subst M named_is answered in
     let P : List ReadInstance → Type 0 = λ xs. c.in_ok-places.places.items ≡ map (λ (i : ReadInstance). i.section) xs in
-    let places_are : c.in_ok-places.places.items ≡ map (λ (i : ReadInstance). i.section) read.instances.items = subst P c.deref-2.ensures.value c.in_ok-places.ensures.places in
+    let places_are : c.in_ok-places.places.items ≡ map (λ (i : ReadInstance). i.section) read.instances.items = subst P c.deref-2.ensures.value c.in_ok-places.ensures in
     let ready = is-ready s formed text read is texts are lines numbered in
     let S : List (Option Part) → Type 0 = λ xs. IsReady xs c.deref-5.result.now (held_lines c.deref-6.result.now) in
     let Q : List ℕ → Type 0 = λ xs. IsReady read.sections.items xs (held_lines c.deref-6.result.now) in
@@ -115,9 +115,7 @@ returns-then-is_within c text accepted is =
     let M : List Instance → Type 0 = λ xs. AreNumbered s is.meaning xs lines in
     let numbered : AreNumbered s is.meaning (map (instance_in texts) read.instances.items) lines = subst M named_is answered in
     let P : List ReadInstance → Type 0 = λ xs. c.in_ok-places.places.items ≡ map (λ (i : ReadInstance). i.section) xs in
-    let places_are : c.in_ok-places.places.items ≡ map (λ (i : ReadInstance). i.section) read.instances.items = subst P c.deref-2.ensures.value c.in_ok-places.ensures.places in
-    let F : List ReadInstance → Type 0 = λ xs. length xs < 2 ^ 64 in
-    let few : length read.instances.items < 2 ^ 64 = subst F c.deref-2.ensures.value c.in_ok-places.ensures.few in
+    let places_are : c.in_ok-places.places.items ≡ map (λ (i : ReadInstance). i.section) read.instances.items = subst P c.deref-2.ensures.value c.in_ok-places.ensures in
     let file = c.in_ok-file.file in
     let S : List (Option Part) → Type 0 = λ xs. IsPutTogether read.header.items xs c.deref-5.result.now (held_lines c.deref-6.result.now) file in
     let Q : List ℕ → Type 0 = λ xs. IsPutTogether read.header.items read.sections.items xs (held_lines c.deref-6.result.now) file in
@@ -125,7 +123,7 @@ returns-then-is_within c text accepted is =
     let put = subst L c.deref-6.ensures.value (subst Q (c.deref-5.ensures.value ∙ places_are) (subst S c.deref-4.ensures.value c.in_ok-file.ensures)) in
     let W : List NumberedLine → Type 0 = λ xs. IsTrue c.is_within.result ↔ IsWithin c.args.limits (output_text file) (held_lines xs) in
     let within = subst W c.deref-7.ensures.value c.is_within.ensures in
-    is-numbered s formed text read is texts are lines numbered c.args.limits accepted few file put (within.0 c.if-is_within.true)
+    is-numbered s formed text read is texts are lines numbered c.args.limits accepted file put (within.0 c.if-is_within.true)
 
 pub returns : goal.returns
 returns c text accepted is =
@@ -144,9 +142,7 @@ returns c text accepted is =
     let M : List Instance → Type 0 = λ xs. AreNumbered s is.meaning xs lines in
     let numbered : AreNumbered s is.meaning (map (instance_in texts) read.instances.items) lines = subst M named_is answered in
     let P : List ReadInstance → Type 0 = λ xs. c.in_ok-places.places.items ≡ map (λ (i : ReadInstance). i.section) xs in
-    let places_are : c.in_ok-places.places.items ≡ map (λ (i : ReadInstance). i.section) read.instances.items = subst P c.deref-2.ensures.value c.in_ok-places.ensures.places in
-    let F : List ReadInstance → Type 0 = λ xs. length xs < 2 ^ 64 in
-    let few : length read.instances.items < 2 ^ 64 = subst F c.deref-2.ensures.value c.in_ok-places.ensures.few in
+    let places_are : c.in_ok-places.places.items ≡ map (λ (i : ReadInstance). i.section) read.instances.items = subst P c.deref-2.ensures.value c.in_ok-places.ensures in
     let file = c.in_ok-file.file in
     let S : List (Option Part) → Type 0 = λ xs. IsPutTogether read.header.items xs c.deref-5.result.now (held_lines c.deref-6.result.now) file in
     let Q : List ℕ → Type 0 = λ xs. IsPutTogether read.header.items read.sections.items xs (held_lines c.deref-6.result.now) file in
@@ -154,4 +150,4 @@ returns c text accepted is =
     let put = subst L c.deref-6.ensures.value (subst Q (c.deref-5.ensures.value ∙ places_are) (subst S c.deref-4.ensures.value c.in_ok-file.ensures)) in
     let W : List NumberedLine → Type 0 = λ xs. IsTrue c.is_within.result ↔ IsWithin c.args.limits (output_text file) (held_lines xs) in
     let within = subst W c.deref-7.ensures.value c.is_within.ensures in
-    is-too_long s formed text read is texts are lines numbered c.args.limits accepted few file put (λ fits. false≢true (sym c.if-is_within.false ∙ within.1 fits))
+    is-too_long s formed text read is texts are lines numbered c.args.limits accepted file put (λ fits. false≢true (sym c.if-is_within.false ∙ within.1 fits))

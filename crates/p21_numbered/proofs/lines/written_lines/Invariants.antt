@@ -1,7 +1,7 @@
 use Rattle.std.proofs.Common.{length}
 use Rattle.p21_numbering.specs.NewNames.{new_name}
 use Rattle.p21_numbered.proofs.Numbering.{Halfway}
-use Rattle.p21_numbered.proofs.lines.lines_under.Given as goal
+use Rattle.p21_numbered.proofs.lines.written_lines.Given as goal
 
 abbrev pub invariant-loop-one : goal.invariant-loop-one
 invariant-loop-one l = Halfway l.schema (new_name l.names) l.left.items l.fn.instances.items l.lines.items

@@ -4,7 +4,7 @@ use Rattle.std.proofs.Common.{sym, subst}
 use Rattle.p21_numbering.specs.declared.instances.Instance.{Instance as Code}
 use Rattle.p21_numbering.specs.Instances.{Instance, file_instances}
 use Rattle.p21_numbering.specs.NodesOf.{HasKnownParts}
-use Rattle.p21_test_pairing.proofs.tests.pairs.partners_of.Goals as goal
+use Rattle.p21_test_pairing.proofs.tests.pairs.is_paired.Goals as goal
 
 pub partners-requires-clause-first : goal.partners-requires-clause-first
 partners-requires-clause-first c =
