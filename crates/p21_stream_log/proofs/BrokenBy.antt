@@ -1,8 +1,7 @@
 -- By which bytes a statement is broken that is to be passed over, and where the reading ends.
-use Rattle.std.proofs.Common.{◌≡◌, ◌≢◌, inl, inr, ℕ, suc, List, [], ◌∷◌, ◌++◌, length, length-append, refl, sym, ap, subst, ◌∙◌, append_assoc, append-nil, arith}
+use Rattle.std.proofs.Common.{◌≡◌, ◌≢◌, inl, inr, ℕ, suc, List, [], ◌∷◌, ◌++◌, refl, sym, ap, subst, ◌∙◌, append_assoc, append-nil, arith}
 use Rattle.std.proofs.lemmas.List.{append_cancel_left}
-use Rattle.p21_spec_exchange.specs.Laying.{Lexeme}
-use Rattle.p21_spec_exchange.specs.Pending.{LaidUpTo, open_comment}
+use Rattle.p21_spec_exchange.specs.Pending.{open_comment}
 use Rattle.p21_spec_exchange.specs.Statement.{instance}
 use Rattle.p21_spec_survey.specs.Landmark as landmarks
 use Rattle.p21_spec_survey.specs.Landmark.{BeginsNoSignpost, Signpost, StandsAt, file_begin, file_end, landmark, signpost_bytes}
@@ -17,24 +16,14 @@ use Rattle.p21_stream_log.specs.Laws.{RefusedIsBroken, SoughtEnds, TooFarEnds, W
 use Rattle.p21_stream_log.specs.Log.{IsFileOf}
 use Rattle.p21_stream_log.specs.Passage.{IsNextIn}
 use Rattle.p21_stream_resume.proofs.Finding.{none-whole}
+use Rattle.p21_stream_resume.proofs.Lexed.{none-laid}
 use Rattle.p21_stream_resume.proofs.Statements.{laid-lexed, not-in_remark}
 use Rattle.p21_stream_statements.specs.Fault.{fault_number}
-use Rattle.p21_tokens_automaton.proofs.Prefixes.{spelling-some}
 
 -- ---- a front
 
--- no bytes end in a remark
-none-open : (lexemes : List Lexeme) (inside : List ℕ) → LaidUpTo [] lexemes (open_comment inside) → ⊥
-none-open [] inside (gap, is, separates, tail) = let size = ap length is in let sum = length-append gap (47 ∷ 42 ∷ inside) in omega (arith, size, sum)
-none-open (l ∷ lexemes) inside (gap, spelling, rest, is, separates, spells, size_is, followed, laid) =
-    let some = spelling-some l.token spelling spells in
-    let size = ap length is in
-    let sum = length-append gap (spelling ++ rest) in
-    let own = length-append spelling rest in
-    omega (arith, some, size, sum, own)
-
 no-remark : (front rest : List ℕ) → (front ≢ [] → rest ≢ []) → rest ≡ [] → (inside : List ℕ) → EndsInRemark front inside → ⊥
-no-remark [] rest some none inside (lexemes, laid) = none-open lexemes inside laid
+no-remark [] rest some none inside (lexemes, laid) = none-laid lexemes (open_comment inside) (λ same. cc) laid
 no-remark (b ∷ front) rest some none inside ends = some (λ same. cc) none
 
 pub refused-broken : BeginsNoneAlike → RefusedIsBroken
@@ -42,7 +31,7 @@ refused-broken alike s limits known point held piece front behind more fault beg
   stood = record { before = refused.before; logs = refused.logs; stays = refused.stays; of_instance = inl ended };
   state = is.is_front.state;
   lexed = is.is_front.lexed;
-  no_remark = λ none. no-remark front is.rest is.some (append_cancel_left front is.rest behind (sym is.bytes_are ∙ parts) ∙ none);
+  to_end = λ none inside ends. absurd (no-remark front is.rest is.some (append_cancel_left front is.rest behind (sym is.bytes_are ∙ parts) ∙ none) inside ends);
   next_in = next;
 }
   where
@@ -76,7 +65,7 @@ wrong-broken s limits known point held n record_ number begins logs ended last w
       stood = record { before = held.reader; logs = logs; stays = λ earlier began. began; of_instance = inr (n, record_, ended) };
       state = state;
       lexed = lexed;
-      no_remark = λ none within ends. not-in_remark held.buffer within own.more own.whole ends;
+      to_end = λ none within ends. absurd (not-in_remark held.buffer within own.more own.whole ends);
       next_in = λ file of.
           let (rest, file_is) = logs.file_is file of in
           record {

@@ -51,7 +51,7 @@ then-none (Ok p) = refl
 then-none (Err fault) = refl
 
 -- behind some statements and one more the stage is the one behind this one
-last-leads : (sts : List Statement) (st : Statement) (p q r : Stage) → walk sts p ≡ Ok q → walk (sts ++ st ∷ []) p ≡ Ok r → after q st ≡ Ok r
+pub last-leads : (sts : List Statement) (st : Statement) (p q r : Stage) → walk sts p ≡ Ok q → walk (sts ++ st ∷ []) p ≡ Ok r → after q st ≡ Ok r
 last-leads [] st p q r first all = let same : p ≡ q = same-stage p q first in subst (λ (x : Stage). after x st ≡ Ok r) same (sym (then-none (after p st)) ∙ all)
 last-leads (one ∷ sts) st p q r first all = by (λ next. last-leads sts st next q r) (after p one) first all
   where

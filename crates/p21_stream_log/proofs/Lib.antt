@@ -13,3 +13,4 @@ pub mod BrokenBy
 pub mod InSection
 pub mod Told
 pub mod Ending
+pub mod Endings

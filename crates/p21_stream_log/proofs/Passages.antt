@@ -1,5 +1,5 @@
 -- A statement is passed over up to the signpost by which the reading goes.
-use Rattle.std.proofs.Common.{◌≡◌, ◌↔◌, ◌+◌, ◌-◌, ◌^◌, ◌<◌, ◌≤◌, inl, inr, ℕ, IsTrue, List, [], ◌∷◌, ◌++◌, length, length-append, take, drop, Some, None, refl, sym, ap, subst, ◌∙◌, append_assoc, append-nil, arith}
+use Rattle.std.proofs.Common.{◌≡◌, ◌⊎◌, ◌↔◌, ◌+◌, ◌-◌, ◌^◌, ◌<◌, ◌≤◌, inl, inr, ℕ, IsTrue, List, [], ◌∷◌, ◌++◌, length, length-append, take, drop, Option, Some, None, refl, sym, ap, subst, ◌∙◌, append_assoc, append-nil, arith}
 use Rattle.std.proofs.lemmas.List.{append_cancel_left, drop_at, length-take-le, take-append-drop, take_at}
 use Rattle.p21_spec_basics.proofs.Members.{head_is, tail_is}
 use Rattle.p21_spec_basics.specs.Limits.{Limits}
@@ -7,51 +7,57 @@ use Rattle.p21_spec_schema.specs.Schema.{Schema}
 use Rattle.p21_spec_survey.specs.Landmark as landmarks
 use Rattle.p21_spec_survey.specs.Landmark.{IsFirstSignpost, IsOpened, Landmark, Signpost, StandsAt, file_begin, file_end, landmark, signpost_bytes}
 use Rattle.p21_spec_survey.specs.Laws.{GoesByOnePlace}
-use Rattle.p21_spec_survey.specs.Resuming.{EndsInRemark, EndsInString, GoesBy, HasNoneInside, IsInside, further_on, within_text}
+use Rattle.p21_spec_survey.specs.Resuming.{EndsInRemark, EndsInString, GoesBy, HasNoneInside, IsInOpenRemark, IsInside, further_on, within_text}
 use Rattle.p21_spec_survey.specs.Survey.{EndsReading, IsFileMark, IsPassedOver, Subject, no_landmark}
 use Rattle.p21_stream_log.proofs.GoingOn.{passed-front}
-use Rattle.p21_stream_log.proofs.LeavingOut.{FindsLexed}
 use Rattle.p21_stream_log.specs.Going.{GoesOnBehind}
 use Rattle.p21_stream_log.specs.Log.{Held, IsFileOf, Known, Point}
-use Rattle.p21_stream_log.specs.Passage.{AheadIs, FurtherGives, IsBrokenBy, IsMark, IsPassedTooFar, IsTooFarAt, IsTooMany, PassToGives, PassageFor, PassageGives, StaysAt}
+use Rattle.p21_stream_log.specs.Passage.{AheadIs, FindsInside, FurtherGives, IsBrokenBy, IsMark, IsPassedTooFar, IsTooFarAt, IsTooMany, PassToGives, PassageFor, PassageGives, StaysAt}
 use Rattle.p21_stream_log.specs.declared.passage.Passage.{Passage}
 use Rattle.p21_stream_log.specs.declared.passage.Passage.TheVariants.{AtFileMark, GoesOn, Sought, TooLong}
+use Rattle.p21_stream_resume.proofs.OpenRemarks.{string-first}
+use Rattle.p21_stream_resume.specs.Lexing.{AreLexed}
 use Rattle.p21_stream_resume.specs.Seeking.{IsFound, Seeks, SeeksOn}
 use Rattle.p21_stream_resume.specs.Seeking as seeking
 use Rattle.p21_stream_resume.specs.Shape.{Describes}
-use Rattle.p21_stream_resume.specs.Standing.{FindsInString, StandsInString}
+use Rattle.p21_stream_resume.specs.Standing.{FindsInRemark, FindsInString, StandsInRemark, StandsInString}
 use Rattle.p21_stream_resume.specs.declared.signpost.Signpost as code
 use Rattle.p21_stream_resume.specs.declared.signpost.Signpost.TheVariants as variant
+use Rattle.p21_tokens_automaton.specs.Reading.{State}
 
 -- ---- signposts inside the statement
 
-abbrev EndsInNoRemark : List ℕ → List ℕ → Type 0
-EndsInNoRemark statement behind = behind ≡ [] → (inside : List ℕ) → EndsInRemark statement inside → ⊥
+-- they stand in a string of it, or in the remark in which the file ends
+abbrev StandsInText : List ℕ → List ℕ → ℕ → Signpost → Type 0
+StandsInText statement behind place signpost = StandsInString statement place signpost ⊎ ((behind ≡ []) × StandsInRemark statement place signpost)
 
--- they stand in a string of it
-inside-string : (statement behind front rest : List ℕ) (signpost : Signpost) → EndsInNoRemark statement behind → IsInside statement behind front signpost rest → StandsInString statement (length front) signpost
-inside-string statement behind front rest signpost no_remark is =
+inside-stands : (statement behind front rest : List ℕ) (signpost : Signpost) → IsInside statement behind front signpost rest → StandsInText statement behind (length front) signpost
+inside-stands statement behind front rest signpost is =
     let tail : List ℕ = signpost_bytes signpost ++ rest in
     let first : take (length front) statement ≡ front = ap (λ (l : List ℕ). take (length front) l) is.bytes_are ∙ take_at front tail (length front) refl in
     let further : drop (length front) statement ≡ tail = ap (λ (l : List ℕ). drop (length front) l) is.bytes_are ∙ drop_at front tail (length front) refl in
+    let within : length front ≤ length statement = (let size = ap length is.bytes_are in let sum = length-append front tail in omega (arith, size, sum)) in
+    let stands : StandsAt (take (length front) statement) (drop (length front) statement) signpost =
+    subst (λ (l : List ℕ). StandsAt l (drop (length front) statement) signpost) (sym first) (subst (λ (l : List ℕ). StandsAt front l signpost) (sym further) is.stands) in
     elim is.in_text [
-      | inl in_string ↦ record {
-        within = let size = ap length is.bytes_are in let sum = length-append front tail in omega (arith, size, sum);
-        in_string = subst EndsInString (sym first) in_string;
-        stands = subst (λ (l : List ℕ). StandsAt l (drop (length front) statement) signpost) (sym first) (subst (λ (l : List ℕ). StandsAt front l signpost) (sym further) is.stands);
-      }
-      | inr (nothing, (inside, more, are, begun, all)) ↦ absurd (no_remark nothing (inside ++ more) all)
+      | inl in_string ↦ inl (record { within = within; in_string = subst EndsInString (sym first) in_string; stands = stands })
+      | inr (nothing, open_) ↦ inr (nothing, record { within = within; in_remark = subst (λ (l : List ℕ). IsInOpenRemark l statement) (sym first) open_; stands = stands })
     ]
 
-pub none-in-front : (statement behind : List ℕ) → EndsInNoRemark statement behind → FindsInString statement None → HasNoneInside statement behind
-none-in-front statement behind no_remark none front signpost rest is = none (length front) signpost (inside-string statement behind front rest signpost no_remark is)
+pub none-in-front : (statement behind : List ℕ) → FindsInString statement None → (behind ≡ [] → FindsInRemark statement None) → HasNoneInside statement behind
+none-in-front statement behind none none_open front signpost rest is = elim (inside-stands statement behind front rest signpost is) [
+  | inl there ↦ none (length front) signpost there
+  | inr (nothing, there) ↦ none_open nothing (length front) signpost there
+]
 
-no-more : (behind more : List ℕ) → behind ++ more ≡ [] → behind ≡ []
-no-more [] more is = refl
+-- what is found in the remark where none stands in a string
+pub found-in_remark : (statement behind : List ℕ) (found : Option (ℕ × code.Signpost)) → FindsInString statement None → behind ≡ [] → FindsInRemark statement found → FindsInside statement behind found
+found-in_remark statement behind None none nothing open_ = (none, λ _. open_)
+found-in_remark statement behind (Some first) none nothing open_ = inr (none, nothing, open_)
+
+no-more : (behind more : List ℕ) → behind ++ more ≡ [] → (behind ≡ []) × (more ≡ [])
+no-more [] more is = (refl, is)
 no-more (b ∷ behind) more is = absurd cc
-
-further-behind : (statement behind more : List ℕ) → EndsInNoRemark statement behind → EndsInNoRemark statement (behind ++ more)
-further-behind statement behind more no_remark none = no_remark (no-more behind more none)
 
 opened-further : (before bytes : List ℕ) → IsOpened bytes → IsOpened (before ++ bytes)
 opened-further before bytes is = record {
@@ -65,38 +71,75 @@ opened-further before bytes is = record {
 
 -- ---- where the reading goes on
 
--- behind so many bytes of the statement and those behind it, whatever comes then
-pub record PassesTo (before statement behind : List ℕ) (count : ℕ) (signpost : Signpost) : Type 0 where
+-- behind so many bytes of the statement and those behind it, where such bytes come then
+pub record PassesTo (comes : List ℕ → Type 0) (before statement behind : List ℕ) (count : ℕ) (signpost : Signpost) : Type 0 where
   pub within : count ≤ length (statement ++ behind)
   pub opened : IsOpened (before ++ take count (statement ++ behind))
-  pub goes : (more : List ℕ) → (last : List ℕ) × GoesBy before statement (behind ++ more) (take count (statement ++ behind)) signpost last
+  pub goes : (more : List ℕ) → comes more → (last : List ℕ) × GoesBy before statement (behind ++ more) (take count (statement ++ behind)) signpost last
 
--- in a string of it
-string-passes : (before statement behind : List ℕ) (place : ℕ) (signpost : Signpost) → EndsInNoRemark statement behind → StandsInString statement place signpost
-    → ((earlier : ℕ) (other : Signpost) → StandsInString statement earlier other → place ≤ earlier) → PassesTo before statement behind place signpost
-string-passes before statement behind place signpost no_remark stands first =
-    let front : List ℕ = take place statement in
-    let rest : List ℕ = drop place statement in
-    let size : length front ≡ place = length-take-le place statement stands.within in
-    let whole : statement ++ behind ≡ front ++ (rest ++ behind) = ap (λ (l : List ℕ). l ++ behind) (sym (take-append-drop place statement)) ∙ append_assoc front rest behind in
-    let same : take place (statement ++ behind) ≡ front = ap (λ (l : List ℕ). take place l) whole ∙ take_at front (rest ++ behind) place size in
-    record {
-      within = let sum = length-append statement behind in let low = stands.within in omega (arith, sum, low);
-      opened = opened-further before (take place (statement ++ behind)) (subst IsOpened (sym same) stands.stands.opened);
-      goes = λ more. (
-        stands.stands.rest ++ (behind ++ more),
-        subst (λ (l : List ℕ). GoesBy before statement (behind ++ more) l signpost (stands.stands.rest ++ (behind ++ more))) (sym same)
-            (within_text front signpost stands.stands.rest
-            (record {
-              bytes_are = sym (take-append-drop place statement) ∙ ap (λ (l : List ℕ). front ++ l) stands.stands.bytes_are;
-              stands = subst (λ (l : List ℕ). StandsAt front l signpost) stands.stands.bytes_are stands.stands;
-              in_text = inl stands.in_string;
-            })
-            (λ other_front other other_rest is.
-            let low = first (length other_front) other (inside-string statement (behind ++ more) other_front other_rest other (further-behind statement behind more no_remark) is) in
-            omega (arith, low, size))),
-      );
-    }
+abbrev whatever : List ℕ → Type 0
+whatever more = Unit {0}
+
+-- in a string of it, or in the remark in which it ends
+module _ (comes : List ℕ → Type 0) (before statement behind : List ℕ) (place : ℕ) (signpost : Signpost) (within : place ≤ length statement) (stands : StandsAt (take place statement) (drop place statement) signpost)
+    (in_text : (more : List ℕ) → comes more → EndsInString (take place statement) ⊎ ((behind ++ more ≡ []) × IsInOpenRemark (take place statement) statement))
+    (first : (more : List ℕ) → comes more → (earlier : ℕ) (other : Signpost) → StandsInText statement (behind ++ more) earlier other → place ≤ earlier) where
+  abbrev text_front : List ℕ
+  text_front = take place statement
+
+  abbrev text_rest : List ℕ
+  text_rest = drop place statement
+
+  text-size : length text_front ≡ place
+  text-size = length-take-le place statement within
+
+  same-text : take place (statement ++ behind) ≡ text_front
+  same-text =
+      ap (λ (l : List ℕ). take place l) (ap (λ (l : List ℕ). l ++ behind) (sym (take-append-drop place statement)) ∙ append_assoc text_front text_rest behind) ∙ take_at text_front (text_rest ++ behind) place text-size
+
+  text-passes : PassesTo comes before statement behind place signpost
+  text-passes = record {
+    within = let sum = length-append statement behind in omega (arith, sum, within);
+    opened = opened-further before (take place (statement ++ behind)) (subst IsOpened (sym same-text) stands.opened);
+    goes = λ more come. (
+      stands.rest ++ (behind ++ more),
+      subst (λ (l : List ℕ). GoesBy before statement (behind ++ more) l signpost (stands.rest ++ (behind ++ more))) (sym same-text)
+          (within_text text_front signpost stands.rest
+          (record {
+            bytes_are = sym (take-append-drop place statement) ∙ ap (λ (l : List ℕ). text_front ++ l) stands.bytes_are;
+            stands = subst (λ (l : List ℕ). StandsAt text_front l signpost) stands.bytes_are stands;
+            in_text = in_text more come;
+          })
+          (λ other_front other other_rest is.
+          let low = first more come (length other_front) other (inside-stands statement (behind ++ more) other_front other_rest other is) in
+          let size = text-size in
+          omega (arith, low, size))),
+    );
+  }
+
+string-passes : (before statement behind : List ℕ) (place : ℕ) (own : code.Signpost) (state : State) → AreLexed statement state → FindsInString statement (Some (place, own)) → (signpost : Signpost) × Describes own signpost × PassesTo whatever before statement behind place signpost
+string-passes before statement behind place own state lexed ((signpost, stands, describes), first) = (
+  signpost,
+  describes,
+  text-passes whatever before statement behind place signpost stands.within stands.stands (λ more come. inl stands.in_string)
+      (λ more come earlier other there. elim there [
+        | inl in_string ↦ first earlier other in_string
+        | inr (none, open_) ↦ (
+            let low = string-first statement (take earlier statement) place state lexed stands.in_string open_.in_remark in
+            let size = length-take-le earlier statement open_.within in
+            omega (arith, low, size))
+      ]),
+)
+
+remark-passes : (before statement behind : List ℕ) (place : ℕ) (own : code.Signpost) → behind ≡ [] → FindsInString statement None → FindsInRemark statement (Some (place, own))
+    → (signpost : Signpost) × Describes own signpost × PassesTo (λ more. more ≡ []) before statement behind place signpost × ((inside : List ℕ) × EndsInRemark statement inside)
+remark-passes before statement behind place own nothing none ((signpost, stands, describes), first) = (
+  signpost,
+  describes,
+  text-passes (λ more. more ≡ []) before statement behind place signpost stands.within stands.stands (λ more come. inr (ap (λ (l : List ℕ). l ++ more) nothing ∙ come, stands.in_remark))
+      (λ more come earlier other there. elim there [ inl in_string ↦ absurd (none earlier other in_string) | inr (no_bytes, open_) ↦ first earlier other open_ ]),
+  (let (inside, more, are, begun, ends) = stands.in_remark in (inside ++ more, ends)),
+)
 
 -- behind it, where a seeker has taken these bytes and then some of a piece
 module _ (before statement behind piece : List ℕ) (last : ℕ) (own : code.Signpost) (held : seeking.Held) (low : last < length piece) (none : (more : List ℕ) → HasNoneInside statement ((behind ++ piece) ++ more)) (is : IsFound (before ++ statement) behind piece last own held)
@@ -137,11 +180,11 @@ module _ (before statement behind piece : List ℕ) (last : ℕ) (own : code.Sig
   same-front : take count (statement ++ (behind ++ piece)) ≡ front
   same-front = ap (λ (l : List ℕ). take count l) whole-is ∙ take_at front (sign ++ left) count front-size
 
-  seeker-passes : PassesTo before statement (behind ++ piece) count is.signpost
+  seeker-passes : PassesTo whatever before statement (behind ++ piece) count is.signpost
   seeker-passes = record {
     within = let all = ap length whole-is in let sum = length-append front (sign ++ left) in let size = front-size in omega (arith, all, sum, size);
     opened = subst (λ (l : List ℕ). IsOpened (before ++ l)) (sym same-front) (subst IsOpened (append_assoc before statement is.skipped) (is.first []).stands.opened);
-    goes = λ more.
+    goes = λ more come.
         let first : IsFirstSignpost (before ++ statement) ((behind ++ piece) ++ more) is.skipped is.signpost (left ++ more) =
         subst (λ (l : List ℕ). IsFirstSignpost (before ++ statement) l is.skipped is.signpost (left ++ more))
         (ap (λ (l : List ℕ). behind ++ l) (sym (append_assoc piece_front left more) ∙ ap (λ (l : List ℕ). l ++ more) (take-append-drop (last + 1) piece)) ∙ sym (append_assoc behind piece more)) (is.first (left ++ more)) in
@@ -191,7 +234,7 @@ mark-same file_end (landmark (landmarks.section_end blanks)) rest other_rest mar
 -- ---- a log
 
 module _ (s : Schema) (limits : Limits) (known : Known) (point : Point) (old : Held) (statement behind more : List ℕ) (number : ℕ) (subject : Subject) (begins : ℕ) (broken : IsBrokenBy s limits known point old statement behind more number subject begins) (count : ℕ)
-    (signpost : Signpost) (passes : PassesTo point.read.bytes statement behind count signpost) where
+    (signpost : Signpost) (comes : List ℕ → Type 0) (come : (file : List ℕ) (of : IsFileOf known file) → comes (more ++ (broken.next_in file of).rest)) (passes : PassesTo comes point.read.bytes statement behind count signpost) where
   abbrev all_bytes : List ℕ
   all_bytes = statement ++ behind
 
@@ -202,7 +245,7 @@ module _ (s : Schema) (limits : Limits) (known : Known) (point : Point) (old : H
   over-in : (file : List ℕ) → IsFileOf known file → (last rest : List ℕ) × IsPassedOver s limits file point.read passed signpost last number subject × (signpost_bytes signpost ++ last ≡ (drop count all_bytes ++ more) ++ rest)
   over-in file of =
       let next = broken.next_in file of in
-      let (last, goes) = passes.goes (more ++ next.rest) in
+      let (last, goes) = passes.goes (more ++ next.rest) (come file of) in
       let goes_by : GoesBy point.read.bytes next.to_pass.statement next.to_pass.behind passed signpost last =
       subst (λ (l : List ℕ). GoesBy point.read.bytes l next.to_pass.behind passed signpost last) (sym next.statement_is)
       (subst (λ (l : List ℕ). GoesBy point.read.bytes statement l passed signpost last) (sym next.behind_are) goes) in
@@ -270,54 +313,74 @@ reach-stays old new count own TooLong gives = gives.0
 reach-stays old new count own (Sought seeker) gives = absurd gives
 
 module _ (one_place : GoesByOnePlace) (s : Schema) (limits : Limits) (known : Known) (point : Point) (old new : Held) (statement behind more : List ℕ) (number : ℕ) (subject : Subject) (begins : ℕ)
-    (broken : IsBrokenBy s limits known point old statement behind more number subject begins) (count : ℕ) (own : code.Signpost) (signpost : Signpost) (describes : Describes own signpost) (to : PassesTo point.read.bytes statement behind count signpost) where
+    (broken : IsBrokenBy s limits known point old statement behind more number subject begins) (count : ℕ) (own : code.Signpost) (signpost : Signpost) (describes : Describes own signpost) (comes : List ℕ → Type 0)
+    (come : (file : List ℕ) (of : IsFileOf known file) → comes (more ++ (broken.next_in file of).rest)) (to : PassesTo comes point.read.bytes statement behind count signpost) where
   reach-gives : (passage : Passage) → PassToGives old count own passage new → PassageFor s limits known point statement behind more number subject begins passage new
   reach-gives (GoesOn there) (there_is, none, gives) =
       let (other, same) = no-mark own signpost describes none in
       subst (λ (n : ℕ). PassageFor s limits known point statement behind more number subject begins (GoesOn n) new) (sym there_is)
       (gives s limits known point (take count (statement ++ behind)) (drop count (statement ++ behind) ++ more) number subject begins broken.stood
-      (place-is s limits known point old statement behind more number subject begins broken count signpost to) to.opened
-      (goes-behind s limits known point old statement behind more number subject begins broken count signpost to other same))
-  reach-gives AtFileMark (same, mark) = ends-there s limits known point old statement behind more number subject begins broken count signpost to one_place (mark-of own signpost describes mark)
+      (place-is s limits known point old statement behind more number subject begins broken count signpost comes come to) to.opened
+      (goes-behind s limits known point old statement behind more number subject begins broken count signpost comes come to other same))
+  reach-gives AtFileMark (same, mark) = ends-there s limits known point old statement behind more number subject begins broken count signpost comes come to one_place (mark-of own signpost describes mark)
   reach-gives TooLong (same, none, many) =
       let (other, is) = no-mark own signpost describes none in
-      too-far s limits known point old statement behind more number subject begins broken count signpost to other is (many s limits known point broken.stood)
+      too-far s limits known point old statement behind more number subject begins broken count signpost comes come to other is (many s limits known point broken.stood)
   reach-gives (Sought seeker) never = absurd never
 
 -- ---- the ways to it
 
-pub by-string : GoesByOnePlace → (old new : Held) (statement behind : List ℕ) (count : ℕ) (own : code.Signpost) (passage : Passage) → FindsLexed statement (Some (count, own)) → PassToGives old count own passage new → PassageGives old statement behind passage new
-by-string one_place old new statement behind count own passage found gives = (
+abbrev pub FindsLexedInside : List ℕ → List ℕ → Option (ℕ × code.Signpost) → Type 0
+FindsLexedInside statement behind found = (state : State) → AreLexed statement state → FindsInside statement behind found
+
+-- where the files end with the statement nothing comes behind it
+none-come : (s : Schema) (limits : Limits) (known : Known) (point : Point) (old : Held) (statement behind more : List ℕ) (number : ℕ) (subject : Subject) (begins : ℕ) (broken : IsBrokenBy s limits known point old statement behind more number subject begins) → behind ≡ []
+    → (inside : List ℕ) × EndsInRemark statement inside → (file : List ℕ) (of : IsFileOf known file) → more ++ (broken.next_in file of).rest ≡ []
+none-come s limits known point old statement behind more number subject begins broken nothing (inside, ends) file of =
+    let next = broken.next_in file of in
+    let all : point.read.bytes ++ (next.to_pass.statement ++ next.to_pass.behind) ≡ point.read.bytes ++ statement = sym next.to_pass.next_are ∙ broken.to_end nothing inside ends file of in
+    let own : statement ++ (behind ++ (more ++ next.rest)) ≡ statement ++ [] =
+    ap (λ (l : List ℕ). statement ++ l) (sym next.behind_are)
+    ∙ (ap (λ (l : List ℕ). l ++ next.to_pass.behind) (sym next.statement_is) ∙ (append_cancel_left point.read.bytes (next.to_pass.statement ++ next.to_pass.behind) statement all ∙ sym (append-nil statement))) in
+    (no-more behind (more ++ next.rest) (append_cancel_left statement (behind ++ (more ++ next.rest)) [] own)).1
+
+pub by-inside : GoesByOnePlace → (old new : Held) (statement behind : List ℕ) (count : ℕ) (own : code.Signpost) (passage : Passage) → FindsLexedInside statement behind (Some (count, own)) → PassToGives old count own passage new → PassageGives old statement behind passage new
+by-inside one_place old new statement behind count own passage found gives = (
   reach-stays old new count own passage gives,
-  λ s limits known point more number subject begins broken.
-      let ((signpost, stands, describes), first) = found broken.state broken.lexed in
-      reach-gives one_place s limits known point old new statement behind more number subject begins broken count own signpost describes
-      (string-passes point.read.bytes statement behind count signpost broken.no_remark stands first) passage gives,
+  λ s limits known point more number subject begins broken. elim (found broken.state broken.lexed) [
+    | inl in_string ↦ (
+        let (signpost, describes, to) = string-passes point.read.bytes statement behind count own broken.state broken.lexed in_string in
+        reach-gives one_place s limits known point old new statement behind more number subject begins broken count own signpost describes whatever (λ file of. tt) to passage gives)
+    | inr (none, nothing, in_remark) ↦ (
+        let (signpost, describes, to, ends) = remark-passes point.read.bytes statement behind count own nothing none in_remark in
+        reach-gives one_place s limits known point old new statement behind more number subject begins broken count own signpost describes (λ bytes. bytes ≡ [])
+        (none-come s limits known point old statement behind more number subject begins broken nothing ends) to passage gives)
+  ],
 )
 
-none-further : (statement behind more : List ℕ) → EndsInNoRemark statement behind → FindsInString statement None → HasNoneInside statement (behind ++ more)
-none-further statement behind more no_remark none = none-in-front statement (behind ++ more) (further-behind statement behind more no_remark) none
+none-further : (statement behind more : List ℕ) → FindsInside statement behind None → HasNoneInside statement (behind ++ more)
+none-further statement behind more (none, none_open) = none-in-front statement (behind ++ more) none (λ nothing. none_open (no-more behind more nothing).0)
 
 abbrev pub IsOpenedBy : Held → List ℕ → Type 0
 IsOpenedBy held before = IsTrue held.opened ↔ IsOpened before
 
-pub by-seeker : GoesByOnePlace → (old new : Held) (statement behind : List ℕ) (last count : ℕ) (own : code.Signpost) (held : seeking.Held) (passage : Passage) → FindsLexed statement None → last < length behind
+pub by-seeker : GoesByOnePlace → (old new : Held) (statement behind : List ℕ) (last count : ℕ) (own : code.Signpost) (held : seeking.Held) (passage : Passage) → FindsLexedInside statement behind None → last < length behind
     → ((before : List ℕ) → IsOpenedBy old before → IsFound (before ++ statement) [] behind last own held) → count ≡ length statement + (last + 1) - length held.begun → PassToGives old count own passage new → PassageGives old statement behind passage new
 by-seeker one_place old new statement behind last count own held passage none low found count_is gives = (
   reach-stays old new count own passage gives,
   λ s limits known point more number subject begins broken.
       let is = found point.read.bytes broken.stood.logs.opens in
       let size_is : count ≡ length (statement ++ []) + (last + 1) - length held.begun = count_is ∙ ap (λ (l : List ℕ). length l + (last + 1) - length held.begun) (sym (append-nil statement)) in
-      reach-gives one_place s limits known point old new statement behind more number subject begins broken count own is.signpost is.describes
-      (seeker-passes point.read.bytes statement [] behind last own held low (λ further. none-further statement behind further broken.no_remark (none broken.state broken.lexed)) is count size_is) passage gives,
+      reach-gives one_place s limits known point old new statement behind more number subject begins broken count own is.signpost is.describes whatever (λ file of. tt)
+      (seeker-passes point.read.bytes statement [] behind last own held low (λ further. none-further statement behind further (none broken.state broken.lexed)) is count size_is) passage gives,
 )
 
-pub by-none : (old new : Held) (statement behind : List ℕ) (held : seeking.Held) → new ≡ old → FindsLexed statement None → ((before : List ℕ) → IsOpenedBy old before → Seeks (before ++ statement) behind held) → PassageGives old statement behind (Sought held) new
+pub by-none : (old new : Held) (statement behind : List ℕ) (held : seeking.Held) → new ≡ old → FindsLexedInside statement behind None → ((before : List ℕ) → IsOpenedBy old before → Seeks (before ++ statement) behind held) → PassageGives old statement behind (Sought held) new
 by-none old new statement behind held same none seeks = (
   same,
   λ s limits known point more number subject begins broken. (
     seeks point.read.bytes broken.stood.logs.opens,
-    λ further. none-further statement behind further broken.no_remark (none broken.state broken.lexed),
+    λ further. none-further statement behind further (none broken.state broken.lexed),
   ),
 )
 
@@ -344,7 +407,7 @@ further-found one_place old new seeker after taken last count piece own passage 
       let is = found (point.read.bytes ++ statement) behind sought.0 in
       let none = further-none statement behind piece sought.1 in
       let size_is : count ≡ length (statement ++ behind) + (last + 1) - length after.begun = count_is ∙ ap (λ (n : ℕ). n + (last + 1) - length after.begun) taken_is in (
-        reach-gives one_place s limits known point old new statement (behind ++ piece) more number subject begins broken count own is.signpost is.describes
+        reach-gives one_place s limits known point old new statement (behind ++ piece) more number subject begins broken count own is.signpost is.describes whatever (λ file of. tt)
             (seeker-passes point.read.bytes statement behind piece last own after low none is count size_is) passage gives,
         ahead-of old new count own passage (statement ++ (behind ++ piece)) (after.begun ++ drop (last + 1) piece) gives
             (seeker-ahead point.read.bytes statement behind piece last own after low none is count size_is),

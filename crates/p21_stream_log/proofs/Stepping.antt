@@ -11,6 +11,7 @@ use Rattle.p21_spec_survey.specs.Survey.{IsRead}
 use Rattle.p21_spec_survey.specs.Survey as survey
 use Rattle.p21_stream_log.specs.Log.{BeganBehind, BeginSo, Held, IsFileOf, Known, Logs, Point, StepGives, TakesToken, at_start, behind_piece}
 use Rattle.p21_stream_resume.proofs.Standing.{not-opened}
+use Rattle.p21_stream_statements.specs.Place.{StepPlaces}
 use Rattle.p21_stream_statements.specs.Reopening.{IsBetweenStatements, StepBegins}
 use Rattle.p21_stream_statements.specs.StatementReader as statements
 use Rattle.p21_stream_statements.specs.StatementReader.{IsSeenAt, limits_of, nothing_read}
@@ -127,11 +128,13 @@ module _ (s : Schema) (limits : Limits) (known : Known) (old new : Held) (point 
       }
 
 -- a step that is refused
-pub step-refused : (old : Held) (reader : statements.Held) (piece : List ℕ) (fault : Fault) → statements.StepGives old.reader piece (Err fault) reader → StepBegins old.reader (Err fault) reader → StepGives old piece (Err fault) (record old { reader = reader })
-step-refused old reader piece fault gives stays other s limits known point more logs none ahead_is at = record {
+pub step-refused : (old : Held) (reader : statements.Held) (piece : List ℕ) (fault : Fault) → statements.StepGives old.reader piece (Err fault) reader → StepPlaces old.reader piece (Err fault) reader → StepBegins old.reader (Err fault) reader
+    → StepGives old piece (Err fault) (record old { reader = reader })
+step-refused old reader piece fault gives places stays other s limits known point more logs none ahead_is at = record {
   before = old.reader;
   logs = logs;
   refuses = gives other logs.history logs.live (subst (λ (seen : Option ℕ). IsSeenAt seen piece 0) (sym logs.seen_is) at);
+  place = places logs.history logs.live (subst (λ (seen : Option ℕ). IsSeenAt seen piece 0) (sym logs.seen_is) at);
   stays = stays;
 }
 

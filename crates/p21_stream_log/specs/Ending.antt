@@ -1,14 +1,18 @@
 -- What the end of the file gives.
-use Rattle.std.specs.Prelude.{◌≡◌, ◌≢◌, ℕ, List, [], ◌++◌, None, Result, Ok, Err}
+use Rattle.std.specs.Prelude.{◌≡◌, ◌≢◌, ℕ, true, List, [], ◌++◌, length, None, Result, Ok, Err}
 use Rattle.p21_spec_basics.specs.Limits.{Limits}
 use Rattle.p21_spec_exchange.specs.Grammar.{InGrammar}
 use Rattle.p21_spec_exchange.specs.Statement.{Statement}
 use Rattle.p21_spec_exchange.specs.Structure.{Structure, statements}
 use Rattle.p21_spec_schema.specs.Schema.{Schema}
+use Rattle.p21_spec_survey.specs.Resuming.{EndsInRemark, EndsInString}
 use Rattle.p21_spec_syntax.specs.FileWithin.{IsNoFile}
-use Rattle.p21_stream_log.specs.Log.{Held, Known, Logs, Point}
+use Rattle.p21_stream_log.specs.Log.{Held, IsFileOf, Known, Logs, Point}
+use Rattle.p21_stream_resume.specs.Lexing.{AreLexed}
 use Rattle.p21_stream_statements.specs.declared.fault.Fault.{Fault}
 use Rattle.p21_stream_statements.specs.declared.fault.Fault.TheVariants.{NoMemory}
+use Rattle.p21_tokens.specs.Histories.{IsUnlaid}
+use Rattle.p21_tokens_automaton.specs.Reading.{State}
 
 -- the bytes are a file with these statements
 pub record AreFileOf (bytes : List ℕ) (given : List Statement) : Type 0 where
@@ -23,4 +27,21 @@ abbrev pub EndGives : Held → Result (Unit {0}) Fault → Type 0
 EndGives held (Ok done) =
     (s : Schema) (limits : Limits) (known : Known) (point : Point) → Logs s limits known held point → point.ended ≡ [] → point.seen ≡ None → AreFileOf (point.read.kept ++ held.buffer) point.read.given
 EndGives held (Err fault) =
-    fault ≢ NoMemory → (s : Schema) (limits : Limits) (known : Known) (point : Point) → Logs s limits known held point → point.ended ≡ [] → point.seen ≡ None → IsNoFile (point.read.kept ++ held.buffer)
+    fault ≢ NoMemory → (s : Schema) (limits : Limits) (known : Known) (point : Point) → Logs s limits known held point → point.ended ≡ [] → point.seen ≡ None
+    → IsNoFile (point.read.kept ++ held.buffer)
+
+-- No tokens are laid in these bytes of a statement, which a lexer takes: with number 2 they end in a string, and with 3 in a remark
+pub record EndsWithin (bytes : List ℕ) (number : ℕ) : Type 0 where
+  pub unlaid : IsUnlaid bytes
+  pub in_string : number ≡ 2 → EndsInString bytes
+  pub in_remark : number ≡ 3 → (inside : List ℕ) × EndsInRemark bytes inside
+  pub state : State
+  pub lexed : AreLexed bytes state
+
+-- each of the files ends behind these bytes, with what is read of it in front
+abbrev pub EndsBehind : Known → Point → List ℕ → Type 0
+EndsBehind known point bytes = (file : List ℕ) → IsFileOf known file → file ≡ point.read.bytes ++ bytes
+
+-- what is known of the files is all of them, and so many bytes
+abbrev pub IsAllOf : Known → ℕ → Type 0
+IsAllOf known size = (known.is_all ≡ true) × (length known.bytes ≡ size)

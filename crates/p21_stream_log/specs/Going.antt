@@ -38,7 +38,8 @@ behind_stretch point passed number subject begins ahead = record { read = passin
 -- reading that is stood for. Or the file may not have as many bytes, and nothing has changed
 abbrev pub GoOnGives : Held → ℕ → Bool → Held → Type 0
 GoOnGives old place true new =
-    (s : Schema) (limits : Limits) (known : Known) (point : Point) (passed ahead : List ℕ) (number : ℕ) (subject : Subject) (begins : ℕ) → StoodFor s limits known point old → place ≡ length (point.read.bytes ++ passed)
+    (s : Schema) (limits : Limits) (known : Known) (point : Point) (passed ahead : List ℕ) (number : ℕ) (subject : Subject) (begins : ℕ)
+    → StoodFor s limits known point old → place ≡ length (point.read.bytes ++ passed)
     → IsOpened (point.read.bytes ++ passed) → ((file : List ℕ) → IsFileOf known file → GoesOnBehind s limits file point.read passed ahead number subject begins)
     → Logs s limits known new (behind_stretch point passed number subject begins ahead)
 GoOnGives old place false new = (new ≡ old) × ((s : Schema) (limits : Limits) (known : Known) (point : Point) → StoodFor s limits known point old → limits.file_source < place)

@@ -18,7 +18,7 @@ use Rattle.p21_spec_survey.specs.Resuming.{HasNoneInside}
 use Rattle.p21_spec_survey.specs.Survey.{AreStatement, IsRead, IsRefusedInstance, IsRight, Reading, leaving_out, nothing_read, taking}
 use Rattle.p21_spec_survey.specs.Whole.{AreWhole}
 use Rattle.p21_stream_statements.specs.PassingOver.{AreInstances}
-use Rattle.p21_stream_statements.specs.Place.{place_behind}
+use Rattle.p21_stream_statements.specs.Place.{HasPlace, place_behind}
 use Rattle.p21_stream_statements.specs.Reopening.{IsBetweenStatements, StaysInStatement}
 use Rattle.p21_stream_statements.specs.StatementReader as statements
 use Rattle.p21_stream_statements.specs.StatementReader.{IsSeenAt, RefusesWithin, StatementHistory, limits_of}
@@ -106,11 +106,12 @@ pub record TakesToken (s : Schema) (limits : Limits) (known : Known) (point : Po
   pub logs : Logs s limits known new (behind_token point seen piece count more event)
 
 -- A step was refused at a point: before it this was held but for what the reader holds, no file begins with the kept bytes, the buffer, and
--- some of the piece, and the statement that was open is open still
+-- some of the piece, and the statement that was open is open still; if it is the fault of a byte, the reader stands in front of this
 pub record IsRefused (s : Schema) (limits : Limits) (known : Known) (point : Point) (piece : List ℕ) (fault : Fault) (new : Held) : Type 0 where
   pub before : statements.Held
   pub logs : Logs s limits known (record { reader = before; start = new.start; buffer = new.buffer; opened = new.opened }) point
   pub refuses : RefusesWithin (limits_of before) fault logs.history piece
+  pub place : HasPlace (limits_of before) logs.history.taken piece fault (place_behind new.reader)
   pub stays : StaysInStatement before new.reader
 
 -- What a step gives, at each point that was stood for, with no statement that has ended and the piece ahead
@@ -122,7 +123,8 @@ StepGives old piece (Ok (Some (count, event))) new =
     (s : Schema) (limits : Limits) (known : Known) (point : Point) (more : List ℕ) → Logs s limits known old point → point.ended ≡ [] → point.ahead ≡ piece ++ more → IsSeenAt point.seen piece 0
     → TakesToken s limits known point piece more count event new
 StepGives old piece (Err fault) new =
-    fault ≢ NoMemory → (s : Schema) (limits : Limits) (known : Known) (point : Point) (more : List ℕ) → Logs s limits known old point → point.ended ≡ [] → point.ahead ≡ piece ++ more → IsSeenAt point.seen piece 0
+    fault ≢ NoMemory → (s : Schema) (limits : Limits) (known : Known) (point : Point) (more : List ℕ) → Logs s limits known old point → point.ended ≡ []
+    → point.ahead ≡ piece ++ more → IsSeenAt point.seen piece 0
     → IsRefused s limits known point piece fault new
 
 -- ---- a statement that has ended
@@ -145,7 +147,8 @@ behind_taken point bytes statement = record { read = taking point.read bytes sta
 -- Of each point where a statement has ended with the last byte of the buffer: it is right there, and so it is taken
 abbrev pub TakeGives : Held → Held → Type 0
 TakeGives old new =
-    (s : Schema) (limits : Limits) (known : Known) (point : Point) (statement : Statement) → Logs s limits known old point → point.ended ≡ statement ∷ [] → EndsWith 59 old.buffer → IsRight s point.read.given statement
+    (s : Schema) (limits : Limits) (known : Known) (point : Point) (statement : Statement) → Logs s limits known old point → point.ended ≡ statement ∷ []
+    → EndsWith 59 old.buffer → IsRight s point.read.given statement
     → AreStatement old.buffer statement × Logs s limits known new (behind_taken point old.buffer statement)
 
 -- ---- an instance that is refused
@@ -164,7 +167,8 @@ behind_left_out point bytes n record_ number begins = record { read = leaving_ou
 -- stands in a string of it, and nothing has changed
 abbrev pub LeaveOutGives : Held → Option ℕ → Held → Type 0
 LeaveOutGives old (Some begins) new =
-    (s : Schema) (limits : Limits) (known : Known) (point : Point) (n : ℕ) (record_ : Record) (number : ℕ) → Logs s limits known old point → point.ended ≡ instance n record_ ∷ [] → EndsWith 59 old.buffer
+    (s : Schema) (limits : Limits) (known : Known) (point : Point) (n : ℕ) (record_ : Record) (number : ℕ) → Logs s limits known old point
+    → point.ended ≡ instance n record_ ∷ [] → EndsWith 59 old.buffer
     → IsRefusedInstance s point.read.given n record_ number → Logs s limits known new (behind_left_out point old.buffer n record_ number begins)
 LeaveOutGives old None new =
     (new ≡ old) × ((s : Schema) (limits : Limits) (known : Known) (point : Point) (statement : Statement) (behind : List ℕ) → Logs s limits known old point → point.ended ≡ statement ∷ [] → EndsWith 59 old.buffer
@@ -179,6 +183,7 @@ behind_passed point n record_ more = record { read = point.read; ended = instanc
 -- of each point with no statement that has ended, where the bytes of an instance are ahead: it has ended behind them
 abbrev pub PassGives : Held → List ℕ → Bool → Held → Type 0
 PassGives old bytes true new =
-    (s : Schema) (limits : Limits) (known : Known) (point : Point) (more : List ℕ) (n : ℕ) (record_ : Record) → Logs s limits known old point → point.ended ≡ [] → point.ahead ≡ bytes ++ more → AreInstances bytes ((n, record_) ∷ [])
+    (s : Schema) (limits : Limits) (known : Known) (point : Point) (more : List ℕ) (n : ℕ) (record_ : Record) → Logs s limits known old point → point.ended ≡ []
+    → point.ahead ≡ bytes ++ more → AreInstances bytes ((n, record_) ∷ [])
     → Logs s limits known new (behind_passed point n record_ more)
 PassGives old bytes false new = new ≡ old

@@ -5,6 +5,7 @@ use Rattle.p21_spec_schema.specs.Schema.{Schema}
 use Rattle.p21_spec_survey.specs.Landmark.{Landmark, landmark}
 use Rattle.p21_spec_survey.specs.Resuming.{EndsInRemark, HasNoneInside}
 use Rattle.p21_spec_survey.specs.Survey.{BeginsAt, EndsReading, IsPassedOver, IsToBePassed, Reading, Subject}
+use Rattle.p21_stream_log.specs.Ending.{EndsBehind}
 use Rattle.p21_stream_log.specs.Going.{GoOnGives, StoodFor, behind_stretch}
 use Rattle.p21_stream_log.specs.Log.{Held, IsFileOf, Known, Logs, Point}
 use Rattle.p21_stream_log.specs.declared.passage.Passage.{Passage}
@@ -12,6 +13,7 @@ use Rattle.p21_stream_log.specs.declared.passage.Passage.TheVariants.{GoesOn, At
 use Rattle.p21_stream_resume.specs.Lexing.{AreLexed}
 use Rattle.p21_stream_resume.specs.Seeking as seeking
 use Rattle.p21_stream_resume.specs.Seeking.{Seeks}
+use Rattle.p21_stream_resume.specs.Standing.{FindsInRemark, FindsInString}
 use Rattle.p21_stream_resume.specs.declared.signpost.Signpost as code
 use Rattle.p21_stream_resume.specs.declared.signpost.Signpost.TheVariants.{FileBegin, FileEnd}
 use Rattle.p21_tokens_automaton.specs.Reading.{State}
@@ -32,12 +34,12 @@ pub record IsNextIn (s : Schema) (limits : Limits) (file : List ℕ) (read : Rea
   pub begins_at : BeginsAt file read begins
 
 -- Of a point that was stood for: so it is in each file. A lexer takes the bytes of the statement, and where none are known behind it, it ends
--- in no remark
+-- in no remark, or the files end with it
 pub record IsBrokenBy (s : Schema) (limits : Limits) (known : Known) (point : Point) (held : Held) (statement behind more : List ℕ) (number : ℕ) (subject : Subject) (begins : ℕ) : Type 0 where
   pub stood : StoodFor s limits known point held
   pub state : State
   pub lexed : AreLexed statement state
-  pub no_remark : behind ≡ [] → (inside : List ℕ) → EndsInRemark statement inside → ⊥
+  pub to_end : behind ≡ [] → (inside : List ℕ) → EndsInRemark statement inside → EndsBehind known point statement
   pub next_in : (file : List ℕ) → IsFileOf known file → IsNextIn s limits file point.read statement behind more number subject begins
 
 -- so many bytes are more than a file may have, or than 64 bits can say
@@ -51,6 +53,12 @@ pub record IsPassedTooFar (s : Schema) (limits : Limits) (file : List ℕ) (read
   pub rest : List ℕ
   pub over : IsPassedOver s limits file read passed (landmark found) rest number subject
   pub too_many : IsTooMany limits (length (read.bytes ++ passed))
+
+-- The first signpost in a string of a statement is found; or else, where none are known behind it, the first one in the remark in which it
+-- ends; or none stands so
+abbrev pub FindsInside : List ℕ → List ℕ → Option (ℕ × code.Signpost) → Type 0
+FindsInside statement behind (Some found) = FindsInString statement (Some found) ⊎ (FindsInString statement None × (behind ≡ []) × FindsInRemark statement (Some found))
+FindsInside statement behind None = FindsInString statement None × (behind ≡ [] → FindsInRemark statement None)
 
 -- no signpost stands inside the statement, and a seeker has taken these bytes behind it
 abbrev pub IsSoughtBy : Point → List ℕ → List ℕ → seeking.Held → Type 0

@@ -6,9 +6,9 @@
 //! the kept bytes stand, with separators in the place of those that are passed over (`specs/Log`).
 //!
 //! Where a step is refused, `bytes_with` has the statement and what stands behind it, `opening_of` says whether it begins with ENDSEC,
-//! `broken_front` which bytes stand in front of what is refused, and `pass` passes it over, with `pass_on` for the pieces that come. So
-//! it is done too with an instance that `leave_out` leaves as it is. `log_laws` says that both are broken as `pass` wants it. A clause
-//! speaks of each file that begins with known bytes, and so of whatever pieces come: a caller that goes from piece to piece says of all
+//! `refused_at` and `broken_front` which bytes stand in front of what is refused, and `pass` passes it over, with `pass_on` for the pieces that come. So
+//! it is done too with an instance that `leave_out` leaves as it is, and where the file ends inside a statement with a refusal that
+//! `ends_within` tells. `log_laws` says that all three are broken as `pass` wants it, and where the reading ends. A clause speaks of each file that begins with known bytes, and so of whatever pieces come: a caller that goes from piece to piece says of all
 //! bytes to come that the log stands for the reading, with these ahead.
 #![tactic(auto)]
 
@@ -17,9 +17,11 @@ mod laws;
 mod log;
 mod opening;
 mod passage;
+mod within;
 
 pub use front::is_front;
 pub use laws::log_laws;
 pub use log::Log;
 pub use opening::{Opening, opening_of};
 pub use passage::Passage;
+pub use within::ends_within;

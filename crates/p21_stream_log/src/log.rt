@@ -1,14 +1,14 @@
-ghost use Rattle.std.specs.Prelude.{◌≡◌, ◌≤◌, ◌++◌, IfOk, IfSome, List, OnOk, length, ℕ};
+ghost use Rattle.std.specs.Prelude.{◌≡◌, ◌≤◌, ◌-◌, ◌++◌, IfOk, IfSome, List, OnOk, length, ℕ};
 ghost use Rattle.p21_spec_schema.specs.Schema.{Schema};
-ghost use Rattle.p21_stream_log.specs.Broken.{BeginsIn, BreaksOff, IsFrontOf};
+ghost use Rattle.p21_stream_log.specs.Broken.{BeginsIn, BreaksOff, HasSize, IsFrontOf, TellsRefused};
 ghost use Rattle.p21_stream_log.specs.Ending.{EndGives};
 ghost use Rattle.p21_stream_log.specs.Going.{GoOnGives, TellsData};
 ghost use Rattle.p21_stream_log.specs.Log.{BeginSo, BeginsBehind, Closes, Known, LeaveOutGives, Logs, PassGives, StepGives, TakeGives, at_start};
 ghost use Rattle.p21_stream_log.specs.Passage.{FurtherGives, PassToGives, PassageGives};
 ghost use Rattle.p21_stream_statements.specs.StatementReader.{TakesWithinPiece};
 
-use crate::front::front_of;
-use crate::passage::{Passage, front_size, is_file_mark, too_far};
+use crate::front::{front_of, refused_place};
+use crate::passage::{Passage, front_size, is_file_mark, signpost_inside, too_far};
 use p21_grammar::Event;
 use p21_shorter_tokens::behind_separators;
 use p21_spec_survey::{signpost_laws, whole_laws};
@@ -134,7 +134,9 @@ impl Log {
     }
 
     /// Passes over a statement by its bytes up to what is refused, and by those from there on, up to where the reading goes on: at the
-    /// first signpost in a string of the statement, else at the first one behind it. Where it doesn't go on, nothing has changed.
+    /// first signpost in a string of the statement, else at the first one behind it. Where no bytes are given from there on, the statement
+    /// ends in no remark, or the file ends with it: then a signpost in the remark counts as one in a string. Where it doesn't go on, nothing
+    /// has changed.
     ///
     /// # Errors
     ///
@@ -148,7 +150,7 @@ impl Log {
         ensures { IfOk result (λ passage. PassageGives self.old statement.now behind.now passage self.new) }
     {
         signpost_laws();
-        if let Some((count, signpost)) = signpost_in_string(statement) {
+        if let Some((count, signpost)) = signpost_inside(statement, behind) {
             return Ok(self.pass_to(count, signpost));
         }
         let mut seeker = Seeker::new(alloc, is_opened_behind(self.opened, statement));
@@ -253,8 +255,16 @@ impl Log {
         self.reader.is_in_data()
     }
 
+    /// How many bytes of the file stand in front of what a step refused with this fault: of a byte, or of a token by its first byte, and of
+    /// a string by its last one. The bytes are those of `bytes_with` the piece. It takes no memory.
+    pub fn refused_at(&self, fault: Fault, bytes: &[u8]) -> u64
+        ensures { TellsRefused self.now fault bytes.now result }
+    {
+        refused_place(fault, self.reader.places(), self.start, bytes)
+    }
+
     /// Of the bytes behind the last statement that ended, with those of the piece of which a step refused some, the ones that stand in front
-    /// of this place in the file: where a statement begins so, and bytes stand behind them. Else none.
+    /// of this place in the file: where a statement begins so, and bytes stand behind them. Else none. `refused_at` tells the place.
     ///
     /// # Errors
     ///
@@ -267,6 +277,7 @@ impl Log {
         place: u64,
     ) -> Result<&'a [u8], NoMemory>
         ensures front { IfOk result (λ front. IsFrontOf bytes.now front.now) }
+        ensures size { IfOk result (λ front. HasSize bytes.now (place - self.now.start) front.now) }
         ensures breaks_off { IfOk result (λ front. (piece : List ℕ) → bytes.now ≡ self.now.buffer ++ piece → BreaksOff self.now piece front.now) }
     {
         whole_laws();

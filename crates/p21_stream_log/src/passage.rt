@@ -1,7 +1,9 @@
 ghost use Rattle.std.specs.Prelude.{◌↔◌, IsTrue};
-ghost use Rattle.p21_stream_log.specs.Passage.{IsFrontSize, IsMark, IsTooFarAt};
+ghost use Rattle.p21_stream_log.specs.Passage.{FindsInside, IsFrontSize, IsMark, IsTooFarAt};
+ghost use Rattle.p21_stream_resume.specs.Lexing.{AreLexed};
+ghost use Rattle.p21_tokens_automaton.specs.Reading.{State};
 
-use p21_stream_resume::{Seeker, Signpost};
+use p21_stream_resume::{Seeker, Signpost, signpost_in_remark, signpost_in_string};
 
 /// How a statement is passed over by bytes that are in hand.
 #[derive(Drop)]
@@ -14,6 +16,21 @@ pub enum Passage {
     TooLong,
     /// No signpost is whole in them. The seeker has taken those from the refused byte on.
     Sought(Seeker),
+}
+
+/// The first signpost in a string of a statement. Where none are known behind it also the first one in the remark in which it ends: no
+/// string stands behind that.
+pub(crate) fn signpost_inside(statement: &[u8], behind: &[u8]) -> Option<(usize, Signpost)>
+    ensures { (state : State) → AreLexed statement.now state → FindsInside statement.now behind.now result }
+{
+    if let Some(found) = signpost_in_string(statement) {
+        return Some(found);
+    }
+    if behind.is_empty() {
+        signpost_in_remark(statement)
+    } else {
+        None
+    }
 }
 
 /// Whether a file begins or ends with a signpost.

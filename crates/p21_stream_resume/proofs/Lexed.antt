@@ -6,7 +6,7 @@ use Rattle.std.specs.Prelude.{codes}
 use Rattle.std.specs.Str.{bytes_eq}
 use Rattle.p21_scan.specs.Hex.{hex_value, is_hex_digit}
 use Rattle.p21_spec_exchange.proofs.OneGap.{gap-one}
-use Rattle.p21_spec_exchange.specs.Laying.{Lexeme}
+use Rattle.p21_spec_exchange.specs.Laying.{LaidAs, Lexeme}
 use Rattle.p21_spec_exchange.specs.Pending.{BeginsWithNoSeparator, IsTail, IsUnfinished, LaidUpTo, Tail, nothing, open_comment, slash, tail_bytes, unfinished}
 use Rattle.p21_spec_exchange.specs.Separator.{IsSeparatorText}
 use Rattle.p21_spec_exchange.specs.Text.{SpellsText}
@@ -16,7 +16,7 @@ use Rattle.p21_stream_resume.specs.Lexing.{AreLexed, IsInString, LeadsTo, marker
 use Rattle.p21_tokens_automaton.proofs.Fits.{ModeFits, StepFits}
 use Rattle.p21_tokens_automaton.proofs.Gaps.{gap, gap-run}
 use Rattle.p21_tokens_automaton.proofs.OnePending.{begins-no_separator}
-use Rattle.p21_tokens_automaton.proofs.Prefixes.{spelling-some}
+use Rattle.p21_tokens_automaton.proofs.Prefixes.{ended_token-laid, spelling-some}
 use Rattle.p21_tokens_automaton.proofs.Sound.{FirstFits, LaidTo, TailIs, UpTo}
 use Rattle.p21_tokens_automaton.proofs.Steps.{lex-byte, lex-close, lex-dash, lex-end, lex-give, lex-keep, lex-nil, lex-pass, lex-put, lex-skip}
 use Rattle.p21_tokens_automaton.proofs.TextFits.{TextFits}
@@ -357,26 +357,30 @@ in-string bytes e lexed is = by up.0 up.1 up.2
 
 -- ---- and the other way round
 
--- no bytes end in a string
-none-laid : (ls : List Lexeme) (inside : List ℕ) → LaidUpTo [] ls (unfinished (39 ∷ inside)) → ⊥
-none-laid [] inside (gap_, is, separates, tail) = let size = ap length is in let sum = length-append gap_ (39 ∷ inside) in omega (arith, size, sum)
-none-laid (l ∷ ls) inside (gap_, spelling, rest, is, separates, spells, size_is, followed, laid) =
-    let some = spelling-some l.token spelling spells in
+-- no bytes end in a tail that has some
+pub none-laid : (ls : List Lexeme) (tail : Tail) → tail_bytes tail ≢ [] → LaidUpTo [] ls tail → ⊥
+none-laid [] tail some (gap_, is, separates, own) = some (no-bytes gap_ (tail_bytes tail) is)
+  where
+    no-bytes : (xs ys : List ℕ) → [] ≡ xs ++ ys → ys ≡ []
+    no-bytes [] ys same = sym same
+    no-bytes (x ∷ xs) ys same = cc
+none-laid (l ∷ ls) tail some (gap_, spelling, rest, is, separates, spells, size_is, followed, laid) =
+    let spelt = spelling-some l.token spelling spells in
     let size = ap length is in
     let sum = length-append gap_ (spelling ++ rest) in
     let own = length-append spelling rest in
-    omega (arith, some, size, sum, own)
+    omega (arith, spelt, size, sum, own)
 
-unfinished-of : (ls : List Lexeme) (bytes inside : List ℕ) → LaidUpTo bytes ls (unfinished (39 ∷ inside)) → IsUnfinished (39 ∷ inside)
-unfinished-of [] bytes inside (gap_, is, separates, tail) = tail
-unfinished-of (l ∷ ls) bytes inside (gap_, spelling, rest, is, separates, spells, size, followed, laid) = unfinished-of ls rest inside laid
+pub tail-of : (ls : List Lexeme) (bytes : List ℕ) (tail : Tail) → LaidUpTo bytes ls tail → IsTail tail
+tail-of [] bytes tail (gap_, is, separates, own) = own
+tail-of (l ∷ ls) bytes tail (gap_, spelling, rest, is, separates, spells, size, followed, laid) = tail-of ls rest tail laid
 
--- the lexer takes what stands in front of an open string, and stands between tokens
-laid-run : (ls : List Lexeme) (bytes inside : List ℕ) → LaidUpTo bytes ls (unfinished (39 ∷ inside)) → (founds : List SizedToken) × (lex start bytes ≡ after founds (lex start (39 ∷ inside)))
-laid-run [] bytes inside (gap_, is, separates, tail) = ([], ap (λ (l : List ℕ). lex start l) is ∙ gap-run gap_ separates (39 ∷ inside))
-laid-run (l ∷ ls) bytes inside (gap_, spelling, [], is, separates, spells, size, followed, laid) = absurd (none-laid ls inside laid)
-laid-run (l ∷ ls) bytes inside (gap_, spelling, (b ∷ rest), is, separates, spells, size, followed, laid) =
-    let (founds, more) = laid-run ls (b ∷ rest) inside laid in
+-- the lexer takes what stands in front of a tail, and stands between tokens
+pub laid-run : (ls : List Lexeme) (bytes : List ℕ) (tail : Tail) → tail_bytes tail ≢ [] → LaidUpTo bytes ls tail → (founds : List SizedToken) × (lex start bytes ≡ after founds (lex start (tail_bytes tail)))
+laid-run [] bytes tail some (gap_, is, separates, own) = ([], ap (λ (l : List ℕ). lex start l) is ∙ gap-run gap_ separates (tail_bytes tail))
+laid-run (l ∷ ls) bytes tail some (gap_, spelling, [], is, separates, spells, size, followed, laid) = absurd (none-laid ls tail some laid)
+laid-run (l ∷ ls) bytes tail some (gap_, spelling, (b ∷ rest), is, separates, spells, size, followed, laid) =
+    let (founds, more) = laid-run ls (b ∷ rest) tail some laid in
     let here : lex start bytes ≡ lex start (spelling ++ (b ∷ rest)) = ap (λ (x : List ℕ). lex start x) is ∙ gap-run gap_ separates (spelling ++ (b ∷ rest)) in
     elim (readings l.token spelling spells) [
       | inl w ↦ (
@@ -422,10 +426,10 @@ string-in bytes e leads (ls, inside, laid, none) = by (stays-open inside (skip s
     first more = lex-skip start (Text text_mode.Inside) 39 more refl
 
     unwhole : IsUnfinished (39 ∷ inside)
-    unwhole = unfinished-of ls bytes inside laid
+    unwhole = tail-of ls bytes (unfinished (39 ∷ inside)) laid
 
     own : LeadsTo (skip start (Text text_mode.Inside)) inside e
-    own = let (founds, run) = laid-run ls bytes inside laid in sym (ap (λ (a : Answer). a.ending) (run ∙ ap (λ (a : Answer). after founds a) (first inside))) ∙ leads
+    own = let (founds, run) = laid-run ls bytes (unfinished (39 ∷ inside)) (λ none_. cc) laid in sym (ap (λ (a : Answer). a.ending) (run ∙ ap (λ (a : Answer). after founds a) (first inside))) ∙ leads
 
     by : StaysOpen (skip start (Text text_mode.Inside)) inside e → IsInString e.mode
     by (stays m is run) = elim (is-apostrophe m) [
@@ -434,6 +438,18 @@ string-in bytes e leads (ls, inside, laid, none) = by (stays-open inside (skip s
     ]
     by (ends p q b f are run is other) =
         absurd (unwhole.not_whole (text f.characters) (39 ∷ p) (b ∷ q) (ap (λ (l : List ℕ). 39 ∷ l) are) (spelled p f (first p ∙ run) is) other)
+
+-- where it stands in a string and the bytes may not end, they end in it
+pub text-in : (bytes : List ℕ) (e : State) (m : TextMode) (lexed : AreLexed bytes e) → e.mode ≡ Text m → ((ls : List Lexeme) → LaidAs bytes ls → ⊥) → EndsInString bytes
+text-in bytes e m lexed is unlaid = elim (is-apostrophe m) [
+  | inl last ↦ (
+      let mode_is : e.mode ≡ Text text_mode.Apostrophe = is ∙ ap Text last in
+      let found : FoundToken = known (text e.characters) in
+      let ended : ended_token e ≡ Some found = ap (λ (x : Mode). ended_token (record e { mode = x })) mode_is in
+      let whole : Lexeme = record { token = text e.characters; size = e.size } in
+      absurd (unlaid (lexed.lexemes ++ whole ∷ []) (ended_token-laid bytes lexed.lexemes e found whole (lexed-laid bytes e lexed) ended refl refl)))
+  | inr in_string ↦ in-string bytes e lexed (subst IsInString (sym is) in_string)
+]
 
 -- ---- the mode of the lexer, byte by byte
 

@@ -10,3 +10,4 @@ pub mod Digits
 pub mod Lexed
 pub mod Standing
 pub mod Statements
+pub mod OpenRemarks

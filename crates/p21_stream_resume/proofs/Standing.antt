@@ -160,7 +160,7 @@ pub not-opened : IsOpened [] → ⊥
 not-opened is = let size = ap length is.before_are in let sum = length-append is.front (is.opener ∷ is.blanks) in omega (arith, size, sum)
 
 -- a signpost has bytes
-signpost-some : (signpost : Signpost) → 0 < length (signpost_bytes signpost)
+pub signpost-some : (signpost : Signpost) → 0 < length (signpost_bytes signpost)
 signpost-some (landmark (instance digits blanks)) = omega arith
 signpost-some (landmark (section_end blanks)) = omega arith
 signpost-some file_begin = omega arith
@@ -168,31 +168,36 @@ signpost-some file_end = omega arith
 
 -- ---- in a string
 
--- the lexer stands in this mode behind so many bytes of the statement, the last of which is this one; and no signpost stands in a string in
--- front
-pub record IsAlong (statement : List ℕ) (count : ℕ) (m : lexer.Mode) (last : ℕ) : Type 0 where
+-- the lexer stands in this mode behind so many bytes of the statement, the last of which is this one
+pub record StandsBehind (statement : List ℕ) (count : ℕ) (m : lexer.Mode) (last : ℕ) : Type 0 where
   pub state : State
   pub lexed : AreLexed (take count statement) state
   pub mode_is : m ≡ state.mode
   pub last_is : (ys : List ℕ) (z : ℕ) → take count statement ≡ ys ++ z ∷ [] → last ≡ z
+
+-- and no signpost stands in a string in front
+pub record IsAlong (statement : List ℕ) (count : ℕ) (m : lexer.Mode) (last : ℕ) : Type 0 where
+  pub lexing : StandsBehind statement count m last
   pub none : (place : ℕ) (signpost : Signpost) → StandsInString statement place signpost → count ≤ place
 
 no-last : (ys : List ℕ) (z : ℕ) → [] ≡ ys ++ z ∷ [] → ⊥
 no-last ys z same = let size = ap length same in let sum = length-append ys (z ∷ []) in omega (arith, size, sum)
 
-pub along-first : (statement : List ℕ) → IsAlong statement 0 lexing.start.mode 0
-along-first statement = record {
+pub behind-first : (statement : List ℕ) → StandsBehind statement 0 lexing.start.mode 0
+behind-first statement = record {
   state = lexing.start;
   lexed = record { leads = ap (λ (a : Answer). a.ending) (lex-nil lexing.start); lexemes = []; mean = subst (λ (a : Answer). MeanAll a.given []) (sym (lex-nil lexing.start)) tt };
   mode_is = refl;
   last_is = λ ys z same. absurd (no-last ys z same);
-  none = λ place signpost stands. omega arith;
 }
+
+pub along-first : (statement : List ℕ) → IsAlong statement 0 lexing.start.mode 0
+along-first statement = record { lexing = behind-first statement; none = λ place signpost stands. omega arith }
 
 -- what stands there in a string is the first
 pub along-found : (statement : List ℕ) (count : ℕ) (m : lexer.Mode) (last : ℕ) (own : code.Signpost) → count ≤ length statement → IsAlong statement count m last → IsInString m → FindsThere (take count statement) (drop count statement) (Some own) → FindsInString statement (Some (count, own))
 along-found statement count m last own within along in_string (signpost, stands, describes) = (
-  (signpost, record { within = within; in_string = in-string (take count statement) along.state along.lexed (subst IsInString along.mode_is in_string); stands = stands }, describes),
+  (signpost, record { within = within; in_string = in-string (take count statement) along.lexing.state along.lexing.lexed (subst IsInString along.lexing.mode_is in_string); stands = stands }, describes),
   along.none,
 )
 
@@ -201,21 +206,25 @@ front-of statement count e lexed =
     let (front, own) = front-lexed (take count statement) (drop count statement) e (subst (λ (l : List ℕ). AreLexed l e) (sym (take-append-drop count statement)) lexed) in
     (front.between, own)
 
--- where none stands there in a string, the next byte
-pub along-on : (statement : List ℕ) (e : State) → AreLexed statement e → (count : ℕ) (m : lexer.Mode) (last : ℕ) → count < length statement → IsAlong statement count m last → (IsInString m → FindsThere (take count statement) (drop count statement) None)
-    → IsAlong statement (count + 1) (mode_on m last (get_or statement count 0)) (get_or statement count 0)
-along-on statement e lexed count m last low along none =
+-- behind the next byte
+pub behind-on : (statement : List ℕ) (e : State) → AreLexed statement e → (count : ℕ) (m : lexer.Mode) (last : ℕ) → count < length statement → StandsBehind statement count m last
+    → StandsBehind statement (count + 1) (mode_on m last (get_or statement count 0)) (get_or statement count 0)
+behind-on statement e lexed count m last low behind =
     let b : ℕ = get_or statement count 0 in
     let more : take (count + 1) statement ≡ take count statement ++ b ∷ [] = take_more statement count 0 low in
     let (f, own) = front-of statement (count + 1) e lexed in
-    let mode_is : f.mode ≡ mode_on along.state.mode last b = mode-on (take count statement) b last along.state f along.lexed (subst (λ (l : List ℕ). LeadsTo lexing.start l f) more own.leads) along.last_is in
+    let mode_is : f.mode ≡ mode_on behind.state.mode last b = mode-on (take count statement) b last behind.state f behind.lexed (subst (λ (l : List ℕ). LeadsTo lexing.start l f) more own.leads) behind.last_is in
     record {
       state = f;
       lexed = own;
-      mode_is = ap (λ (x : lexer.Mode). mode_on x last b) along.mode_is ∙ sym mode_is;
+      mode_is = ap (λ (x : lexer.Mode). mode_on x last b) behind.mode_is ∙ sym mode_is;
       last_is = λ ys z same. (same_from_push (take count statement) ys b z (sym more ∙ same)).1;
-      none = λ place signpost stands. further place signpost stands;
     }
+
+-- where none stands there in a string, the next byte
+pub along-on : (statement : List ℕ) (e : State) → AreLexed statement e → (count : ℕ) (m : lexer.Mode) (last : ℕ) → count < length statement → IsAlong statement count m last → (IsInString m → FindsThere (take count statement) (drop count statement) None)
+    → IsAlong statement (count + 1) (mode_on m last (get_or statement count 0)) (get_or statement count 0)
+along-on statement e lexed count m last low along none = record { lexing = behind-on statement e lexed count m last low along.lexing; none = λ place signpost stands. further place signpost stands }
   where
     further : (place : ℕ) (signpost : Signpost) → StandsInString statement place signpost → count + 1 ≤ place
     further place signpost stands = elim (cases_lt count place) [
@@ -224,7 +233,7 @@ along-on statement e lexed count m last low along none =
           let no_earlier = along.none place signpost stands in
           let equal : place ≡ count = omega (arith, no_earlier, near) in
           let there : StandsInString statement count signpost = subst (λ (n : ℕ). StandsInString statement n signpost) equal stands in
-          absurd (none (subst IsInString (sym along.mode_is) (string-in (take count statement) along.state along.lexed.leads there.in_string)) signpost there.stands))
+          absurd (none (subst IsInString (sym along.lexing.mode_is) (string-in (take count statement) along.lexing.state along.lexing.lexed.leads there.in_string)) signpost there.stands))
     ]
 
 -- all of it

@@ -12,7 +12,7 @@ use Rattle.p21_spec_exchange.specs.Token.{IsFollowed, IsWholeAtOnce, Token, semi
 use Rattle.p21_spec_survey.specs.Landmark.{StandsAt, signpost_bytes}
 use Rattle.p21_spec_survey.specs.Resuming.{EndsInRemark, EndsInString, HasNoneInside}
 use Rattle.p21_spec_survey.specs.Whole.{AreWhole}
-use Rattle.p21_stream_resume.proofs.Lexed.{mean-front}
+use Rattle.p21_stream_resume.proofs.Lexed.{mean-front, none-laid}
 use Rattle.p21_stream_resume.specs.Lexing.{AreLexed}
 use Rattle.p21_stream_resume.specs.Standing.{FindsInString}
 use Rattle.p21_tokens_automaton.proofs.Complete.{all_tokens-after}
@@ -71,22 +71,12 @@ separators-joined front other (us, are, is) (vs, are_, is_) = (
   ap (λ (x : List ℕ). x ++ other) is ∙ (ap (λ (x : List ℕ). flat_map separator_bytes us ++ x) is_ ∙ sym (flat_map-append separator_bytes us vs)),
 )
 
--- no bytes end in one
-none-laid : (ls : List Lexeme) (inside : List ℕ) → LaidUpTo [] ls (open_comment inside) → ⊥
-none-laid [] inside (gap_, is, separates, tail) = let size = ap length is in let sum = length-append gap_ (47 ∷ 42 ∷ inside) in omega (arith, size, sum)
-none-laid (l ∷ ls) inside (gap_, spelling, rest, is, separates, spells, size_is, followed, laid) =
-    let some = spelling-some l.token spelling spells in
-    let size = ap length is in
-    let sum = length-append gap_ (spelling ++ rest) in
-    let own = length-append spelling rest in
-    omega (arith, some, size, sum, own)
-
-followed-on : (token : Token) (spelling rest more : List ℕ) (ls : List Lexeme) (inside : List ℕ) → LaidUpTo rest ls (open_comment inside) → IsFollowed token spelling rest → IsFollowed token spelling (rest ++ more)
-followed-on token spelling [] more ls inside laid followed = absurd (none-laid ls inside laid)
+pub followed-on : (token : Token) (spelling rest more : List ℕ) (ls : List Lexeme) (inside : List ℕ) → LaidUpTo rest ls (open_comment inside) → IsFollowed token spelling rest → IsFollowed token spelling (rest ++ more)
+followed-on token spelling [] more ls inside laid followed = absurd (none-laid ls (open_comment inside) (λ none. cc) laid)
 followed-on token spelling (b ∷ rest) more ls inside laid followed = followed
 
 -- with what ends it the bytes are laid as the same tokens
-closed : (ls : List Lexeme) (bytes inside : List ℕ) → LaidUpTo bytes ls (open_comment inside) → LaidAs (bytes ++ ending) ls
+pub closed : (ls : List Lexeme) (bytes inside : List ℕ) → LaidUpTo bytes ls (open_comment inside) → LaidAs (bytes ++ ending) ls
 closed [] bytes inside (gap_, is, separates, tail) =
     let own : IsSeparatorText (separator_bytes (comment inside)) = (comment inside ∷ [], (comment-text inside tail, tt), sym (append-nil (separator_bytes (comment inside)))) in
     let same : gap_ ++ separator_bytes (comment inside) ≡ bytes ++ ending = sym (append_assoc gap_ (47 ∷ 42 ∷ inside) ending) ∙ ap (λ (l : List ℕ). l ++ ending) (sym is) in

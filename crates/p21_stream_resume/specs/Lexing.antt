@@ -9,7 +9,7 @@ use Rattle.p21_tokens_automaton.specs.declared.mode.Action.TheVariants.{Pass, Sk
 use Rattle.p21_tokens_automaton.specs.declared.mode.Marker.{Marker}
 use Rattle.p21_tokens_automaton.specs.declared.mode.Marker.TheVariants.{Begin, Finish}
 use Rattle.p21_tokens_automaton.specs.declared.mode.Mode.{Mode}
-use Rattle.p21_tokens_automaton.specs.declared.mode.Mode.TheVariants.{Between, Text, Word}
+use Rattle.p21_tokens_automaton.specs.declared.mode.Mode.TheVariants.{Between, Comment, Star, Text, Word}
 use Rattle.p21_tokens_automaton.specs.declared.mode.TextMode.TheVariants as text_mode
 use Rattle.p21_tokens_automaton.specs.declared.mode.WordMode.TheVariants as word_mode
 
@@ -28,6 +28,12 @@ abbrev pub IsInString : Mode → Type 0
 IsInString (Text text_mode.Apostrophe) = ⊥
 IsInString (Text mode) = Unit {0}
 IsInString other = ⊥
+
+-- a remark is open
+abbrev pub IsInRemark : Mode → Type 0
+IsInRemark Comment = Unit {0}
+IsInRemark Star = Unit {0}
+IsInRemark other = ⊥
 
 -- where a byte between tokens leads, by what it does
 abbrev pub mode_first : Action → Mode

@@ -39,7 +39,7 @@ fn signpost_in(mode: Mode, statement: &[u8], place: usize) -> Option<Signpost>
 }
 
 /// The signpost that stands behind so many bytes.
-fn signpost_at(bytes: &[u8], place: usize) -> Option<Signpost>
+pub(crate) fn signpost_at(bytes: &[u8], place: usize) -> Option<Signpost>
     requires { place ≤ length bytes.now }
     ensures { FindsThere (take place bytes.now) (drop place bytes.now) result }
 {
@@ -68,7 +68,7 @@ fn is_in_string(mode: Mode) -> bool
 }
 
 /// Where a byte leads from a mode, by the byte in front of it.
-fn behind(mode: Mode, last: u8, byte: u8) -> Mode
+pub(crate) fn behind(mode: Mode, last: u8, byte: u8) -> Mode
     ensures { result ≡ mode_on mode last byte }
 {
     match advance(mode, byte) {

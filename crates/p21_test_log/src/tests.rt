@@ -2,7 +2,7 @@
 ghost use Rattle.std.specs.Prelude.{◌<◌};
 
 use p21_grammar::Event;
-use p21_stream_log::{Log, Opening, Passage, is_front, opening_of};
+use p21_stream_log::{Log, Opening, Passage, ends_within, is_front, opening_of};
 use p21_stream_resume::Seeker;
 use p21_values::{Limits, Name, NoMemory};
 use std::alloc::Global;
@@ -489,4 +489,103 @@ fn first_other_end(alloc: Global) -> &'static str {
 #[test]
 fn tells_the_end_of_a_file(rt: HostRuntime) {
     assert_eq!(rt; first_other_end(rt.alloc()), "none");
+}
+
+/// What stands behind the header up to the end of the file; the number of its refusal; and how many bytes stand in front of the first
+/// signpost by which the reading goes on.
+const ENDS_WITHIN: &[(&str, u8, Option<usize>)] = &[
+    ("#1=A('x;\n#2=B();", 2, Some(9)),
+    ("#1=A('x", 2, None),
+    ("#1=A('x'", 24, None),
+    ("#1=A(/*\n#2=B();", 3, Some(8)),
+    ("#1=A('\n#2=', /*\n#3=B();", 3, Some(7)),
+    ("/* #2=B();", 3, None),
+    ("#1=A(/*\n#2=B();*/", 24, None),
+    ("#1=A('\n#2=',1.E99999999999999999999", 8, Some(7)),
+    ("#1", 24, None),
+];
+
+/// The refusal of the end of a file, and where its reading goes on.
+fn end_within(alloc: Global, text: &str) -> Result<(u8, Option<usize>), NoMemory> {
+    let mut log = Log::new(alloc, Limits::usual());
+    let mut answer = None;
+    if !read(&mut log, HEAD.as_bytes(), Name(0), &mut answer)
+        || !read(&mut log, text.as_bytes(), Name(0), &mut answer)
+    {
+        return Ok((0, None));
+    }
+    let bytes = log.bytes_with(alloc, &[])?;
+    let fault = ends_within(alloc, Limits::usual(), &bytes)?;
+    match log.pass(alloc, &bytes, &[])? {
+        Passage::GoesOn(count) => Ok((fault.number(), Some(count))),
+        _ => Ok((fault.number(), None)),
+    }
+}
+
+/// The first text of which something else is said, or memory was refused.
+fn first_other_within(alloc: Global) -> Result<&'static str, NoMemory> {
+    for (text, number, place) in ENDS_WITHIN {
+        if end_within(alloc, text)? != (*number, *place) {
+            return Ok(text);
+        }
+    }
+    Ok("none")
+}
+
+#[test]
+fn tells_where_a_file_ends(rt: HostRuntime) {
+    assert_eq!(rt; first_other_within(rt.alloc()), Ok("none"));
+}
+
+/// Instances that are refused behind the header, and how many of their bytes stand in front of what is refused.
+const REFUSED: &[(&str, usize)] = &[
+    ("#1=A(nan);", 5),
+    ("#1=A(1 /* #2= */ $);", 17),
+    ("#1=A() 'x;y' ;", 11),
+    ("#1=A('\\q');", 7),
+    ("#1=A()B();", 6),
+    ("#1=A(1 'it''s');", 13),
+];
+
+/// Where the first step that is refused stands behind the header, in pieces of a size: none where none is refused.
+fn place_of_refused(alloc: Global, text: &str, size: usize) -> Result<Option<u64>, NoMemory>
+    requires { 0 < size }
+{
+    let mut log = Log::new(alloc, Limits::usual());
+    let mut answer = None;
+    if !read(&mut log, HEAD.as_bytes(), Name(0), &mut answer) {
+        return Ok(None);
+    }
+    for piece in text.as_bytes().chunks(size) {
+        let mut rest = piece;
+        for _ in 0..=piece.len().saturating_mul(2) {
+            match log.step(rest) {
+                Ok(None) => break,
+                Ok(Some((count, _))) => rest = &rest[count..],
+                Err(fault) => {
+                    let bytes = log.bytes_with(alloc, rest)?;
+                    return Ok(Some(log.refused_at(fault, &bytes)));
+                }
+            }
+        }
+    }
+    Ok(None)
+}
+
+/// The first text of which another place is told, in pieces of some size, or memory was refused.
+fn first_other_place(alloc: Global) -> Result<&'static str, NoMemory> {
+    for (text, place) in REFUSED {
+        let wanted = HEAD.len().saturating_add(*place) as u64;
+        for size in 1..=text.len() {
+            if place_of_refused(alloc, text, size)? != Some(wanted) {
+                return Ok(text);
+            }
+        }
+    }
+    Ok("none")
+}
+
+#[test]
+fn tells_where_a_refusal_stands(rt: HostRuntime) {
+    assert_eq!(rt; first_other_place(rt.alloc()), Ok("none"));
 }

@@ -1,7 +1,9 @@
 //! The first signpost in bytes, however they are cut into pieces.
 ghost use Rattle.std.specs.Prelude.{◌<◌};
 
-use p21_stream_resume::{Numeral, Seeker, Signpost, is_opened_behind, signpost_in_string};
+use p21_stream_resume::{
+    Numeral, Seeker, Signpost, is_opened_behind, signpost_in_remark, signpost_in_string,
+};
 use std::alloc::Global;
 
 /// The first signpost in bytes that come in pieces of this size, and how many stand in front of its last byte. None where the bytes that are
@@ -428,6 +430,34 @@ fn finds_signposts_in_strings(rt: HostRuntime) {
     let mut wrong = None;
     for (row, (statement, place)) in IN_STRINGS.iter().enumerate() {
         let found = match signpost_in_string(statement.as_bytes()) {
+            Some((found, _)) => Some(found),
+            None => None,
+        };
+        if found != *place {
+            wrong = Some(row);
+        }
+    }
+    assert_eq!(rt; wrong, None);
+}
+
+/// Statements, and how many bytes of each stand in front of the first signpost in the remark in which it ends.
+const IN_REMARKS: &[(&str, Option<usize>)] = &[
+    ("#1=A(/*\n#2=B();\n#3=C();", Some(8)),
+    ("#1=A(/*\n#2=B();*/\n", None),
+    ("#1=A(/*\n#2=B();*/ /* x; #3=C();", Some(24)),
+    ("#1=A('/*;#2=B();", None),
+    ("#1=A(/* #2=B()", None),
+    ("/*;#2", None),
+    ("/**;ENDSEC ;*", Some(4)),
+    ("#1=A(/*)ISO-10303-21", Some(8)),
+    ("/*", None),
+];
+
+#[test]
+fn finds_signposts_in_remarks(rt: HostRuntime) {
+    let mut wrong = None;
+    for (row, (statement, place)) in IN_REMARKS.iter().enumerate() {
+        let found = match signpost_in_remark(statement.as_bytes()) {
             Some((found, _)) => Some(found),
             None => None,
         };

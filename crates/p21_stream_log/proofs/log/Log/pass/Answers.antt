@@ -1,7 +1,6 @@
 use Rattle.std.proofs.Common.{◌≡◌, ◌↔◌, ◌+◌, ◌-◌, ◌<◌, IfSome, ℕ, Bool, IsTrue, List, [], ◌++◌, length, Option, Some, None, refl, sym, ap, subst, arith}
 use Rattle.p21_spec_survey.specs.Landmark.{IsOpened}
-use Rattle.p21_stream_log.proofs.LeavingOut.{FindsLexed}
-use Rattle.p21_stream_log.proofs.Passages.{IsOpenedBy, by-none, by-seeker, by-string}
+use Rattle.p21_stream_log.proofs.Passages.{FindsLexedInside, IsOpenedBy, by-inside, by-none, by-seeker}
 use Rattle.p21_stream_log.specs.Log.{Held}
 use Rattle.p21_stream_resume.specs.Seeking.{Seeks, SeeksOn}
 use Rattle.p21_stream_resume.specs.declared.signpost.Signpost.{Signpost}
@@ -9,8 +8,8 @@ use Rattle.p21_stream_log.proofs.log.Log.pass.Goals as goal
 
 pub returns-in-Some : goal.returns-in-Some
 returns-in-Some c =
-    by-string c.signpost_laws.ensures.goes_by c.args.self.now c.pass_to.new.self c.args.statement.now c.args.behind.now c.in-Some.count c.in-Some.signpost c.pass_to.result
-    (subst (λ (found : Option (ℕ × Signpost)). FindsLexed c.args.statement.now found) c.in-Some.is c.signpost_in_string.ensures) c.pass_to.ensures
+    by-inside c.signpost_laws.ensures.goes_by c.args.self.now c.pass_to.new.self c.args.statement.now c.args.behind.now c.in-Some.count c.in-Some.signpost c.pass_to.result
+    (subst (λ (found : Option (ℕ × Signpost)). FindsLexedInside c.args.statement.now c.args.behind.now found) c.in-Some.is c.signpost_inside.ensures) c.pass_to.ensures
 
 pub returns-in-Ok-Some : goal.returns-in-Ok-Some
 returns-in-Ok-Some c =
@@ -24,7 +23,7 @@ returns-in-Ok-Some c =
     let begun_is : length c.signpost_bytes-size.result.now ≡ length c.seek.new.self.begun = ap length c.signpost_bytes-size.ensures in
     let count_is : c.saturating_sub-count.result ≡ length c.args.statement.now + (c.in-Ok-Some.last + 1) - length c.seek.new.self.begun = omega (arith, c.saturating_sub-count.ensures, begun_is) in
     by-seeker c.signpost_laws.ensures.goes_by c.args.self.now c.pass_to-in-Ok-Some.new.self c.args.statement.now c.args.behind.now c.in-Ok-Some.last c.saturating_sub-count.result c.in-Ok-Some.signpost c.seek.new.self c.pass_to-in-Ok-Some.result
-    (subst (λ (found : Option (ℕ × Signpost)). FindsLexed c.args.statement.now found) c.in_default.is c.signpost_in_string.ensures) low (λ before opens. gives (before ++ c.args.statement.now) [] (seeks before opens)) count_is
+    (subst (λ (found : Option (ℕ × Signpost)). FindsLexedInside c.args.statement.now c.args.behind.now found) c.in_default.is c.signpost_inside.ensures) low (λ before opens. gives (before ++ c.args.statement.now) [] (seeks before opens)) count_is
     c.pass_to-in-Ok-Some.ensures
 
 pub returns-in-Ok-None : goal.returns-in-Ok-None
@@ -35,4 +34,4 @@ returns-in-Ok-None c =
     let gives : SeeksOn c.new-seeker.result c.args.behind.now None c.seek.new.self =
     subst (λ (found : Option (ℕ × Signpost)). SeeksOn c.new-seeker.result c.args.behind.now found c.seek.new.self) c.in-Ok-None.field-0-is c.in-Ok-None.ensures.gives in
     by-none c.args.self.now c.args.self.now c.args.statement.now c.args.behind.now c.seek.new.self refl
-    (subst (λ (found : Option (ℕ × Signpost)). FindsLexed c.args.statement.now found) c.in_default.is c.signpost_in_string.ensures) (λ before opens. (gives (before ++ c.args.statement.now) [] (seeks before opens)).0)
+    (subst (λ (found : Option (ℕ × Signpost)). FindsLexedInside c.args.statement.now c.args.behind.now found) c.in_default.is c.signpost_inside.ensures) (λ before opens. (gives (before ++ c.args.statement.now) [] (seeks before opens)).0)

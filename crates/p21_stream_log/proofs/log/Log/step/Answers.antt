@@ -10,7 +10,7 @@ pub returns-in-Err-clause-gives : goal.returns-in-Err-clause-gives
 returns-in-Err-clause-gives c =
     let old : Held = record { reader = c.self.inside.reader; start = c.self.inside.start; buffer = c.self.inside.buffer.items; opened = c.self.inside.opened } in
     subst (λ (h : Held). StepGives h c.args.piece.now (Err c.in-Err.fault) (record old { reader = c.step.new.self })) c.self.view_is
-    (step-refused old c.step.new.self c.args.piece.now c.in-Err.fault c.in-Err.ensures.gives c.in-Err.ensures.begins)
+    (step-refused old c.step.new.self c.args.piece.now c.in-Err.fault c.in-Err.ensures.gives c.in-Err.ensures.place c.in-Err.ensures.begins)
 
 pub returns-in-Ok-keep-clause-gives : goal.returns-in-Ok-keep-clause-gives
 returns-in-Ok-keep-clause-gives c =
