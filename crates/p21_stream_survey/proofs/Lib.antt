@@ -1,0 +1,11 @@
+pub mod Rightness
+pub mod RefusedBefore
+pub mod Judged
+pub mod Readings
+pub mod Followed
+pub mod Broke
+pub mod PassedOn
+pub mod Sought
+pub mod WrongOn
+pub mod Surveyed
+pub mod Told

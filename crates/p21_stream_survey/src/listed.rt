@@ -1,0 +1,20 @@
+use p21_stream_statements::{At, Fault};
+
+/// A refusal that is listed, and how many bytes of the file stand in front of its statement.
+#[derive(Clone, Copy, Debug, PartialEq, Eq)]
+pub struct Listed {
+    pub fault: Fault,
+    pub at: At,
+    pub begins: u64,
+}
+
+/// How far a file is read.
+#[derive(Clone, Copy, Debug, PartialEq, Eq)]
+pub enum Extent {
+    /// To its end.
+    Whole,
+    /// So many bytes: those in front of the statement whose refusal ends the list.
+    ReadTo(u64),
+    /// As far as to the last refusal of the list, since no more were asked for.
+    Most,
+}
