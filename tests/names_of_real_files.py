@@ -3,12 +3,14 @@
 
 Each file is given other names and another order by a seed: the tools must say that it is the same, and the program must write the
 same bytes for both, or refuse both as 59. Then a real of one point is changed too, and just that value must be listed, and other bytes
-written. docs/RECIPES.md says where such files are
-to be had. P21 names another program than ./p21.
+written. At last a real of each of so many instances is changed, and `p21 diff --names` must list just these, under both names.
+docs/RECIPES.md says where such files are to be had. P21 names another program than ./p21.
 """
 
+import itertools
 import json
 import os
+import random
 import re
 import subprocess
 import sys
@@ -20,6 +22,10 @@ from renaming import shuffled  # pylint: disable=wrong-import-position
 from tooling import ROOT  # pylint: disable=wrong-import-position
 
 POINT = re.compile(rb"#\d+ *= *(?:IFC)?CARTESIAN_?POINT *\([^;]*?(-?\d+\.\d*(?:E[-+]?\d+)?) *\) *\) *;")
+REAL = re.compile(rb"(?<=[(,])-?\d+\.\d*(?:E[-+]?\d+)?(?=[,)])")
+NAME = re.compile(rb"\s*#(\d+)")
+# So many instances are changed in each file.
+EDITS = (1, 5, 20, 50, 100, 200)
 
 
 def answer(tool, *arguments):
@@ -57,12 +63,44 @@ def tried(schema, path, seed, folder):
     print(f"{path}: {rows[0]['answer']}, instances {rows[0]['instances']}", flush=True)
 
 
+def changed(text, count, chance):
+    """A file of which a real of each of so many instances is changed, or of all that have one, and the names of these."""
+    reals = {}
+    for found in REAL.finditer(text, text.index(b"DATA")):
+        name = NAME.match(text, text.rfind(b";", 0, found.start()) + 1)
+        if name:
+            reals.setdefault(int(name[1]), []).append(found)
+    names = chance.sample(sorted(reals), min(count, len(reals)))
+    for number, found in enumerate(sorted(map(chance.choice, map(reals.get, names)), key=lambda each: -each.start())):
+        text = text[: found.start()] + b"%d.625" % (7000 + number) + text[found.end() :]
+    return text, names
+
+
+def paired(schema, path, seed, folder):
+    """What `p21 diff --names` lists otherwise than the edits."""
+    with open(path, "rb") as file:
+        text = file.read()
+    other = f"{folder}/edited.step"
+    for count in EDITS:
+        edited, names = changed(text, count, random.Random(seed + count))
+        after, renamed = shuffled(edited, seed)
+        with open(other, "wb") as file:
+            file.write(after)
+        done = subprocess.run(
+            [os.environ["P21"], "diff", "--names", "--format", "jsonl", schema, path, other], capture_output=True, check=False, text=True
+        )
+        rows = [json.loads(line) for line in done.stdout.splitlines()]
+        found = sorted((row.get("a"), row.get("b")) for row in rows[:-1])
+        if done.returncode != 1 or found != sorted((name, renamed[name]) for name in names):
+            yield f"{len(names)} values changed: {rows[-1:]} {done.returncode} {done.stderr}"
+
+
 def main():
     schema, *paths = PATHS
     wrong = 0
     with tempfile.TemporaryDirectory() as folder:
         for seed, path in enumerate(paths):
-            for line in tried(schema, path, seed, folder):
+            for line in itertools.chain(tried(schema, path, seed, folder), paired(schema, path, seed, folder)):
                 print(f"{path}: {line}")
                 wrong += 1
     print(f"{len(paths)} files, {wrong} wrong answers")

@@ -48,7 +48,7 @@ PARTS = [
     Part("wrong_bodies.sh", ("--count",)),
     *map(Part, ["records.py", "refusals.py", "patterns.py", "library.py", "copies.py", "install.sh"]),
     Part("pages.sh", ("PROGRAM",)),
-    *map(Part, ["every_refusal.py", "record_places.py", "differences.py", "ranks.py", "room.py", "ways.py"]),
+    *map(Part, ["every_refusal.py", "record_places.py", "differences.py", "pairs.py", "ranks.py", "room.py", "ways.py"]),
     *map(Part, ["hostile/devices.sh", "hostile/changing.py", "hostile/large.py", "hostile/stack.py", "hostile/memory.py"]),
     Part("held.py", takes=ALL),
     Part("growth.sh", ("--jobs", "JOBS"), takes=ALL),

@@ -835,7 +835,23 @@ expect 'names as JSON, and their end' 1 '' "{\"file\":\"$here/alike\",\"number\"
 {\"refusals\":1,\"extent\":\"whole\"}"
 
 run diff --names "$demo" "$here/told" "$here/renumbered"
-expect 'no names of differences' 2 '' '*--names*'
+expect 'no differences but for names' 0 'same' ''
+
+run diff --names "$demo" "$here/told" "$here/changed"
+expect 'differences by pairs' 1 'changed #3/#4 POINT.Y 1. 2.
+different: 1 changed, 0 came, 0 went' ''
+
+run diff --names --format jsonl "$demo" "$here/told" "$here/renumbered"
+expect 'no differences but for names, as JSON' 0 '{"kind":"verdict","verdict":"same","changed":0,"came":0,"went":0}' ''
+
+run diff --names "$demo" "$here/alike" "$here/renumbered_alike"
+expect 'differences by pairs of instances that are alike' 0 'same' ''
+
+run diff --names "$demo" "$here/alike" "$here/twice"
+expect 'a second file refused, whatever the pairs' 1 '' 'second: refused 40 DuplicateName in #1'
+
+run diff --names "$demo" "$here/told" "$here/none"
+expect 'no second file, whatever the pairs' 3 '' "$(unopened "$here/none")"
 
 run --version
 expect 'the version' 0 'p21 0.1.0 (canonical form 1)' ''

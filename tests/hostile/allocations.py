@@ -66,6 +66,11 @@ NAMES = [
     ["same", "--names", "demo.exp", "alike", "alike.other"],
     ["same", "--names", "demo.exp", "late", "twice"],
 ]
+DIFFERENCES = [
+    ["diff", *words, "demo.exp", *files]
+    for words in ([], ["--names"], ["--names", "--format", "jsonl"])
+    for files in (["converted", "canonical"], ["bags", "bags.other"], ["late", "late.other"], ["alike", "alike.other"], ["late", "twice"])
+]
 WORDS = [
     ["--help"],
     ["param", "--help"],
@@ -92,6 +97,7 @@ PARTS = {
     "every refusal": EVERY_REFUSAL,
     "same": TWO_FILES,
     "names": NAMES,
+    "differences": DIFFERENCES,
     "help and usage": WORDS,
 }
 

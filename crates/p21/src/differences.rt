@@ -6,10 +6,11 @@ use crate::commands::{Stopped, given, with_progress};
 use crate::input::{Inputs, Kept};
 use crate::notes::{Given, Wanted, note_files, note_listing};
 use clap::ArgMatches;
-use p21_commands::{RowForm, diff_command};
+use p21_commands::{RowForm, diff_by_pairs_command, diff_command};
 use p21_stream_io::Watched;
+use std::io::{Read, Write};
 
-/// `diff S A B [--format FORM] [--progress]`.
+/// `diff S A B [--names] [--format FORM] [--progress]`.
 pub fn run_diff<'a>(rt: &HostRuntime, found: &ArgMatches<'a>) -> Result<u8, Stopped<'a>>
     ensures ran { IfOk result IsOfCommand }
     ensures unopened { IfErr result IsUnopened }
@@ -24,13 +25,14 @@ pub fn run_diff<'a>(rt: &HostRuntime, found: &ArgMatches<'a>) -> Result<u8, Stop
     let mut first = Watched::new(with_progress(rt, found, a, inputs.open(rt, a)?));
     let mut second = Watched::new(with_progress(rt, found, b, inputs.open(rt, b)?));
     let mut faults = Watched::new(Kept::new(rt.stderr()));
-    let status = diff_command(
-        rt.alloc(),
+    let by_pairs = found.get_flag("names");
+    let status = run_diff_over(
+        rt,
+        by_pairs,
+        form,
         &mut schema,
         &mut first,
         &mut second,
-        form,
-        &mut Watched::new(rt.stdout()),
         &mut faults,
     );
     let read_schema = schema.into_inner();
@@ -42,4 +44,24 @@ pub fn run_diff<'a>(rt: &HostRuntime, found: &ArgMatches<'a>) -> Result<u8, Stop
     note_files(rt, status, "diff", schema, first, second);
     note_listing(rt, schema_path, faults.into_inner().front());
     Ok(status)
+}
+
+/// Lists what differs in two files, by the names of their instances or by pairs of these.
+fn run_diff_over<S: Read, A: Read, B: Read, F: Write>(
+    rt: &HostRuntime,
+    by_pairs: bool,
+    form: RowForm,
+    schema: &mut Watched<S>,
+    first: &mut Watched<A>,
+    second: &mut Watched<B>,
+    faults: &mut Watched<F>,
+) -> u8
+    ensures { IsOfCommand result }
+{
+    let mut output = Watched::new(rt.stdout());
+    if by_pairs {
+        diff_by_pairs_command(rt.alloc(), schema, first, second, form, &mut output, faults)
+    } else {
+        diff_command(rt.alloc(), schema, first, second, form, &mut output, faults)
+    }
 }

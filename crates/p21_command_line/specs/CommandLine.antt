@@ -108,10 +108,10 @@ abbrev pub same_app : App
 same_app = with_rule (with_rule (with_rule (with_rule (with_rule (new_app (codes "same"))
     (given_rule (codes "S"))) (given_rule (codes "A"))) (given_rule (codes "B"))) names_rule) progress_rule
 
--- `diff S A B [--format FORM] [--progress]`
+-- `diff S A B [--names] [--format FORM] [--progress]`
 abbrev pub diff_app : ValueParser → App
-diff_app forms = with_rule (with_rule (with_rule (with_rule (with_rule (new_app (codes "diff"))
-    (given_rule (codes "S"))) (given_rule (codes "A"))) (given_rule (codes "B"))) (format_rule forms)) progress_rule
+diff_app forms = with_rule (with_rule (with_rule (with_rule (with_rule (with_rule (new_app (codes "diff"))
+    (given_rule (codes "S"))) (given_rule (codes "A"))) (given_rule (codes "B"))) names_rule) (format_rule forms)) progress_rule
 
 -- `faults [N]`
 abbrev pub faults_app : App

@@ -158,7 +158,7 @@ fn same<'a>(alloc: Global) -> Result<Command<'a>, AllocError>
         .arg(progress(alloc))
 }
 
-/// `diff S A B [--format FORM] [--progress]`.
+/// `diff S A B [--names] [--format FORM] [--progress]`.
 fn diff<'a>(alloc: Global) -> Result<Command<'a>, AllocError>
     ensures app { IfOk result (λ command. (forms : ValueParser) × AreForms forms × (app_of command ≡ diff_app forms)) }
     ensures local { IfOk result (λ command. (fields_of command).has_globals ≡ false) }
@@ -169,6 +169,10 @@ fn diff<'a>(alloc: Global) -> Result<Command<'a>, AllocError>
         .arg(schema_path(alloc))?
         .arg(given(alloc, "A", "The earlier file"))?
         .arg(given(alloc, "B", "The later file"))?
+        .arg(names(
+            alloc,
+            "Pairs instances by what they say and what is around them, whatever their names are",
+        ))?
         .arg(format(
             alloc,
             "With jsonl gives differences as JSON, an object a line",

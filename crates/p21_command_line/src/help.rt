@@ -236,20 +236,27 @@ shown as canon writes them; where a list or a set differs in one element alone, 
 is shown behind its index in brackets, and - where it came or went. The sixth of these lines
 says that #6 has another set of entities, the third that #4 stands in another data section.
 Of a value of more than 100 characters 100 are shown, and .. for the others.
+With --names an instance of A is paired with the one of B that says the same, or says most
+like it and has the same around it, whatever their names are. A row has both names where
+they differ, first that in A, and so has each reference in a value; A and B stand in front
+of one to an instance that only this file has:
+    changed #17/#5 CIRCLE.POSITION #3/#4 B#9
+Where files differ and more than 1000 pairs are chosen among instances that are alike, the
+answer is the line not decided.
 With --format jsonl each difference is a JSON object on a line, with whole values, and the
 last one has the counts.
 On standard error the first refusal, with first: or second: in front for the file, or that
 of the schema:
     second: refused 24 EndsEarly at statement 10
     schema refused S5 Circular
-Statuses: 0 same; 1 different or refused; 2 a wrong command line; 3 out of memory, cannot
-open, read or write.
+Statuses: 0 same; 1 different, not decided or refused; 2 a wrong command line; 3 out of
+memory, cannot open, read or write.
 
 Slips:
   - schema refused S2 Syntax: schema and file are exchanged; the schema stands first.
   - refused 20 Unexpected at statement 1: A or B is a schema too.
   - One of the files from a pipe: gunzip -c a.step.gz | p21 diff S - b.step
-  - Each instance came and went: the files number their instances otherwise.
+  - Each instance came and went: the files number their instances otherwise; try --names.
 
 Example:
     $ p21 diff product.exp product.step changed.step

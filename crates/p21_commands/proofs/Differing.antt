@@ -7,6 +7,7 @@ use Rattle.p21_commands.specs.Diff.{IsDifferenceList, Lists}
 use Rattle.p21_commands.specs.Load.{DeclaresRead}
 use Rattle.p21_commands.specs.Same.{IsFirstAccepted, Read, read_of}
 use Rattle.p21_difference_rows.specs.Listed.{IsList}
+use Rattle.p21_difference_rows.specs.RealNames.{as_they_stand}
 use Rattle.p21_difference_rows.specs.declared.row.RowForm.{RowForm}
 use Rattle.p21_differences.specs.Laws.{AreKept, LinesAreOfMeaning}
 use Rattle.p21_differences.specs.Lines.{AreLinesOf}
@@ -41,7 +42,7 @@ canonical-read s claim old new output is = record {
 module _ (form : RowForm) (s : Schema) (formed : IsWellFormed s) (law : LinesAreOfMeaning) (claim : Claim s usual) (schema first_old first_new second_old second_new : Option (List ℕ)) (before after : Output)
     (first : IsAcceptedInput s usual first_old first_new before) (second : IsAcceptedInput s usual second_old second_new after) where
   pub lists : (same : Bool) (text : List ℕ) → IsTrue same ↔ (output_text before ≡ output_text after)
-      → ((a b : FileMeaning) → AreLinesOf s a before.kept → AreLinesOf s b after.kept → IsList form s a b same text)
+      → ((a b : FileMeaning) → AreLinesOf s a before.kept → AreLinesOf s b after.kept → IsList form s as_they_stand a b same text)
       → Lists form s (read_of schema first_old first_new second_old second_new) same text
   lists same text if_equal list =
       let one = canonical-read s claim first_old first_new before first in
@@ -65,7 +66,7 @@ module _ (form : RowForm) (s : Schema) (formed : IsWellFormed s) (law : LinesAre
   -- both files are accepted
   pub both-listed : (before after : Output) → IsAcceptedInput s limits first_old first_new before → IsAcceptedInput s limits second_old second_new after
       → (same : Bool) (text : List ℕ) → IsTrue same ↔ (output_text before ≡ output_text after)
-      → ((a b : FileMeaning) → AreLinesOf s a before.kept → AreLinesOf s b after.kept → IsList form s a b same text)
+      → ((a b : FileMeaning) → AreLinesOf s a before.kept → AreLinesOf s b after.kept → IsList form s as_they_stand a b same text)
       → Lists form s (read_of schema first_old first_new second_old second_new) same text
   both-listed before after first second same text if_equal list =
       lists form s formed law (subst (Claim s) is_usual claim) schema first_old first_new second_old second_new before after

@@ -5,6 +5,7 @@ pub mod Comparing
 pub mod Counting
 pub mod Differing
 pub mod Numbering
+pub mod Pairing
 pub mod FileFailing
 pub mod Showing
 pub mod Writing

@@ -34,7 +34,7 @@ use Rattle.p21_stream_statements.specs.declared.fault.Fault.TheVariants as file
 use Rattle.p21_stream_statements.specs.declared.refusal.Refusal.{Refusal}
 
 -- a file that is too long is no failure of a writer
-unwritten : (fault : Fault) → fault ≡ file.CanonicalTooLong → fault ≢ file.Write
+pub unwritten : (fault : Fault) → fault ≡ file.CanonicalTooLong → fault ≢ file.Write
 unwritten fault too_long is = cc (too_long, is)
 
 -- ---- one file
@@ -90,7 +90,7 @@ numbering-failed s limits old new word reader (Alike j k) fault is alike r = ali
 -- ---- two files
 
 -- a weaker line of a refusal
-fails-weaker : (IsAnswer IsLine IsOther : List ℕ → Type 0) → ((line : List ℕ) → IsLine line → IsOther line) → (old new : Option (List ℕ)) (fault : CommandFault) → FailsBy IsAnswer IsLine old new fault → FailsBy IsAnswer IsOther old new fault
+pub fails-weaker : (IsAnswer IsLine IsOther : List ℕ → Type 0) → ((line : List ℕ) → IsLine line → IsOther line) → (old new : Option (List ℕ)) (fault : CommandFault) → FailsBy IsAnswer IsLine old new fault → FailsBy IsAnswer IsOther old new fault
 fails-weaker IsAnswer IsLine IsOther weaker old new (command.Refused line) is = (weaker (string_bytes line) is.0, is.1)
 fails-weaker IsAnswer IsLine IsOther weaker old new command.NoMemory is = is
 fails-weaker IsAnswer IsLine IsOther weaker old new command.Read is = is

@@ -4,6 +4,7 @@ use Rattle.p21_spec_basics.specs.Limits.{usual}
 use Rattle.p21_commands.specs.Load.{DeclaresRead}
 use Rattle.p21_commands.specs.Same.{Read}
 use Rattle.p21_difference_rows.specs.Listed.{IsList}
+use Rattle.p21_difference_rows.specs.RealNames.{as_they_stand}
 use Rattle.p21_difference_rows.specs.declared.row.RowForm.{RowForm}
 use Rattle.p21_spec_file.specs.Accepted.{Means}
 use Rattle.p21_spec_file.specs.File.{FileMeaning}
@@ -13,7 +14,7 @@ use Rattle.p21_stream.specs.Answers.{Compares}
 -- the text lists what differs in what both files mean, and they are compared
 pub record Lists (form : RowForm) (s : Schema) (read : Read) (same : Bool) (text : List ℕ) : Type 0 where
   pub compares : Compares s usual read.first_old read.first_new read.second_old read.second_new same
-  pub list : (a b : FileMeaning) → Means s usual compares.first.bytes a → Means s usual compares.second.bytes b → IsList form s a b same text
+  pub list : (a b : FileMeaning) → Means s usual compares.first.bytes a → Means s usual compares.second.bytes b → IsList form s as_they_stand a b same text
 
 -- the text lists what differs in both files, which are accepted under the schema that its reader declares
 pub record IsDifferenceList (form : RowForm) (read : Read) (same : Bool) (text : List ℕ) : Type 0 where

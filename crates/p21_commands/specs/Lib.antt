@@ -21,6 +21,7 @@ pub mod Same
 pub mod Diff
 pub mod Numbered
 pub mod SameButForNames
+pub mod DiffByPairs
 pub mod Show
 pub mod Syntax
 pub mod OwnTexts

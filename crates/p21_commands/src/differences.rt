@@ -54,7 +54,7 @@ pub(crate) fn differences<A: Read, B: Read>(
         first: &before,
         second: &after,
     };
-    match list_differences(alloc, form, files) {
+    match list_differences(alloc, form, None, files) {
         Ok(found) => Ok(found),
         Err(_no_memory) => Err((Which::Second, no_memory())),
     }

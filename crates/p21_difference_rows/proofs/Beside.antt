@@ -140,7 +140,7 @@ step-made name (row ∷ rows) (other ∷ others) found new beside (inr (differ, 
 -- ---- so far
 
 -- these attributes are left, and the others are told
-pub record IsHalfway (form : RowForm) (s : Schema) (name : ℕ) (x y : Typed) (values : OtherValues) (old new : List ℕ) : Type 0 where
+pub record IsHalfway (form : RowForm) (s : Schema) (real : ℕ → ℕ) (name : ℕ) (x y : Typed) (values : OtherValues) (old new : List ℕ) : Type 0 where
   pub rows : List Row
   pub others : List Row
   pub differ : (place : Place) → HaveOtherAt rows others place ↔ HasOtherValue x y place
@@ -148,16 +148,16 @@ pub record IsHalfway (form : RowForm) (s : Schema) (name : ℕ) (x y : Typed) (v
   pub left_ : List Row
   pub tells : TellsBoth values left left_
   pub beside : HaveOnePlaces left left_
-  pub adds : AddsRows form s (λ (list : List Difference). (d : Difference) → (Contains list d ⊎ IsOtherOf name left left_ d) ↔ IsOtherOf name rows others d) old new
+  pub adds : AddsRows form s real (λ (list : List Difference). (d : Difference) → (Contains list d ⊎ IsOtherOf name left left_ d) ↔ IsOtherOf name rows others d) old new
 
-module _ (form : RowForm) (s : Schema) (name : ℕ) (x y : Typed) where
+module _ (form : RowForm) (s : Schema) (real : ℕ → ℕ) (name : ℕ) (x y : Typed) where
   module _ (rows others left left_ : List Row) where
     abbrev AreTold : List Difference → Type 0
     AreTold list = (d : Difference) → (Contains list d ⊎ IsOtherOf name left left_ d) ↔ IsOtherOf name rows others d
 
-  pub values-more : (values values_ : OtherValues) (found : OtherValue) (old text new : List ℕ) → IsHalfway form s name x y values old text
+  pub values-more : (values values_ : OtherValues) (found : OtherValue) (old text new : List ℕ) → IsHalfway form s real name x y values old text
       → ((left left_ : List Row) → TellsBoth values left left_ → HandsOutOther left left_ (Some found) values_)
-      → AddsRows form s (TellsAlone (value_changed name (place_of found.place) ∷ [])) text new → IsHalfway form s name x y values_ old new
+      → AddsRows form s real (TellsAlone (value_changed name (place_of found.place) ∷ [])) text new → IsHalfway form s real name x y values_ old new
   values-more values values_ found old text new h hands adds =
       let step = step-made name h.left h.left_ found values_ h.beside (hands h.left h.left_ h.tells) in
       let v = value_changed name (place_of found.place) in
@@ -169,7 +169,7 @@ module _ (form : RowForm) (s : Schema) (name : ℕ) (x y : Typed) where
         left_ = step.left_;
         tells = step.tells;
         beside = step.beside;
-        adds = more-added form s (AreTold h.rows h.others h.left h.left_) (TellsAlone (v ∷ [])) (AreTold h.rows h.others step.left step.left_) old text new
+        adds = more-added form s real (AreTold h.rows h.others h.left h.left_) (TellsAlone (v ∷ [])) (AreTold h.rows h.others step.left step.left_) old text new
             (λ list more told is. let All : List Difference → Type 0 = λ m. AreTold h.rows h.others step.left step.left_ (list ++ m) in subst All (sym is) (λ d. (there step list told d, back step list told d)))
             h.adds adds;
       }
@@ -194,11 +194,11 @@ module _ (form : RowForm) (s : Schema) (name : ℕ) (x y : Typed) where
         ]
       ]
 
-  pub values-ended : (values values_ : OtherValues) (old new : List ℕ) → IsHalfway form s name x y values old new
+  pub values-ended : (values values_ : OtherValues) (old new : List ℕ) → IsHalfway form s real name x y values old new
       → ((left left_ : List Row) → TellsBoth values left left_ → HandsOutOther left left_ None values_)
-      → AddsRows form s (TellsValues x y name) old new
+      → AddsRows form s real (TellsValues x y name) old new
   values-ended values values_ old new h hands =
-      weaker-added form s (AreTold h.rows h.others h.left h.left_) (TellsValues x y name) old new (λ list told d. (there list told d, back list told d)) h.adds
+      weaker-added form s real (AreTold h.rows h.others h.left h.left_) (TellsValues x y name) old new (λ list told d. (there list told d, back list told d)) h.adds
     where
       there : (list : List Difference) → AreTold h.rows h.others h.left h.left_ list → (d : Difference) → Contains list d → (place : Place) × (d ≡ value_changed name place) × HasOtherValue x y place
       there list told d among = let (place, is, have) = (told d).0 (inl among) in (place, is, (h.differ place).0 have)
@@ -209,9 +209,9 @@ module _ (form : RowForm) (s : Schema) (name : ℕ) (x y : Typed) where
         | inr (at, same, have) ↦ absurd (none-other h.left h.left_ values_ (hands h.left h.left_ h.tells) at have)
       ]
 
-pub values-begun : (form : RowForm) (s : Schema) (name m : ℕ) (r q : Record) (line text : List ℕ) (first : IsInstanceText s name r line) (second : IsInstanceText s m q text) (values : OtherValues) (old : List ℕ)
-    → TellsDifferences first second values → IsHalfway form s name first.canonical_meaning second.canonical_meaning values old old
-values-begun form s name m r q line text first second values old tells = record {
+pub values-begun : (form : RowForm) (s : Schema) (real : ℕ → ℕ) (name m : ℕ) (r q : Record) (line text : List ℕ) (first : IsInstanceText s name r line) (second : IsInstanceText s m q text) (values : OtherValues) (old : List ℕ)
+    → TellsDifferences first second values → IsHalfway form s real name first.canonical_meaning second.canonical_meaning values old old
+values-begun form s real name m r q line text first second values old tells = record {
   rows = tells.rows;
   others = tells.others;
   differ = tells.differ;
@@ -219,7 +219,7 @@ values-begun form s name m r q line text first second values old tells = record 
   left_ = tells.others;
   tells = tells.tells;
   beside = tells.beside;
-  adds = none-added form s _ old (λ d. (there d, λ is. inr is));
+  adds = none-added form s real _ old (λ d. (there d, λ is. inr is));
 }
   where
     there : (d : Difference) → Contains [] d ⊎ IsOtherOf name tells.rows tells.others d → IsOtherOf name tells.rows tells.others d

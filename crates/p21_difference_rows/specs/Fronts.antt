@@ -1,5 +1,5 @@
--- How rows begin.
-use Rattle.std.specs.Prelude.{ℕ, List, ◌++◌, Option, Some, None, codes, decimal, slice_get}
+-- How rows begin: by the name that an instance really has in the first file, and the one with which it stands.
+use Rattle.std.specs.Prelude.{ℕ, List, ◌++◌, Option, Some, None, codes, decimal, slice_get, nat_eq, if◌then◌else◌}
 use Rattle.p21_difference_rows.specs.declared.row.Happening.{Happening}
 use Rattle.p21_difference_rows.specs.declared.row.Happening.TheVariants.{Changed}
 use Rattle.p21_difference_rows.specs.declared.row.Happening.TheVariants as happening
@@ -38,40 +38,46 @@ happening_word happening.Went = codes "went"
 abbrev pub named : List ℕ → ℕ → List ℕ → List ℕ
 named before name behind = before ++ (decimal name ++ behind)
 
--- of a line: `came #9 `, `went #7 `, `changed #6 from `, `changed #5 CIRCLE.RADIUS `; `changed header `, `came section `, `moved #4 from `
-abbrev pub line_front : Schema → Subject → List ℕ
-line_front s (Header happening) = happening_word happening ++ codes " header "
-line_front s (Section happening) = happening_word happening ++ codes " section "
-line_front s (Moved name) = named (codes "moved #") name (codes " from ")
-line_front s (Came name) = named (codes "came #") name (codes " ")
-line_front s (Went name) = named (codes "went #") name (codes " ")
-line_front s (Set name) = named (codes "changed #") name (codes " from ")
-line_front s (Value name place) =
-    named (codes "changed #") name (codes " ") ++ (entity_name s (place_of place).entity ++ (codes "." ++ (attribute_name s (place_of place) ++ codes " ")))
+-- a text, the names of an instance in both files, as `17/#5`, or the one that it has in both, and a text
+abbrev pub both_named : List ℕ → ℕ → ℕ → List ℕ → List ℕ
+both_named before real name behind = if nat_eq real name then named before name behind else named before real (codes "/#" ++ (decimal name ++ behind))
 
--- a text, the name that an instance has in both files as members of an object, and a text
-abbrev pub in_both : List ℕ → ℕ → List ℕ → List ℕ
-in_both before name behind = before ++ (codes "\"a\":" ++ (decimal name ++ (codes ",\"b\":" ++ (decimal name ++ behind))))
+-- of a line: `came #9 `, `went #7 `, `changed #6 from `, `changed #17/#5 CIRCLE.RADIUS `; `changed header `, `came section `,
+-- `moved #4 from `
+abbrev pub line_front : Schema → (ℕ → ℕ) → Subject → List ℕ
+line_front s real (Header happening) = happening_word happening ++ codes " header "
+line_front s real (Section happening) = happening_word happening ++ codes " section "
+line_front s real (Moved name) = both_named (codes "moved #") (real name) name (codes " from ")
+line_front s real (Came name) = named (codes "came #") name (codes " ")
+line_front s real (Went name) = named (codes "went #") (real name) (codes " ")
+line_front s real (Set name) = both_named (codes "changed #") (real name) name (codes " from ")
+line_front s real (Value name place) =
+    both_named (codes "changed #") (real name) name (codes " ")
+    ++ (entity_name s (place_of place).entity ++ (codes "." ++ (attribute_name s (place_of place) ++ codes " ")))
+
+-- a text, the names that an instance has in both files as members of an object, and a text
+abbrev pub in_both : List ℕ → ℕ → ℕ → List ℕ → List ℕ
+in_both before real name behind = before ++ (codes "\"a\":" ++ (decimal real ++ (codes ",\"b\":" ++ (decimal name ++ behind))))
 
 -- of an object about a value
-abbrev pub value_object_front : Schema → ℕ → Place → List ℕ
-value_object_front s name place =
-    in_both (codes "{\"kind\":\"changed\",\"what\":\"instance\",") name (codes ",\"entity\":\"")
+abbrev pub value_object_front : Schema → ℕ → ℕ → Place → List ℕ
+value_object_front s real name place =
+    in_both (codes "{\"kind\":\"changed\",\"what\":\"instance\",") real name (codes ",\"entity\":\"")
     ++ (entity_name s place.entity ++ (codes "\",\"attribute\":\"" ++ (attribute_name s place ++ codes "\",")))
 
 -- of an object, up to what it says of the texts of both files
-abbrev pub object_front : Schema → Subject → List ℕ
-object_front s (Header happening) = codes "{\"kind\":\"" ++ (happening_word happening ++ codes "\",\"what\":\"header\",")
-object_front s (Section happening) = codes "{\"kind\":\"" ++ (happening_word happening ++ codes "\",\"what\":\"section\",")
-object_front s (Moved name) = in_both (codes "{\"kind\":\"changed\",\"what\":\"section of\",") name (codes ",")
-object_front s (Came name) = named (codes "{\"kind\":\"came\",\"what\":\"instance\",\"b\":") name (codes ",")
-object_front s (Went name) = named (codes "{\"kind\":\"went\",\"what\":\"instance\",\"a\":") name (codes ",")
-object_front s (Set name) = in_both (codes "{\"kind\":\"changed\",\"what\":\"instance\",") name (codes ",\"before\":")
-object_front s (Value name place) = value_object_front s name (place_of place)
+abbrev pub object_front : Schema → (ℕ → ℕ) → Subject → List ℕ
+object_front s real (Header happening) = codes "{\"kind\":\"" ++ (happening_word happening ++ codes "\",\"what\":\"header\",")
+object_front s real (Section happening) = codes "{\"kind\":\"" ++ (happening_word happening ++ codes "\",\"what\":\"section\",")
+object_front s real (Moved name) = in_both (codes "{\"kind\":\"changed\",\"what\":\"section of\",") (real name) name (codes ",")
+object_front s real (Came name) = named (codes "{\"kind\":\"came\",\"what\":\"instance\",\"b\":") name (codes ",")
+object_front s real (Went name) = named (codes "{\"kind\":\"went\",\"what\":\"instance\",\"a\":") (real name) (codes ",")
+object_front s real (Set name) = in_both (codes "{\"kind\":\"changed\",\"what\":\"instance\",") (real name) name (codes ",\"before\":")
+object_front s real (Value name place) = value_object_front s (real name) name (place_of place)
 
-abbrev pub front : RowForm → Schema → Subject → List ℕ
-front Text s subject = line_front s subject
-front Json s subject = object_front s subject
+abbrev pub front : RowForm → Schema → (ℕ → ℕ) → Subject → List ℕ
+front Text s real subject = line_front s real subject
+front Json s real subject = object_front s real subject
 
 -- ---- the last line
 

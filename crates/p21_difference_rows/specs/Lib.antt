@@ -1,3 +1,4 @@
+pub mod RealNames
 pub mod Fronts
 pub mod Listed
 pub mod Steps

@@ -22,11 +22,12 @@ pub record Row : Type 0 where
 abbrev pub HoldsNoFeed : List ℕ → Type 0
 HoldsNoFeed text = Each (λ (byte : ℕ). byte ≢ 10) text
 
-abbrev pub row_line : RowForm → Schema → Row → List ℕ
-row_line form s row = front form s row.subject ++ (row.rest ++ (10 ∷ []))
+-- its line, by the names that the instances of the first file really have
+abbrev pub row_line : RowForm → Schema → (ℕ → ℕ) → Row → List ℕ
+row_line form s real row = front form s real row.subject ++ (row.rest ++ (10 ∷ []))
 
-abbrev pub rows_text : RowForm → Schema → List Row → List ℕ
-rows_text form s rows = flat_map (row_line form s) rows
+abbrev pub rows_text : RowForm → Schema → (ℕ → ℕ) → List Row → List ℕ
+rows_text form s real rows = flat_map (row_line form s real) rows
 
 abbrev pub AreLines : List Row → Type 0
 AreLines rows = Each (λ (row : Row). HoldsNoFeed row.rest) rows
@@ -66,15 +67,15 @@ TellsInstances a b list = (d : Difference) → Contains list d ↔ (IsOfInstance
 -- ---- the list
 
 -- rows, each a line, which tell exactly what differs in instances, and a last line that says that the files differ
-pub record IsListOfOthers (form : RowForm) (s : Schema) (a b : FileMeaning) (text : List ℕ) : Type 0 where
+pub record IsListOfOthers (form : RowForm) (s : Schema) (real : ℕ → ℕ) (a b : FileMeaning) (text : List ℕ) : Type 0 where
   pub rows : List Row
   pub are_lines : AreLines rows
   pub end : List ℕ
   pub end_is_line : HoldsNoFeed end
-  pub text_is : text ≡ rows_text form s rows ++ (end_front form ++ (end ++ (10 ∷ [])))
+  pub text_is : text ≡ rows_text form s real rows ++ (end_front form ++ (end ++ (10 ∷ [])))
   pub tells : TellsInstances a b (all_told rows)
 
 -- the list of two files, by whether they mean the same: where they do, it has one line alone, which says so
-abbrev pub IsList : RowForm → Schema → FileMeaning → FileMeaning → Bool → List ℕ → Type 0
-IsList form s a b true text = text ≡ same_line form
-IsList form s a b false text = IsListOfOthers form s a b text
+abbrev pub IsList : RowForm → Schema → (ℕ → ℕ) → FileMeaning → FileMeaning → Bool → List ℕ → Type 0
+IsList form s real a b true text = text ≡ same_line form
+IsList form s real a b false text = IsListOfOthers form s real a b text

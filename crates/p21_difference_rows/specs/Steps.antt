@@ -20,10 +20,10 @@ pub record AddsRest (old new : List ℕ) : Type 0 where
   pub new_is : new ≡ old ++ (rest ++ (10 ∷ []))
 
 -- rows are put behind a text, and what they tell is so
-pub record AddsRows (form : RowForm) (s : Schema) (IsTold : List Difference → Type 0) (old new : List ℕ) : Type 0 where
+pub record AddsRows (form : RowForm) (s : Schema) (real : ℕ → ℕ) (IsTold : List Difference → Type 0) (old new : List ℕ) : Type 0 where
   pub rows : List Row
   pub are_lines : AreLines rows
-  pub new_is : new ≡ old ++ rows_text form s rows
+  pub new_is : new ≡ old ++ rows_text form s real rows
   pub is_told : IsTold (all_told rows)
 
 -- nothing of instances is told

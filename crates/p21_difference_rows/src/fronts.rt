@@ -2,9 +2,11 @@
 ghost use Rattle.std.specs.Prelude.{◌≡◌, ◌++◌, OnOk, codes};
 ghost use Rattle.p21_difference_rows.specs.Fronts.{entity_name, attribute_name, front, happening_word, line_front, object_front, value_object_front};
 ghost use Rattle.p21_difference_rows.specs.Listed.{IsOfSchema};
+ghost use Rattle.p21_difference_rows.specs.RealNames.{real_name};
 ghost use Rattle.p21_express_graph.specs.Meaning.{place as place_of};
 ghost use Rattle.p21_express_graph.specs.Resolved.{IsPlace};
 
+use crate::names::{push_both_named, real_name};
 use crate::pushing::{push, push_in_both, push_named};
 use crate::row::{Happening, RowForm, Style, Subject};
 use p21_express_graph::Place;
@@ -18,7 +20,7 @@ pub(crate) fn push_front(
     text: &mut Vec<u8>,
 ) -> Result<(), NoMemory>
     requires { IsOfSchema style.now.schema.now subject.now }
-    ensures { OnOk result (text.new.items ≡ text.old.items ++ front style.now.form style.now.schema.now subject.now) }
+    ensures { OnOk result (text.new.items ≡ text.old.items ++ front style.now.form style.now.schema.now (real_name style.now.names) subject.now) }
 {
     match style.form {
         RowForm::Text => push_line_front(style, subject, text),
@@ -40,9 +42,9 @@ pub(crate) fn word_of(happening: Happening) -> &'static [u8]
 /// Appends the beginning of a line.
 fn push_line_front(style: &Style<'_>, subject: &Subject, text: &mut Vec<u8>) -> Result<(), NoMemory>
     requires { IsOfSchema style.now.schema.now subject.now }
-    ensures { OnOk result (text.new.items ≡ text.old.items ++ line_front style.now.schema.now subject.now) }
+    ensures { OnOk result (text.new.items ≡ text.old.items ++ line_front style.now.schema.now (real_name style.now.names) subject.now) }
 {
-    let alloc = style.alloc;
+    let (alloc, names) = (style.alloc, style.names);
     match *subject {
         Subject::Header(happening) => {
             push(word_of(happening), text)?;
@@ -52,12 +54,21 @@ fn push_line_front(style: &Style<'_>, subject: &Subject, text: &mut Vec<u8>) -> 
             push(word_of(happening), text)?;
             push(b" section ", text)
         }
-        Subject::Moved(Name(name)) => push_named(alloc, b"moved #", name, b" from ", text),
+        Subject::Moved(Name(name)) => {
+            let real = real_name(names, name);
+            push_both_named(alloc, b"moved #", real, name, b" from ", text)
+        }
         Subject::Came(Name(name)) => push_named(alloc, b"came #", name, b" ", text),
-        Subject::Went(Name(name)) => push_named(alloc, b"went #", name, b" ", text),
-        Subject::Set(Name(name)) => push_named(alloc, b"changed #", name, b" from ", text),
+        Subject::Went(Name(name)) => {
+            push_named(alloc, b"went #", real_name(names, name), b" ", text)
+        }
+        Subject::Set(Name(name)) => {
+            let real = real_name(names, name);
+            push_both_named(alloc, b"changed #", real, name, b" from ", text)
+        }
         Subject::Value(Name(name), place) => {
-            push_named(alloc, b"changed #", name, b" ", text)?;
+            let real = real_name(names, name);
+            push_both_named(alloc, b"changed #", real, name, b" ", text)?;
             push_attribute(style.schema, place, b".", b" ", text)
         }
     }
@@ -70,9 +81,9 @@ fn push_object_front(
     text: &mut Vec<u8>,
 ) -> Result<(), NoMemory>
     requires { IsOfSchema style.now.schema.now subject.now }
-    ensures { OnOk result (text.new.items ≡ text.old.items ++ object_front style.now.schema.now subject.now) }
+    ensures { OnOk result (text.new.items ≡ text.old.items ++ object_front style.now.schema.now (real_name style.now.names) subject.now) }
 {
-    let alloc = style.alloc;
+    let (alloc, names) = (style.alloc, style.names);
     match *subject {
         Subject::Header(happening) => { push_kind(happening, b"\",\"what\":\"header\",", text) }
         Subject::Section(happening) => { push_kind(happening, b"\",\"what\":\"section\",", text) }
@@ -80,6 +91,7 @@ fn push_object_front(
             push_in_both(
                 alloc,
                 b"{\"kind\":\"changed\",\"what\":\"section of\",",
+                real_name(names, name),
                 name,
                 b",",
                 text,
@@ -98,7 +110,7 @@ fn push_object_front(
             push_named(
                 alloc,
                 b"{\"kind\":\"went\",\"what\":\"instance\",\"a\":",
-                name,
+                real_name(names, name),
                 b",",
                 text,
             )
@@ -107,28 +119,33 @@ fn push_object_front(
             push_in_both(
                 alloc,
                 b"{\"kind\":\"changed\",\"what\":\"instance\",",
+                real_name(names, name),
                 name,
                 b",\"before\":",
                 text,
             )
         }
-        Subject::Value(Name(name), place) => push_value_front(style, name, place, text),
+        Subject::Value(Name(name), place) => {
+            push_value_front(style, real_name(names, name), name, place, text)
+        }
     }
 }
 
 /// Appends the beginning of an object about a value.
 fn push_value_front(
     style: &Style<'_>,
+    real: u64,
     name: u64,
     place: Place,
     text: &mut Vec<u8>,
 ) -> Result<(), NoMemory>
     requires { IsPlace style.now.schema.now (place_of place) }
-    ensures { OnOk result (text.new.items ≡ text.old.items ++ value_object_front style.now.schema.now name (place_of place)) }
+    ensures { OnOk result (text.new.items ≡ text.old.items ++ value_object_front style.now.schema.now real name (place_of place)) }
 {
     push_in_both(
         style.alloc,
         b"{\"kind\":\"changed\",\"what\":\"instance\",",
+        real,
         name,
         b",\"entity\":\"",
         text,

@@ -1,6 +1,7 @@
 //! What differs in the instances of two files, name by name.
 ghost use Rattle.std.specs.Prelude.{◌≡◌, ◌≤◌, ◌<◌, ◌+◌, ◌^◌, IfSome, List, MatchOption, OnOk, ℕ};
 ghost use Rattle.p21_difference_rows.specs.Listed.{TellsInstances};
+ghost use Rattle.p21_difference_rows.specs.RealNames.{real_name};
 ghost use Rattle.p21_difference_rows.specs.Steps.{AddsRows, TellsOf};
 ghost use Rattle.p21_differences.specs.Changes.{FindsChange, IsChange, IsOfFiles, changed_name};
 ghost use Rattle.p21_differences.specs.Lines.{AreLinesOf};
@@ -8,6 +9,7 @@ ghost use Rattle.p21_spec_file.specs.File.{FileMeaning};
 ghost use Rattle.p21_stream_store.specs.StoredInstance.{StoredInstance};
 
 use crate::keywords::push_keywords;
+use crate::references::line_of_first;
 use crate::row::{RowForm, Style, Subject};
 use crate::rows::{Rows, put};
 use crate::texts::push_member;
@@ -25,7 +27,7 @@ pub(crate) fn list_instances<'a>(
     rows: &mut Rows,
 ) -> Result<(), NoMemory>
     ensures { (a b : FileMeaning) → AreLinesOf style.now.schema.now a first.now.kept → AreLinesOf style.now.schema.now b second.now.kept →
-        OnOk result (AddsRows style.now.form style.now.schema.now (TellsInstances a b) rows.old.text.items rows.new.text.items) }
+        OnOk result (AddsRows style.now.form style.now.schema.now (real_name style.now.names) (TellsInstances a b) rows.old.text.items rows.new.text.items) }
 {
     style.schema.well_formed();
     let mut least = 0;
@@ -84,7 +86,7 @@ fn name_of(change: &Change<'_>) -> u64
 fn list_change(style: &Style<'_>, change: &Change<'_>, rows: &mut Rows) -> Result<(), NoMemory>
     ensures { (a b : FileMeaning) (kept others : List StoredInstance) → AreLinesOf style.now.schema.now a kept → AreLinesOf style.now.schema.now b others →
         IsChange a b change.now → IsOfFiles kept others change.now →
-        OnOk result (AddsRows style.now.form style.now.schema.now (TellsOf (λ (name : ℕ). name ≡ changed_name change.now) a b) rows.old.text.items rows.new.text.items) }
+        OnOk result (AddsRows style.now.form style.now.schema.now (real_name style.now.names) (TellsOf (λ (name : ℕ). name ≡ changed_name change.now) a b) rows.old.text.items rows.new.text.items) }
 {
     style.schema.well_formed();
     let mut rest = Vec::new(style.alloc);
@@ -94,7 +96,7 @@ fn list_change(style: &Style<'_>, change: &Change<'_>, rows: &mut Rows) -> Resul
             put(style, &Subject::Came(name), &rest, rows)
         }
         Change::Went(name, line) => {
-            push_instance(style.form, b"\"before\":\"", line, &mut rest)?;
+            push_gone(style, line, &mut rest)?;
             put(style, &Subject::Went(name), &rest, rows)
         }
         Change::Set(name, first, second) => {
@@ -103,6 +105,12 @@ fn list_change(style: &Style<'_>, change: &Change<'_>, rows: &mut Rows) -> Resul
         }
         Change::Values(name, first, second) => list_values(style, name, first, second, rows),
     }
+}
+
+/// Appends the keywords of an instance of the first file; in an object also its line. What it appends is tested.
+fn push_gone(style: &Style<'_>, line: &[u8], rest: &mut Vec<u8>) -> Result<(), NoMemory> {
+    let own = line_of_first(style, line)?;
+    push_instance(style.form, b"\"before\":\"", &own, rest)
 }
 
 /// Appends the keywords of an instance; in an object also its line. What it appends is tested.

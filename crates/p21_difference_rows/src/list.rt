@@ -2,6 +2,7 @@
 ghost use Rattle.std.specs.Prelude.{◌≡◌, ◌++◌, ◌↔◌, IfOk, IsTrue, OnOk};
 ghost use Rattle.p21_difference_rows.specs.Fronts.{end_front, same_line};
 ghost use Rattle.p21_difference_rows.specs.Listed.{IsList, IsListOfOthers};
+ghost use Rattle.p21_difference_rows.specs.RealNames.{real_name};
 ghost use Rattle.p21_difference_rows.specs.Steps.{AddsRest};
 ghost use Rattle.p21_differences.specs.Lines.{AreLinesOf};
 ghost use Rattle.p21_spec_file.specs.File.{FileMeaning};
@@ -16,6 +17,7 @@ use p21_differences::TwoFiles;
 use p21_outlines::have_one_text;
 use p21_values::NoMemory;
 use std::alloc::{AllocError, Global};
+use std::collections::BTreeMap;
 
 /// What differs in two files, a line for each difference and a last one, and whether nothing does.
 #[derive(Drop)]
@@ -27,22 +29,26 @@ pub struct DifferenceList {
 /// Lists what differs from one accepted file to another one of its schema: in their headers, in their data sections, and in their
 /// instances by their names.
 ///
+/// The first file may stand under other names than its own, as those that its instances have in the second one: `names` then has for each
+/// of these the one that it really has, and rows show both. A row about an instance that came or went has the one name that there is.
+///
 /// # Errors
 ///
 /// Want of memory.
 pub fn list_differences(
     alloc: Global,
     form: RowForm,
+    names: Option<&BTreeMap<u64, u64>>,
     files: TwoFiles<'_>,
 ) -> Result<DifferenceList, NoMemory>
     ensures same { IfOk result (λ found. IsTrue found.is_same ↔ (output_text files.entry.first.now ≡ output_text files.entry.second.now)) }
     ensures list { (a b : FileMeaning) → AreLinesOf files.entry.schema.now a files.entry.first.now.kept → AreLinesOf files.entry.schema.now b files.entry.second.now.kept →
-        IfOk result (λ found. IsList form files.entry.schema.now a b found.is_same found.text.items) }
+        IfOk result (λ found. IsList form files.entry.schema.now (real_name names.entry) a b found.is_same found.text.items) }
 {
     let is_same = have_one_text(files.first, files.second);
     let text = match is_same {
         true => same_text(alloc, form)?,
-        false => text_of_others(alloc, form, files)?,
+        false => text_of_others(alloc, form, names, files)?,
     };
     Ok(DifferenceList { text, is_same })
 }
@@ -69,14 +75,21 @@ fn same_line(form: RowForm) -> &'static [u8]
 }
 
 /// The rows of files that don't, and the last line.
-fn text_of_others(alloc: Global, form: RowForm, files: TwoFiles<'_>) -> Result<Vec<u8>, NoMemory>
+fn text_of_others(
+    alloc: Global,
+    form: RowForm,
+    names: Option<&BTreeMap<u64, u64>>,
+    files: TwoFiles<'_>,
+) -> Result<Vec<u8>, NoMemory>
     ensures { (a b : FileMeaning) → AreLinesOf files.entry.schema.now a files.entry.first.now.kept → AreLinesOf files.entry.schema.now b files.entry.second.now.kept →
-        IfOk result (λ text. IsListOfOthers form files.entry.schema.now a b text.items) }
+        IfOk result (λ text. IsListOfOthers form files.entry.schema.now (real_name names.entry) a b text.items) }
 {
     let style = Style {
         alloc,
         form,
         schema: files.schema,
+        names,
+        second: files.second,
     };
     let mut rows = Rows::new(alloc);
     list_outlines(&style, files.first, files.second, &mut rows)?;

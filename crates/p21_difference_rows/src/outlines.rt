@@ -1,6 +1,7 @@
 //! What differs in headers, in the data sections that there are, and in which of them instances stand. Which rows these functions put is
 //! tested; none of them is about what an instance means.
 ghost use Rattle.std.specs.Prelude.{OnOk};
+ghost use Rattle.p21_difference_rows.specs.RealNames.{real_name};
 ghost use Rattle.p21_difference_rows.specs.Steps.{AddsRows, TellsNone};
 
 use crate::keywords::{header_attribute, keyword_of};
@@ -20,7 +21,7 @@ pub(crate) fn list_outlines(
     after: &Accepted,
     rows: &mut Rows,
 ) -> Result<(), NoMemory>
-    ensures { OnOk result (AddsRows style.now.form style.now.schema.now TellsNone rows.old.text.items rows.new.text.items) }
+    ensures { OnOk result (AddsRows style.now.form style.now.schema.now (real_name style.now.names) TellsNone rows.old.text.items rows.new.text.items) }
 {
     let first = Outline::new(style.alloc, before)?;
     let second = Outline::new(style.alloc, after)?;
@@ -39,7 +40,7 @@ fn list_headers(
     second: &Outline,
     rows: &mut Rows,
 ) -> Result<(), NoMemory>
-    ensures { OnOk result (AddsRows style.now.form style.now.schema.now TellsNone rows.old.text.items rows.new.text.items) }
+    ensures { OnOk result (AddsRows style.now.form style.now.schema.now (real_name style.now.names) TellsNone rows.old.text.items rows.new.text.items) }
 {
     let mut changes = first.record_changes(second);
     for _ in 0..u64::MAX {
@@ -53,7 +54,7 @@ fn list_headers(
 
 /// Puts rows for what changed about a header record.
 fn list_record(style: &Style<'_>, change: RecordChange<'_>, rows: &mut Rows) -> Result<(), NoMemory>
-    ensures { OnOk result (AddsRows style.now.form style.now.schema.now TellsNone rows.old.text.items rows.new.text.items) }
+    ensures { OnOk result (AddsRows style.now.form style.now.schema.now (real_name style.now.names) TellsNone rows.old.text.items rows.new.text.items) }
 {
     let mut rest = Vec::new(style.alloc);
     match change {
@@ -105,7 +106,7 @@ fn list_parameters(
     other: &[u8],
     rows: &mut Rows,
 ) -> Result<(), NoMemory>
-    ensures { OnOk result (AddsRows style.now.form style.now.schema.now TellsNone rows.old.text.items rows.new.text.items) }
+    ensures { OnOk result (AddsRows style.now.form style.now.schema.now (real_name style.now.names) TellsNone rows.old.text.items rows.new.text.items) }
 {
     let mut parameters = OtherParameters::new(line, other);
     for _ in 0..u64::MAX {
@@ -155,7 +156,7 @@ fn list_sections(
     second: &Outline,
     rows: &mut Rows,
 ) -> Result<(), NoMemory>
-    ensures { OnOk result (AddsRows style.now.form style.now.schema.now TellsNone rows.old.text.items rows.new.text.items) }
+    ensures { OnOk result (AddsRows style.now.form style.now.schema.now (real_name style.now.names) TellsNone rows.old.text.items rows.new.text.items) }
 {
     let mut changes = first.section_changes(second);
     for _ in 0..u64::MAX {
@@ -180,7 +181,7 @@ fn list_moved<'a>(
     second: &'a Accepted,
     rows: &mut Rows,
 ) -> Result<(), NoMemory>
-    ensures { OnOk result (AddsRows style.now.form style.now.schema.now TellsNone rows.old.text.items rows.new.text.items) }
+    ensures { OnOk result (AddsRows style.now.form style.now.schema.now (real_name style.now.names) TellsNone rows.old.text.items rows.new.text.items) }
 {
     let mut least = 0;
     for _ in 0..u64::MAX {

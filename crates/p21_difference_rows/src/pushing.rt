@@ -37,18 +37,19 @@ pub(crate) fn push_named(
     push(behind, text)
 }
 
-/// Appends a text, the name that an instance has in both files as members of an object, and a text.
+/// Appends a text, the names that an instance has in both files as members of an object, and a text.
 pub(crate) fn push_in_both(
     alloc: Global,
     before: &[u8],
+    real: u64,
     name: u64,
     behind: &[u8],
     text: &mut Vec<u8>,
 ) -> Result<(), NoMemory>
-    ensures { OnOk result (text.new.items ≡ text.old.items ++ in_both before.now name behind.now) }
+    ensures { OnOk result (text.new.items ≡ text.old.items ++ in_both before.now real name behind.now) }
 {
     push(before, text)?;
-    push_named(alloc, b"\"a\":", name, b",\"b\":", text)?;
+    push_named(alloc, b"\"a\":", real, b",\"b\":", text)?;
     push_number(alloc, name, text)?;
     push(behind, text)
 }

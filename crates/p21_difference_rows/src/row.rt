@@ -1,8 +1,10 @@
 //! What rows are about.
 use p21_express_graph::Place;
 use p21_schema::Schema;
+use p21_stream_output::Accepted;
 use p21_values::Name;
 use std::alloc::Global;
+use std::collections::BTreeMap;
 
 /// How rows are written.
 #[derive(Clone, Copy, Debug, PartialEq, Eq)]
@@ -38,10 +40,13 @@ pub enum Subject {
     Value(Name, Place),
 }
 
-/// How rows are written, and of what schema.
+/// How rows are written, of what schema, and under which names: those that the instances of the first file really have, where it stands
+/// under others. The second file says which instances it has.
 #[derive(Clone, Copy)]
 pub(crate) struct Style<'a> {
     pub alloc: Global,
     pub form: RowForm,
     pub schema: &'a Schema,
+    pub names: Option<&'a BTreeMap<u64, u64>>,
+    pub second: &'a Accepted,
 }

@@ -1,6 +1,7 @@
 //! Rows one behind the other.
 ghost use Rattle.std.specs.Prelude.{◌≡◌, [], OnOk};
 ghost use Rattle.p21_difference_rows.specs.Listed.{IsOfSchema, told};
+ghost use Rattle.p21_difference_rows.specs.RealNames.{real_name};
 ghost use Rattle.p21_difference_rows.specs.Steps.{AddsRows, TellsAlone};
 
 use crate::fronts::push_front;
@@ -40,7 +41,7 @@ pub(crate) fn put(
     rows: &mut Rows,
 ) -> Result<(), NoMemory>
     requires { IsOfSchema style.now.schema.now subject.now }
-    ensures { OnOk result (AddsRows style.now.form style.now.schema.now (TellsAlone (told subject.now)) rows.old.text.items rows.new.text.items) }
+    ensures { OnOk result (AddsRows style.now.form style.now.schema.now (real_name style.now.names) (TellsAlone (told subject.now)) rows.old.text.items rows.new.text.items) }
 {
     count(happening_of(subject), rows);
     push_front(style, subject, &mut rows.text)?;

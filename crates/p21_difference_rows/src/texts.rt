@@ -38,8 +38,24 @@ pub(crate) fn push_values(
     rest: &mut Vec<u8>,
 ) -> Result<(), NoMemory> {
     let texts = narrow(alloc, before, after)?;
-    push_way(alloc, form, &texts.indices, rest)?;
-    push_both(form, Some(texts.before), Some(texts.after), rest)
+    push_narrowed(alloc, form, &texts.indices, texts.before, texts.after, rest)
+}
+
+/// Appends the way to the place where two values differ, and the texts there.
+///
+/// # Errors
+///
+/// Want of memory.
+pub(crate) fn push_narrowed(
+    alloc: Global,
+    form: RowForm,
+    indices: &[u64],
+    before: &[u8],
+    after: &[u8],
+    rest: &mut Vec<u8>,
+) -> Result<(), NoMemory> {
+    push_way(alloc, form, indices, rest)?;
+    push_both(form, Some(before), Some(after), rest)
 }
 
 /// Appends the indices of an element, if there are some.

@@ -1,13 +1,14 @@
 //! The attributes at which two instances of one set of entities have different values.
 ghost use Rattle.std.specs.Prelude.{◌≡◌, OnOk};
+ghost use Rattle.p21_difference_rows.specs.RealNames.{real_name};
 ghost use Rattle.p21_difference_rows.specs.Steps.{AddsRows, TellsValues};
 ghost use Rattle.p21_spec_exchange.specs.Record.{Record};
 ghost use Rattle.p21_spec_file.specs.CanonicalTexts.{IsInstanceText};
 
 use crate::keywords::push_keywords;
+use crate::references::push_instance_values;
 use crate::row::{RowForm, Style, Subject};
 use crate::rows::{Rows, put};
-use crate::texts::push_values;
 use p21_differences::OtherValues;
 use p21_model::Instance;
 use p21_values::{Name, NoMemory};
@@ -24,7 +25,7 @@ pub(crate) fn list_values(
     ensures { (record_ other : Record) (stated : IsInstanceText style.now.schema.now name record_ line.now)
         (others : IsInstanceText style.now.schema.now name other other_line.now) →
         stated.canonical_meaning.entities ≡ others.canonical_meaning.entities →
-        OnOk result (AddsRows style.now.form style.now.schema.now (TellsValues stated.canonical_meaning others.canonical_meaning name) rows.old.text.items rows.new.text.items) }
+        OnOk result (AddsRows style.now.form style.now.schema.now (real_name style.now.names) (TellsValues stated.canonical_meaning others.canonical_meaning name) rows.old.text.items rows.new.text.items) }
 {
     let schema = style.schema;
     let first = Instance { schema, name, line };
@@ -37,13 +38,7 @@ pub(crate) fn list_values(
     while let Some(found) = values.next() {
         let mut rest = Vec::new(style.alloc);
         push_instance_keywords(style.form, line, &mut rest)?;
-        push_values(
-            style.alloc,
-            style.form,
-            found.before,
-            found.after,
-            &mut rest,
-        )?;
+        push_instance_values(style, found.before, found.after, &mut rest)?;
         put(style, &Subject::Value(name, found.place), &rest, rows)?;
     }
     Ok(())

@@ -1,5 +1,5 @@
 //! Two files compared.
-use crate::run::Command::{Diff, Same};
+use crate::run::Command::{Diff, DiffByPairs, Same};
 use crate::run::Left::{Answer, Differences, Different, Refusal};
 use crate::run::Row::{Compared, Leaves};
 use crate::run::{Rows, first_wrong};
@@ -169,6 +169,33 @@ went #3 POINT\ncame #4 POINT\ndifferent: 3 changed, 1 came, 1 went\n",
     ),
     Leaves(
         Diff(RowForm::Text, DANGLING),
+        WITHOUT_INSTANCES,
+        Refusal("second: refused 56 Dangling in #1\n"),
+    ),
+    // by pairs, with both names
+    Leaves(
+        DiffByPairs(
+            RowForm::Text,
+            Lines("#5=POINT($,1.,1.);#7=CLOUD((#5),(),(TALLY(1)));"),
+        ),
+        Lines("#1=CLOUD((#2),(),(TALLY(1)));#2=POINT($,1.,1.);"),
+        Answer("same\n"),
+    ),
+    Leaves(
+        DiffByPairs(
+            RowForm::Text,
+            Lines("#5=POINT($,1.,3.);#7=CLOUD((#5),(),(TALLY(1)));#1=ORIGIN($,*,1.);"),
+        ),
+        Lines(
+            "#1=CLOUD((#2,#3),(),(TALLY(1)));#2=POINT($,1.,2.);#3=(MARKED(.RED.)POINT(5.,5.)SHAPE($));",
+        ),
+        Differences(
+            "came #1 ORIGIN\nwent #3 MARKED+POINT+SHAPE\nchanged #2/#5 POINT.Y 2. 3.\nchanged #1/#7 CLOUD.MEMBERS [1] A#3 -\n\
+different: 2 changed, 1 came, 1 went\n",
+        ),
+    ),
+    Leaves(
+        DiffByPairs(RowForm::Text, DANGLING),
         WITHOUT_INSTANCES,
         Refusal("second: refused 56 Dangling in #1\n"),
     ),

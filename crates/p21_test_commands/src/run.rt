@@ -3,8 +3,8 @@ use crate::devices::{Behind, Full, SmallReader, SmallWriter};
 use crate::schemas::File;
 use p21_commands::{
     Details, RowForm, canon_command, check_all_command, check_command, check_numbered_command,
-    diff_command, numbered_command, param_command, same_but_for_names_command, same_command,
-    schema_command, show_command, syntax_command,
+    diff_by_pairs_command, diff_command, numbered_command, param_command,
+    same_but_for_names_command, same_command, schema_command, show_command, syntax_command,
 };
 use p21_stream::Watched;
 use p21_values::Name;
@@ -256,6 +256,32 @@ fn lists(
     Run::new(status, output.into_inner(), faults.into_inner()).is(left)
 }
 
+/// Whether what is listed of two files by pairs of their instances leaves this.
+fn lists_by_pairs(
+    alloc: Global,
+    schema: &str,
+    first: &str,
+    (form, second): (RowForm, File),
+    rooms: Rooms,
+    left: Left,
+) -> bool {
+    let Some(second) = second.text(alloc) else {
+        return false;
+    };
+    let mut output = Watched::new(rooms.output(alloc));
+    let mut faults = Watched::new(rooms.faults(alloc));
+    let status = diff_by_pairs_command(
+        alloc,
+        &mut Watched::new(schema.as_bytes()),
+        &mut Watched::new(first.as_bytes()),
+        &mut Watched::new(second.as_bytes()),
+        form,
+        &mut output,
+        &mut faults,
+    );
+    Run::new(status, output.into_inner(), faults.into_inner()).is(left)
+}
+
 /// Whether the numbered file of a file leaves this.
 fn numbers(alloc: Global, schema: &str, file: &str, rooms: Rooms, left: Left) -> bool {
     let mut output = Watched::new(rooms.output(alloc));
@@ -325,6 +351,8 @@ pub(crate) enum Command {
     Same(File),
     /// With the form of rows and the second file.
     Diff(RowForm, File),
+    /// The same, of instances that are paired.
+    DiffByPairs(RowForm, File),
     Numbered,
     CheckNumbered,
     /// With the second file.
@@ -375,6 +403,9 @@ pub(crate) fn leaves_of(
         Command::Show(name) => show(alloc, &mut reader, bytes, name, rooms).is(left),
         Command::Same(second) => compares(alloc, declared, text, second, rooms, left),
         Command::Diff(form, second) => { lists(alloc, declared, text, (form, second), rooms, left) }
+        Command::DiffByPairs(form, second) => {
+            lists_by_pairs(alloc, declared, text, (form, second), rooms, left)
+        }
         Command::Numbered => numbers(alloc, declared, text, rooms, left),
         Command::CheckNumbered => checks_numbers(alloc, declared, text, rooms, left),
         Command::SameButForNames(second) => {
@@ -512,7 +543,10 @@ impl Row {
         match self {
             Row::Leaves(Command::Show(_), _, Left::Answer(text) | Left::Refusal(text)) => text,
             Row::Leaves(
-                Command::Same(file) | Command::Diff(_, file) | Command::SameButForNames(file),
+                Command::Same(file)
+                | Command::Diff(_, file)
+                | Command::DiffByPairs(_, file)
+                | Command::SameButForNames(file),
                 _,
                 _,
             )

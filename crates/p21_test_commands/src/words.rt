@@ -102,6 +102,12 @@ const COMMANDS: Taken = &[
         "jsonl",
     ),
     (
+        &["p21", "diff", "s", "a", "--names", "b"],
+        "diff",
+        "names",
+        "true",
+    ),
+    (
         &["p21", "syntax", "--where", "f"],
         "syntax",
         "where",
@@ -281,8 +287,8 @@ const MISTAKES: NotTaken = &[
         ErrorKind::ArgumentConflict,
     ),
     (
-        &["p21", "diff", "s", "a", "b", "--names"],
-        ErrorKind::UnknownArgument,
+        &["p21", "diff", "s", "a", "b", "--names", "--names"],
+        ErrorKind::ArgumentConflict,
     ),
     (
         &["p21", "check", "s", "f", "--format", "json"],

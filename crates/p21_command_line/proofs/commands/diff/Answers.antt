@@ -12,9 +12,10 @@ returns-clause-app c =
     let schema = adds_argument c.after_help.result c.in_ok-arg.field-0 c.schema_path.result none c.schema_path.ensures.rule c.schema_path.ensures.local c.in_ok-arg.ensures in
     let first = adds_argument c.in_ok-arg.field-0 c.in_ok-arg-2.field-0 c.given.result schema c.given.ensures.rule c.given.ensures.local c.in_ok-arg-2.ensures in
     let second = adds_argument c.in_ok-arg-2.field-0 c.in_ok-arg-3.field-0 c.given-2.result first c.given-2.ensures.rule c.given-2.ensures.local c.in_ok-arg-3.ensures in
+    let named = adds_argument c.in_ok-arg-3.field-0 c.in_ok-arg-4.field-0 c.names.result second c.names.ensures.rule c.names.ensures.local c.in_ok-arg-4.ensures in
     let form_is = c.format.ensures.rule in
-    let form = adds_argument c.in_ok-arg-3.field-0 c.in_ok-arg-4.field-0 c.format.result second form_is.2 c.format.ensures.local c.in_ok-arg-4.ensures in
-    IfOk-weaker _ _ _ (λ new added. of_forms new diff_app form_is.0 form_is.1 (adds_argument c.in_ok-arg-4.field-0 new c.progress.result form c.progress.ensures.rule c.progress.ensures.local added)) c.arg-5.ensures
+    let form = adds_argument c.in_ok-arg-4.field-0 c.in_ok-arg-5.field-0 c.format.result named form_is.2 c.format.ensures.local c.in_ok-arg-5.ensures in
+    IfOk-weaker _ _ _ (λ new added. of_forms new diff_app form_is.0 form_is.1 (adds_argument c.in_ok-arg-5.field-0 new c.progress.result form c.progress.ensures.rule c.progress.ensures.local added)) c.arg-6.ensures
 
 pub returns-clause-local : goal.returns-clause-local
 returns-clause-local c =
@@ -22,5 +23,6 @@ returns-clause-local c =
     let schema = stays_local c.after_help.result c.in_ok-arg.field-0 c.schema_path.result none c.schema_path.ensures.local c.in_ok-arg.ensures in
     let first = stays_local c.in_ok-arg.field-0 c.in_ok-arg-2.field-0 c.given.result schema c.given.ensures.local c.in_ok-arg-2.ensures in
     let second = stays_local c.in_ok-arg-2.field-0 c.in_ok-arg-3.field-0 c.given-2.result first c.given-2.ensures.local c.in_ok-arg-3.ensures in
-    let form = stays_local c.in_ok-arg-3.field-0 c.in_ok-arg-4.field-0 c.format.result second c.format.ensures.local c.in_ok-arg-4.ensures in
-    IfOk-weaker _ _ _ (λ new. stays_local c.in_ok-arg-4.field-0 new c.progress.result form c.progress.ensures.local) c.arg-5.ensures
+    let named = stays_local c.in_ok-arg-3.field-0 c.in_ok-arg-4.field-0 c.names.result second c.names.ensures.local c.in_ok-arg-4.ensures in
+    let form = stays_local c.in_ok-arg-4.field-0 c.in_ok-arg-5.field-0 c.format.result named c.format.ensures.local c.in_ok-arg-5.ensures in
+    IfOk-weaker _ _ _ (λ new. stays_local c.in_ok-arg-5.field-0 new c.progress.result form c.progress.ensures.local) c.arg-6.ensures

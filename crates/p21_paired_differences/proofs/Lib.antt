@@ -1,0 +1,3 @@
+pub mod KeptLines
+pub mod Pairs
+pub mod ReadFiles
