@@ -919,6 +919,39 @@ def numbers_of_equal_pairs(n, folder):
     return numbers_of(folder, (node(k, k + 1 if k % 2 else 0) for k in range(1, 2 * n + 1)))
 
 
+# Commands that list what differs in two files, by names and by pairs.
+
+def distinct_points(n, first=1, ordered=True):
+    """Points of which no two are equal."""
+    places = range(n) if ordered else (place - 1 for place in shuffled_names(n))
+    return ("#%d=POINT($,%d.,%d.);\n" % (first + k, k % 977, k % 991) for k in places)
+
+
+def differences_at_the_end(n, folder):
+    return ["diff", *different_at_the_end(n, folder)[1:]]
+
+
+def differences_of_each_instance(n, folder):
+    one, other = (data(folder, ("#%d=POINT($,%d.,1.);\n" % (k, k + more) for k in range(1, n + 1)), name=name) for more, name in ((0, "one.step"), (1, "other.step")))
+    return ["diff", str(DEMO), one, other]
+
+
+def pairs_in_another_order(n, folder):
+    one = data(folder, distinct_points(n), name="one.step")
+    return ["diff", "--names", str(DEMO), one, data(folder, distinct_points(n, n, False), name="other.step")]
+
+
+def pairs_of_equal_instances(n, folder):
+    one, other = (data(folder, (POINT % (k + first) for k in range(n)), name=name) for first, name in ((1, "one.step"), (n, "other.step")))
+    return ["diff", "--names", str(DEMO), one, other]
+
+
+def pairs_along_a_path(n, folder):
+    """A path in which the mark in the middle differs."""
+    one, other = (data(folder, path(n, lambda k: int(k == n // 2) * mark), "S", name) for mark, name in ((1, "one.step"), (2, "other.step")))
+    return ["diff", "--names", schema_of(folder, [NODES]), one, other]
+
+
 globals().update({name: of_lines(made) for name, made in LINES.items()})
 globals().update({name: of_file(made) for name, made in WHOLE.items()})
 globals().update({name: of_schema(made) for name, made in TEXTS.items()})

@@ -130,6 +130,8 @@ ROWS = [
     *(Row(name, 1_000) for name in ("numbers_of_points", "numbers_of_equal_pairs", "numbers_along_a_path", "numbers_along_a_ruler")),
     *(Row(name, 1_000) for name in ("numbers_on_a_circle", "numbers_of_a_de_bruijn_graph", "numbers_of_a_grid", "numbers_of_a_random_graph")),
     *(Row(name, 1_000) for name in ("numbers_on_a_comb", "numbers_below_hubs")),
+    *(Row(name, 1_000) for name in ("differences_at_the_end", "differences_of_each_instance")),
+    *(Row(name, 1_000) for name in ("pairs_in_another_order", "pairs_of_equal_instances", "pairs_along_a_path")),
     Row("canonical_sections", 500),
     *(Row(name, 1_000, 8_000_000) for name in ("parameter_of_letters", "parameter_of_digits")),
     *(Row(name, 1_000) for name in ("values_of_each_kind", "values_with_remarks", "references_ahead_to_small_sets", "records_of_two_leaves")),
@@ -154,6 +156,10 @@ OPEN = {
     "numbers_of_a_random_graph": Open(2.6, 0.8, 3.89, "2.0 s, 131 MB"),
     "numbers_on_a_comb": Open(6.0, 0.8, 3.23, "4.2 s, 113 MB"),
     "numbers_below_hubs": Open(27.0, 0.8, 1.39, "8.4 s, 52 MB"),
+    # The same, 1 December 2026.
+    "pairs_in_another_order": Open(1.5, 0.7, 7.00, "2.2 s, 213 MB"),
+    "pairs_of_equal_instances": Open(14.3, 0.8, 0.73, "2.4 s, 27 MB"),
+    "pairs_along_a_path": Open(139.4, 0.9, 0.36, "13.3 s, 18 MB"),
 }
 
 

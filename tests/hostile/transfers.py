@@ -80,6 +80,8 @@ READING = [
     (["show", "demo.exp", "converted", "--name", "10"], ["demo.exp", "converted"]),
     (["same", "demo.exp", "converted", "canonical"], ["demo.exp", "converted", "canonical"]),
     (["same", "demo.exp", "canonical", "converted"], ["demo.exp", "canonical", "converted"]),
+    (["diff", "demo.exp", "converted", "canonical"], ["demo.exp", "converted", "canonical"]),
+    (["diff", "--names", "demo.exp", "converted", "canonical"], ["demo.exp", "converted", "canonical"]),
 ]
 
 
@@ -174,6 +176,8 @@ WRITING = [
     ["show", "demo.exp", "point", "--name", "2"],
     ["same", "demo.exp", "bags", "bags.same"],
     ["same", "demo.exp", "bags", "bags.other"],
+    ["diff", "demo.exp", "bags", "bags.other"],
+    ["diff", "--names", "demo.exp", "bags", "bags.other"],
     ["param", "scalar1"],
     ["schema", "demo.exp"],
 ]
@@ -219,6 +223,7 @@ COMPLAINING = [
     ["show", "demo.exp", "point", "--name", "3"],
     ["same", "demo.exp", "twice", "point"],
     ["same", "demo.exp", "point", "twice"],
+    ["diff", "--names", "demo.exp", "point", "twice"],
     ["show", "demo.exp", "point", "--name", "+2"],
 ]
 # What is wrong with a command line is said in a text; where it can't be written, the fault has its own line.
