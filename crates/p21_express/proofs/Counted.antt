@@ -30,8 +30,10 @@ some_byte : (x : Lexeme) (bytes : List ℕ) → SpellsLexeme x bytes → 1 ≤ l
 some_byte (identifier name) [] spells = absurd spells.0
 some_byte (identifier name) (byte ∷ bytes) spells = omega arith
 some_byte (digits ds) bytes spells = let long : length bytes ≡ length ds = ap length spells.0 in omega (arith, long, spells.1)
-some_byte (simple_string inside) bytes spells = let long : length bytes ≡ suc (length (flat_map quote_twice inside ++ 39 ∷ [])) = ap length spells in omega (arith, long)
-some_byte (encoded_string inside) bytes spells = let long : length bytes ≡ suc (length (inside ++ 34 ∷ [])) = ap length spells.0 in omega (arith, long)
+some_byte (simple_string inside) bytes spells = let long : length bytes ≡ suc (length (flat_map quote_twice inside ++ 39 ∷ [])) =
+    ap length spells in omega (arith, long)
+some_byte (encoded_string inside) bytes spells = let long : length bytes ≡ suc (length (inside ++ 34 ∷ [])) = ap length spells.0 in
+    omega (arith, long)
 some_byte (symbol byte) bytes spells = let long : length bytes ≡ 1 = ap length spells.0 in omega (arith, long)
 
 laid_count : (lexemes : List Lexeme) (bytes : List ℕ) → LaidLexemes lexemes bytes → length lexemes ≤ length bytes
@@ -50,17 +52,21 @@ name_some : (name : AttributeName) → 1 ≤ length (attribute_lexemes name)
 name_some (own name) = omega arith
 name_some (redeclared supertype name) = omega arith
 
-own_more : (name : AttributeName) (names : List AttributeName) → length (digest_own_names (map name_digest (name ∷ names))) ≤ suc (length (digest_own_names (map name_digest names)))
+own_more : (name : AttributeName) (names : List AttributeName)
+    → length (digest_own_names (map name_digest (name ∷ names))) ≤ suc (length (digest_own_names (map name_digest names)))
 own_more (own name) names = omega arith
 own_more (redeclared supertype name) names = omega arith
 
-names_few : (names : List AttributeName) → length (digest_own_names (map name_digest names)) ≤ length (comma_separated attribute_lexemes names)
+names_few : (names : List AttributeName) → length (digest_own_names (map name_digest names)) ≤ length
+    (comma_separated attribute_lexemes names)
 names_few [] = omega arith
 names_few (x ∷ []) = let more = own_more x [] in let some = name_some x in omega (arith, more, some)
 names_few (x ∷ y ∷ names) =
     let more = own_more x (y ∷ names) in
     let few = names_few (y ∷ names) in
-    let all : length (comma_separated attribute_lexemes (x ∷ y ∷ names)) ≡ length (attribute_lexemes x ++ symbols (codes ",")) + length (comma_separated attribute_lexemes (y ∷ names)) = length-append (attribute_lexemes x ++ symbols (codes ",")) (comma_separated attribute_lexemes (y ∷ names)) in
+    let all : length (comma_separated attribute_lexemes (x ∷ y ∷ names)) ≡ length (attribute_lexemes x ++ symbols (codes ",")) + length
+    (comma_separated attribute_lexemes (y ∷ names)) = length-append (attribute_lexemes x ++ symbols (codes ","))
+    (comma_separated attribute_lexemes (y ∷ names)) in
     let front = front_le (attribute_lexemes x) (symbols (codes ",")) in
     let some = name_some x in
     omega (arith, more, few, all, front, some)
@@ -71,16 +77,22 @@ explicit_few x =
     let one = front_le named (symbols (codes ":")) in
     let two = front_le (named ++ symbols (codes ":")) (optional_word x.optional (codes "OPTIONAL")) in
     let three = front_le (named ++ symbols (codes ":") ++ optional_word x.optional (codes "OPTIONAL")) (type_lexemes x.type) in
-    let four = front_le (named ++ symbols (codes ":") ++ optional_word x.optional (codes "OPTIONAL") ++ type_lexemes x.type) (symbols (codes ";")) in
+    let four = front_le (named ++ symbols (codes ":") ++ optional_word x.optional (codes "OPTIONAL") ++ type_lexemes x.type)
+    (symbols (codes ";")) in
     then_le _ _ _ (names_few x.names) (then_le _ _ _ one (then_le _ _ _ two (then_le _ _ _ three four)))
 
-attributes_few : (explicit : List ExplicitAttributes) → length (digest_own_explicit (map attributes_digest explicit)) ≤ length (flat_map explicit_lexemes explicit)
+attributes_few : (explicit : List ExplicitAttributes)
+    → length (digest_own_explicit (map attributes_digest explicit)) ≤ length (flat_map explicit_lexemes explicit)
 attributes_few [] = omega arith
 attributes_few (x ∷ explicit) =
     let these = map (λ name. (name, x.optional, (attributes_digest x).type)) (digest_own_names (map name_digest x.names)) in
-    let kept : length (digest_own_explicit (map attributes_digest (x ∷ explicit))) ≡ length these + length (digest_own_explicit (map attributes_digest explicit)) = length-append these (digest_own_explicit (map attributes_digest explicit)) in
-    let named : length these ≡ length (digest_own_names (map name_digest x.names)) = length-map (digest_own_names (map name_digest x.names)) (λ name. (name, x.optional, (attributes_digest x).type)) in
-    let written : length (flat_map explicit_lexemes (x ∷ explicit)) ≡ length (explicit_lexemes x) + length (flat_map explicit_lexemes explicit) = length-append (explicit_lexemes x) (flat_map explicit_lexemes explicit) in
+    let kept : length (digest_own_explicit (map attributes_digest (x ∷ explicit))) ≡ length these + length
+    (digest_own_explicit (map attributes_digest explicit)) =
+    length-append these (digest_own_explicit (map attributes_digest explicit)) in
+    let named : length these ≡ length (digest_own_names (map name_digest x.names)) =
+    length-map (digest_own_names (map name_digest x.names)) (λ name. (name, x.optional, (attributes_digest x).type)) in
+    let written : length (flat_map explicit_lexemes (x ∷ explicit)) ≡ length (explicit_lexemes x) + length
+    (flat_map explicit_lexemes explicit) = length-append (explicit_lexemes x) (flat_map explicit_lexemes explicit) in
     let few = explicit_few x in
     let more = attributes_few explicit in
     omega (arith, kept, named, written, few, more)
@@ -89,7 +101,8 @@ attributes_few (x ∷ explicit) =
 
 in_entity : (x : EntityDeclaration) → length (flat_map explicit_lexemes x.explicit) ≤ length (entity_lexemes x)
 in_entity x =
-    let before = word (codes "ENTITY") ++ word x.name ++ constraint_lexemes x.constraint ++ subtype_lexemes x.subtype_of ++ symbols (codes ";") in
+    let before = word (codes "ENTITY") ++ word x.name ++ constraint_lexemes x.constraint ++ subtype_lexemes x.subtype_of
+    ++ symbols (codes ";") in
     let whole = before ++ flat_map explicit_lexemes x.explicit in
     let one = back_le before (flat_map explicit_lexemes x.explicit) in
     let two = front_le whole (derive_lexemes x.derive) in
@@ -98,14 +111,18 @@ in_entity x =
     let five = front_le (whole ++ derive_lexemes x.derive ++ rules_lexemes x.rules ++ word (codes "END_ENTITY")) (symbols (codes ";")) in
     then_le _ _ _ one (then_le _ _ _ two (then_le _ _ _ three (then_le _ _ _ four five)))
 
-in_declarations : (ds : List Declaration) (x : EntityDeclaration) → Contains (entities_of ds) x → length (entity_lexemes x) ≤ length (flat_map declaration_lexemes ds)
+in_declarations : (ds : List Declaration) (x : EntityDeclaration) → Contains (entities_of ds) x
+    → length (entity_lexemes x) ≤ length (flat_map declaration_lexemes ds)
 in_declarations [] x among = absurd (Contains-none x among)
 in_declarations (entity y ∷ ds) x among = elim (Contains-cases y (entities_of ds) x among) [
-  | inl h ↦ let P : EntityDeclaration → Type 0 = λ z. length (entity_lexemes z) ≤ length (entity_lexemes y ++ flat_map declaration_lexemes ds) in subst P h (front_le (entity_lexemes y) (flat_map declaration_lexemes ds))
+  | inl h ↦ let P : EntityDeclaration → Type 0 = λ z. length (entity_lexemes z) ≤ length
+      (entity_lexemes y ++ flat_map declaration_lexemes ds) in subst P h (front_le (entity_lexemes y) (flat_map declaration_lexemes ds))
   | inr h ↦ then_le _ _ _ (in_declarations ds x h) (back_le (entity_lexemes y) (flat_map declaration_lexemes ds))
 ]
-in_declarations (defined y ∷ ds) x among = then_le _ _ _ (in_declarations ds x among) (back_le (declaration_lexemes (defined y)) (flat_map declaration_lexemes ds))
-in_declarations (read_over y ∷ ds) x among = then_le _ _ _ (in_declarations ds x among) (back_le (declaration_lexemes (read_over y)) (flat_map declaration_lexemes ds))
+in_declarations (defined y ∷ ds) x among = then_le _ _ _ (in_declarations ds x among)
+    (back_le (declaration_lexemes (defined y)) (flat_map declaration_lexemes ds))
+in_declarations (read_over y ∷ ds) x among = then_le _ _ _ (in_declarations ds x among)
+    (back_le (declaration_lexemes (read_over y)) (flat_map declaration_lexemes ds))
 
 in_schema : (tree : SchemaDeclaration) → length (flat_map declaration_lexemes tree.declarations) ≤ length (schema_lexemes tree)
 in_schema tree =
@@ -116,10 +133,13 @@ in_schema tree =
     let three = front_le (whole ++ word (codes "END_SCHEMA")) (symbols (codes ";")) in
     then_le _ _ _ one (then_le _ _ _ two three)
 
-pub few-attributes : (tree : SchemaDeclaration) (text : List ℕ) (x : EntityDeclaration) → IsTextOf tree text → Contains (entities_of tree.declarations) x → length (digest_own_explicit (map attributes_digest x.explicit)) < 2 ^ 32
+pub few-attributes : (tree : SchemaDeclaration) (text : List ℕ) (x : EntityDeclaration) → IsTextOf tree text
+    → Contains (entities_of tree.declarations) x → length (digest_own_explicit (map attributes_digest x.explicit)) < 2 ^ 32
 few-attributes tree text x is among =
     let few : length (digest_own_explicit (map attributes_digest x.explicit)) ≤ length text =
-    then_le _ _ _ (attributes_few x.explicit) (then_le _ _ _ (in_entity x) (then_le _ _ _ (in_declarations tree.declarations x among) (then_le _ _ _ (in_schema tree) (laid_count (schema_lexemes tree) text is.laid)))) in
+    then_le _ _ _ (attributes_few x.explicit) (then_le _ _ _ (in_entity x)
+    (then_le _ _ _ (in_declarations tree.declarations x among)
+    (then_le _ _ _ (in_schema tree) (laid_count (schema_lexemes tree) text is.laid)))) in
     let short : length text ≤ 16777216 = is.is_short in
     let big : 2 ^ 32 ≡ 4294967296 = refl in
     omega (arith, few, short, big)

@@ -73,7 +73,8 @@ module _ (k : SchemaDigest) (s : Schema) (outline : IsOutline k s) where
   around_is (aggregate.Bag range ∷ aggregates) element is = around_is aggregates element is
 
   type_use_is : (kept : TypeDigest) (type : TypeUse) → DigestTypeIs n kept type → IsTypeUse s type
-  type_use_is kept type (element, is, same) = subst (IsTypeUse s) (sym same) (around_is kept.aggregates element (simple_is kept.element element is))
+  type_use_is kept type (element, is, same) = subst (IsTypeUse s) (sym same)
+      (around_is kept.aggregates element (simple_is kept.element element is))
 
   member_is : (m : Member) (name : List ℕ) → MemberIs n m name → IsMember s m
   member_is (entity_member e) name named = entity_is e name named
@@ -81,20 +82,26 @@ module _ (k : SchemaDigest) (s : Schema) (outline : IsOutline k s) where
 
   kind_is : (body : BodyDigest) (kind : Kind) → DigestKindIs n body kind → IsKind s kind
   kind_is (underlying kept) kind (type, (element, is, same), alone, kind_same) =
-      subst (IsKind s) (sym kind_same) (subst (IsTypeUse s) (sym same) (around_is kept.aggregates element (simple_is kept.element element is)))
+      subst (IsKind s) (sym kind_same) (subst (IsTypeUse s) (sym same)
+      (around_is kept.aggregates element (simple_is kept.element element is)))
   kind_is (enumeration names) kind is = subst (IsKind s) (sym is.0) tt
   kind_is (select names) kind (members, are, distinct, same) =
-      subst (IsKind s) (sym same) (Each-of_members (IsMember s) members (λ m among. let (name, _, is) = AllZip-member (MemberIs n) members names m are among in member_is m name is))
+      subst (IsKind s) (sym same) (Each-of_members (IsMember s) members
+      (λ m among. let (name, _, is) = AllZip-member (MemberIs n) members names m are among in member_is m name is))
 
   types_are : Each (λ (x : Defined). IsKind s x.kind) s.types
-  types_are = Each-of_members (λ (x : Defined). IsKind s x.kind) s.types (λ x among. let (d, _, is) = AllZip-second_member (TypeOutline n) k.types s.types x outline.types_are among in kind_is d.body x.kind is.kind_is)
+  types_are = Each-of_members (λ (x : Defined). IsKind s x.kind) s.types
+      (λ x among. let (d, _, is) = AllZip-second_member (TypeOutline n) k.types s.types x outline.types_are among in
+      kind_is d.body x.kind is.kind_is)
 
   -- ---- ONEOF lists
 
   one_of_are : Each (Each (IsEntity s)) s.one_of_lists
   one_of_are = Each-of_members (Each (IsEntity s)) s.one_of_lists (λ listed among.
-      let (names, _, is) = AllZip-second_member (DigestOneOfIs n) (digest_one_of_lists k.entities) s.one_of_lists listed outline.one_of_are among in
-      Each-of_members (IsEntity s) listed (λ e among_. let (name, _, named) = AllZip-member (IsNamed n.entities) listed names e is.0 among_ in entity_is e name named))
+      let (names, _, is) = AllZip-second_member (DigestOneOfIs n) (digest_one_of_lists k.entities) s.one_of_lists listed outline.one_of_are
+      among in
+      Each-of_members (IsEntity s) listed (λ e among_. let (name, _, named) =
+      AllZip-member (IsNamed n.entities) listed names e is.0 among_ in entity_is e name named))
 
   -- ---- entities
 
@@ -112,15 +119,21 @@ module _ (k : SchemaDigest) (s : Schema) (outline : IsOutline k s) where
       let Q : List Place → Type 0 = Each (IsPlace s) in
       (subst P (sym none) tt, subst Q (sym none_derived) tt)
 
-  entities_are : ((x : Entity) → Contains s.entities x → Each (IsRedeclared s) x.redeclared × Each (IsPlace s) x.derived) → ((d : EntityDigest) → Contains k.entities d → length (digest_own_explicit d.explicit) < 2 ^ 32) → Each (IsResolved s) s.entities
+  entities_are : ((x : Entity) → Contains s.entities x → Each (IsRedeclared s) x.redeclared × Each (IsPlace s) x.derived)
+      → ((d : EntityDigest) → Contains k.entities d → length (digest_own_explicit d.explicit) < 2 ^ 32) → Each (IsResolved s) s.entities
   entities_are redeclared few = Each-of_members (IsResolved s) s.entities (λ x among.
       let (d, d_among, is) = AllZip-second_member (EntityOutline n) k.entities s.entities x outline.entities_are among in
-      let long : length x.attributes ≡ length (digest_own_explicit d.explicit) = AllZip-long (DigestAttributeIs n) (digest_own_explicit d.explicit) x.attributes is.attributes_are in
+      let long : length x.attributes ≡ length (digest_own_explicit d.explicit) =
+      AllZip-long (DigestAttributeIs n) (digest_own_explicit d.explicit) x.attributes is.attributes_are in
       let small : length (digest_own_explicit d.explicit) < 2 ^ 32 = few d d_among in
       record {
         few = let P : ℕ → Type 0 = λ m. m < 2 ^ 32 in subst P (sym long) small;
-        supertypes_are = Each-of_members (IsEntity s) x.supertypes (λ e e_among. let (name, _, named) = AllZip-member (IsNamed n.entities) x.supertypes d.supertypes e is.supertypes_are e_among in entity_is e name named);
-        attributes_are = Each-of_members (IsAttribute s) x.attributes (λ a a_among. let (kept, _, found) = AllZip-second_member (DigestAttributeIs n) (digest_own_explicit d.explicit) x.attributes a is.attributes_are a_among in type_use_is kept.2 a.type found.2);
+        supertypes_are = Each-of_members (IsEntity s) x.supertypes
+            (λ e e_among. let (name, _, named) = AllZip-member (IsNamed n.entities) x.supertypes d.supertypes e is.supertypes_are e_among in
+            entity_is e name named);
+        attributes_are = Each-of_members (IsAttribute s) x.attributes
+            (λ a a_among. let (kept, _, found) = AllZip-second_member (DigestAttributeIs n) (digest_own_explicit d.explicit) x.attributes a
+            is.attributes_are a_among in type_use_is kept.2 a.type found.2);
         redeclared_are = (redeclared x among).0;
         derived_are = (redeclared x among).1;
       })
@@ -137,42 +150,55 @@ module _ (k : SchemaDigest) (s : Schema) (outline : IsOutline k s) where
   )
 
   distinct : IsDistinct bytes_eq (map (λ x. x.name) s.entities ++ map (λ x. x.name) s.types)
-  distinct = let P : List (List ℕ) → Type 0 = IsDistinct bytes_eq in subst P (sym (ap (λ ns. ns ++ map (λ x. x.name) s.types) names_are.0 ∙ ap (λ ns. n.entities ++ ns) names_are.1)) outline.names_distinct
+  distinct = let P : List (List ℕ) → Type 0 = IsDistinct bytes_eq in
+      subst P (sym (ap (λ ns. ns ++ map (λ x. x.name) s.types) names_are.0 ∙ ap (λ ns. n.entities ++ ns) names_are.1))
+      outline.names_distinct
 
 -- the types among the members of a select are of the schema
 pub outline-members : (k : SchemaDigest) (s : Schema) → IsOutline k s → AreMembers s
 outline-members k s outline t u members is among = by (slice_get s.types t) refl is
   where
-    by : (o : Option Defined) → slice_get s.types t ≡ o → ◌≡◌ {A = Option Kind} (elim o [ Some x ↦ Some x.kind | None ↦ None ]) (Some (schema.choice members)) → u < length s.types
+    by : (o : Option Defined) → slice_get s.types t ≡ o
+        → ◌≡◌ {A = Option Kind} (elim o [ Some x ↦ Some x.kind | None ↦ None ]) (Some (schema.choice members)) → u < length s.types
     by None at same = cc
     by (Some x) at same =
         let kind_same : x.kind ≡ schema.choice members = cc in
-        let holds : IsKind s x.kind = Each-member (λ (y : Defined). IsKind s y.kind) s.types x (types_are k s outline) (Contains-found s.types t x at) in
+        let holds : IsKind s x.kind = Each-member (λ (y : Defined). IsKind s y.kind) s.types x (types_are k s outline)
+        (Contains-found s.types t x at) in
         Each-member (IsMember s) members (type_member u) (subst (IsKind s) kind_same holds) among
 
 -- ---- what is redeclared
 
-redeclares-within : (s : Schema) (e : ℕ) (supertype name : List ℕ) (place : Place) → RedeclaresPlace s e supertype name place → IsPlace s place
+redeclares-within : (s : Schema) (e : ℕ) (supertype name : List ℕ) (place : Place) → RedeclaresPlace s e supertype name place
+    → IsPlace s place
 redeclares-within s e supertype name place (sup, proper, inl own) = named-within s place name own.1
 redeclares-within s e supertype name place (sup, proper, inr is) = named-within s place name is.1.1
 
-derived-within : (s : Schema) (entities : List EntityDigest) (e : ℕ) (names : List (List ℕ × List ℕ)) (found : List Place) → DigestDerivedAre s entities e names found → Each (IsPlace s) found
+derived-within : (s : Schema) (entities : List EntityDigest) (e : ℕ) (names : List (List ℕ × List ℕ)) (found : List Place)
+    → DigestDerivedAre s entities e names found → Each (IsPlace s) found
 derived-within s entities e _ _ no_more = tt
-derived-within s entities e _ _ (a_place supertype name place names found is rest) = (redeclares-within s e supertype name place is, derived-within s entities e names found rest)
-derived-within s entities e _ _ (no_place supertype name sup names found is none derives rest) = derived-within s entities e names found rest
+derived-within s entities e _ _ (a_place supertype name place names found is rest) =
+    (redeclares-within s e supertype name place is, derived-within s entities e names found rest)
+derived-within s entities e _ _ (no_place supertype name sup names found is none derives rest) =
+    derived-within s entities e names found rest
 
-redeclared-within : (k : SchemaDigest) (s : Schema) → DeclaredBy k s → (x : Entity) → Contains s.entities x → Each (IsRedeclared s) x.redeclared × Each (IsPlace s) x.derived
+redeclared-within : (k : SchemaDigest) (s : Schema) → DeclaredBy k s → (x : Entity) → Contains s.entities x
+    → Each (IsRedeclared s) x.redeclared × Each (IsPlace s) x.derived
 redeclared-within k s by x among =
-    let (own, _, are) = AllZip-second_member (λ p found. RedeclarationsAre s (digest_names k) k.entities p.0 p.1 found) (enumerate_from 0 k.entities) s.entities x by.redeclared among in (
+    let (own, _, are) = AllZip-second_member (λ p found. RedeclarationsAre s (digest_names k) k.entities p.0 p.1 found)
+    (enumerate_from 0 k.entities) s.entities x by.redeclared among in (
       Each-of_members (IsRedeclared s) x.redeclared (λ r r_among.
-          let (kept, _, is) = AllZip-second_member (DigestRedeclaredIs s (digest_names k) own.0) (digest_redeclared_explicit own.1.explicit) x.redeclared r are.redeclared_are r_among in
+          let (kept, _, is) = AllZip-second_member (DigestRedeclaredIs s (digest_names k) own.0) (digest_redeclared_explicit own.1.explicit)
+          x.redeclared r are.redeclared_are r_among in
           (redeclares-within s own.0 kept.0.0 kept.0.1 r.place is.0, type_use_is k s by.outline kept.2 r.type is.2)),
       derived-within s k.entities own.0 (digest_redeclared_names own.1.derived) x.derived are.derived_are,
     )
 
 -- ---- the schema
 
-outline-holds : (tree : SchemaDeclaration) (text : List ℕ) (s : Schema) → IsTextOf tree text → IsOutline (schema_digest tree) s → ((x : Entity) → Contains s.entities x → Each (IsRedeclared s) x.redeclared × Each (IsPlace s) x.derived) → HasNoCircle (HasSupertype s) → HasNoCircle (Renames s)
+outline-holds : (tree : SchemaDeclaration) (text : List ℕ) (s : Schema) → IsTextOf tree text → IsOutline (schema_digest tree) s
+    → ((x : Entity) → Contains s.entities x → Each (IsRedeclared s) x.redeclared × Each (IsPlace s) x.derived)
+    → HasNoCircle (HasSupertype s) → HasNoCircle (Renames s)
     → HasNoCircle (HasSelect s) → RedeclaresOnce s → HoldsTogether s
 outline-holds tree text s is outline redeclared supertypes renaming selects once = record {
   entities_are = entities_are (schema_digest tree) s outline redeclared (λ d among.
@@ -194,10 +220,12 @@ pub bare-holds : (k : SchemaDigest) (s : Schema) → AreOfText k → IsBareSchem
 bare-holds k s (tree, text, is, same) is_bare_schema =
     let P : SchemaDigest → Type 0 = λ v. IsOutline v s in
     let outline = subst P same is_bare_schema.outline in
-    outline-holds tree text s is outline (bare_holds (schema_digest tree) s outline is_bare_schema.is_bare) is_bare_schema.supertypes_end is_bare_schema.renaming_ends is_bare_schema.selects_end (redeclares_once (schema_digest tree) s outline is_bare_schema.is_bare)
+    outline-holds tree text s is outline (bare_holds (schema_digest tree) s outline is_bare_schema.is_bare) is_bare_schema.supertypes_end
+    is_bare_schema.renaming_ends is_bare_schema.selects_end (redeclares_once (schema_digest tree) s outline is_bare_schema.is_bare)
 
 pub whole-holds : (k : SchemaDigest) (s : Schema) → AreOfText k → DeclaredBy k s → HoldsTogether s
 whole-holds k s (tree, text, is, same) declared =
     let P : SchemaDigest → Type 0 = λ v. DeclaredBy v s in
     let by : DeclaredBy (schema_digest tree) s = subst P same declared in
-    outline-holds tree text s is by.outline (redeclared-within (schema_digest tree) s by) by.supertypes_end by.renaming_ends by.selects_end (declared-redeclares_once tree s (digest-declares tree s is.is_within by))
+    outline-holds tree text s is by.outline (redeclared-within (schema_digest tree) s by) by.supertypes_end by.renaming_ends by.selects_end
+    (declared-redeclares_once tree s (digest-declares tree s is.is_within by))

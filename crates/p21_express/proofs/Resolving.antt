@@ -27,11 +27,16 @@ abbrev places_in : List pure.Redeclared → List Place → List Place
 places_in rs ds = map (λ r. r.place) rs ++ ds
 
 -- all redeclarations of an entity have the same places
-places-one : (s : Schema) → TellsPlaces s → (n : Named) (entities : List EntityDigest) (e : ℕ) (x : EntityDigest) (rs : List pure.Redeclared) (ds : List Place) → AllZip (DigestRedeclaredIs s n e) (digest_redeclared_explicit x.explicit) rs
-    → DigestDerivedAre s entities e (digest_redeclared_names x.derived) ds → (y : Entity) → RedeclarationsAre s n entities e x y → places_in y.redeclared y.derived ≡ places_in rs ds
+places-one : (s : Schema) → TellsPlaces s → (n : Named) (entities : List EntityDigest) (e : ℕ) (x : EntityDigest)
+    (rs : List pure.Redeclared) (ds : List Place) → AllZip (DigestRedeclaredIs s n e) (digest_redeclared_explicit x.explicit) rs
+    → DigestDerivedAre s entities e (digest_redeclared_names x.derived) ds → (y : Entity) → RedeclarationsAre s n entities e x y
+    → places_in y.redeclared y.derived ≡ places_in rs ds
 places-one s tells n entities e x rs ds found derived y are =
-    ap (λ ps. ps ++ y.derived) (AllZip-one_mapped (DigestRedeclaredIs s n e) (DigestRedeclaredIs s n e) (λ r. r.place) (λ k r q is is_. redeclares-one s tells e k.0.0 k.0.1 r.place q.place is.0 is_.0) (digest_redeclared_explicit x.explicit) y.redeclared rs are.redeclared_are found)
-    ∙ ap (λ ps. map (λ r. r.place) rs ++ ps) (derived-one s tells entities e (digest_redeclared_names x.derived) y.derived ds are.derived_are derived)
+    ap (λ ps. ps ++ y.derived) (AllZip-one_mapped (DigestRedeclaredIs s n e) (DigestRedeclaredIs s n e) (λ r. r.place)
+    (λ k r q is is_. redeclares-one s tells e k.0.0 k.0.1 r.place q.place is.0 is_.0) (digest_redeclared_explicit x.explicit)
+    y.redeclared rs are.redeclared_are found)
+    ∙ ap (λ ps. map (λ r. r.place) rs ++ ps) (derived-one s tells entities e (digest_redeclared_names x.derived) y.derived ds
+    are.derived_are derived)
 
 -- the places of the code's redeclarations
 abbrev pub code_places : List Redeclared → List code.Place → List Place
@@ -41,21 +46,29 @@ code-places : (rs : List Redeclared) (ds : List code.Place) → places_in (map r
 code-places rs ds = ap (λ ps. ps ++ map place ds) (map-twice redeclared (λ r. r.place) rs)
 
 -- a refusal handed on by `?`
-pub found-refused : (s : Schema) (n : Named) (entities : List EntityDigest) (e : ℕ) (x : EntityDigest) (less : Type 0) (fault : SchemaFault) (result : Result Redeclarations SchemaFault) → IsErr result → IsErrAnd result (λ found. found ≡ fault)
-    → ((y : Entity) → RedeclarationsAre s n entities e x y → less) → RefusalShows fault (less → ⊥) → RedeclarationsFound s n entities e x result
+pub found-refused : (s : Schema) (n : Named) (entities : List EntityDigest) (e : ℕ) (x : EntityDigest) (less : Type 0) (fault : SchemaFault)
+    (result : Result Redeclarations SchemaFault) → IsErr result → IsErrAnd result (λ found. found ≡ fault)
+    → ((y : Entity) → RedeclarationsAre s n entities e x y → less) → RefusalShows fault (less → ⊥)
+    → RedeclarationsFound s n entities e x result
 found-refused s n entities e x less fault (Ok u) is_err is so refused = cc
 found-refused s n entities e x less fault (Err found) is_err is so refused = λ other y are. refused (λ h. other (is ∙ h)) (so y are)
 
 -- where places are told apart, one place twice is twice in all
-pub distinct-all : (s : Schema) → HasDistinctEntities s → HasDistinctAttributes s → (n : Named) (entities : List EntityDigest) (e : ℕ) (x : EntityDigest) (rs : List Redeclared) (ds : List code.Place)
-    → AllZip (DigestRedeclaredIs s n e) (digest_redeclared_explicit x.explicit) (map redeclared rs) → DigestDerivedAre s entities e (digest_redeclared_names x.derived) (map place ds)
+pub distinct-all : (s : Schema) → HasDistinctEntities s → HasDistinctAttributes s
+    → (n : Named) (entities : List EntityDigest) (e : ℕ) (x : EntityDigest) (rs : List Redeclared) (ds : List code.Place)
+    → AllZip (DigestRedeclaredIs s n e) (digest_redeclared_explicit x.explicit) (map redeclared rs)
+    → DigestDerivedAre s entities e (digest_redeclared_names x.derived) (map place ds)
     → (y : Entity) → RedeclarationsAre s n entities e x y → IsDistinct same_place (code_places rs ds)
 distinct-all s entities_distinct attributes_distinct n entities e x rs ds found derived y are =
     let tells : TellsPlaces s = record { one_entity = entities_distinct; one_own = attributes_distinct } in
-    subst (IsDistinct same_place) (places-one s tells n entities e x (map redeclared rs) (map place ds) found derived y are ∙ code-places rs ds) are.places_distinct
+    subst (IsDistinct same_place) (places-one s tells n entities e x (map redeclared rs) (map place ds) found derived y are
+    ∙ code-places rs ds) are.places_distinct
 
-pub all-found : (s : Schema) (n : Named) (entities : List EntityDigest) (e : ℕ) (x : EntityDigest) (rs : std.Vec Redeclared Global) (ds : std.Vec code.Place Global)
-    → AllZip (DigestRedeclaredIs s n e) (digest_redeclared_explicit x.explicit) (map redeclared rs.items) → DigestDerivedAre s entities e (digest_redeclared_names x.derived) (map place ds.items) → IsDistinct same_place (code_places rs.items ds.items)
+pub all-found : (s : Schema) (n : Named) (entities : List EntityDigest) (e : ℕ) (x : EntityDigest) (rs : std.Vec Redeclared Global)
+    (ds : std.Vec code.Place Global)
+    → AllZip (DigestRedeclaredIs s n e) (digest_redeclared_explicit x.explicit) (map redeclared rs.items)
+    → DigestDerivedAre s entities e (digest_redeclared_names x.derived) (map place ds.items)
+    → IsDistinct same_place (code_places rs.items ds.items)
     → RedeclarationsFound s n entities e x (Ok (record { redeclared = rs; derived = ds }))
 all-found s n entities e x rs ds found derived distinct y redeclared_is derived_is =
     let P : List pure.Redeclared → Type 0 = λ qs. AllZip (DigestRedeclaredIs s n e) (digest_redeclared_explicit x.explicit) qs in
@@ -64,5 +77,6 @@ all-found s n entities e x rs ds found derived distinct y redeclared_is derived_
     record {
       redeclared_are = subst P (sym redeclared_is) found;
       derived_are = subst (DigestDerivedAre s entities e (digest_redeclared_names x.derived)) (sym derived_is) derived;
-      places_distinct = subst R (sym derived_is) (subst Q (sym redeclared_is) (subst (IsDistinct same_place) (sym (code-places rs.items ds.items)) distinct));
+      places_distinct = subst R (sym derived_is) (subst Q (sym redeclared_is)
+          (subst (IsDistinct same_place) (sym (code-places rs.items ds.items)) distinct));
     }

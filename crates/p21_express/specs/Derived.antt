@@ -25,11 +25,14 @@ FindsDerivedPlace s entities e name (Ok None) = DigestDerivedAre s entities e (n
 FindsDerivedPlace s entities e name (Err fault) = RefusalShows fault (HaveNoDerivedPlaces s entities e (name ∷ []))
 
 -- the places of all, or there are none
-abbrev pub FindsDerivedPlaces : {Z : Type 0} → Schema → List EntityDigest → ℕ → List (List ℕ × List ℕ) → Result (Vec Place Z) SchemaFault → Type 0
+abbrev pub FindsDerivedPlaces : {Z : Type 0} → Schema → List EntityDigest → ℕ → List (List ℕ × List ℕ) → Result (Vec Place Z) SchemaFault
+    → Type 0
 FindsDerivedPlaces s entities e names (Ok found) = DigestDerivedAre s entities e names (map place_of found.items)
 FindsDerivedPlaces s entities e names (Err fault) = RefusalShows fault (HaveNoDerivedPlaces s entities e names)
 
 -- the same, behind those that are there
-abbrev pub AddsDerivedPlaces : {Z : Type 0} → Schema → List EntityDigest → ℕ → List (List ℕ × List ℕ) → Result (Unit {0}) SchemaFault → Vec Place Z → Vec Place Z → Type 0
-AddsDerivedPlaces s entities e names (Ok u) old new = (places : List pure.Place) × (map place_of new.items ≡ map place_of old.items ++ places) × DigestDerivedAre s entities e names places
+abbrev pub AddsDerivedPlaces : {Z : Type 0} → Schema → List EntityDigest → ℕ → List (List ℕ × List ℕ) → Result (Unit {0}) SchemaFault
+    → Vec Place Z → Vec Place Z → Type 0
+AddsDerivedPlaces s entities e names (Ok u) old new = (places : List pure.Place)
+    × (map place_of new.items ≡ map place_of old.items ++ places) × DigestDerivedAre s entities e names places
 AddsDerivedPlaces s entities e names (Err fault) old new = RefusalShows fault (HaveNoDerivedPlaces s entities e names)

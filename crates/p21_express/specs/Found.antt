@@ -17,5 +17,6 @@ HasDistinctAttributes s = (e : ℕ) (name : List ℕ) (p q : Place) → IsOwnPla
 
 -- an entity with these redeclarations redeclares what its declaration says, or no entity does
 abbrev pub RedeclarationsFound : Schema → Named → List EntityDigest → ℕ → EntityDigest → Result Redeclarations SchemaFault → Type 0
-RedeclarationsFound s n entities e x (Ok found) = (y : Entity) → y.redeclared ≡ map redeclared found.redeclared.items → y.derived ≡ map place found.derived.items → RedeclarationsAre s n entities e x y
+RedeclarationsFound s n entities e x (Ok found) = (y : Entity) → y.redeclared ≡ map redeclared found.redeclared.items
+    → y.derived ≡ map place found.derived.items → RedeclarationsAre s n entities e x y
 RedeclarationsFound s n entities e x (Err fault) = RefusalShows fault ((y : Entity) → RedeclarationsAre s n entities e x y → ⊥)

@@ -34,7 +34,8 @@ pub record AreBlank (named : NamedOwners) : Type 0 where
 -- the first so many entities are there at all names of attributes that they declare themselves
 pub record OwnersUpTo (s : Schema) (count : ℕ) (named : NamedOwners) : Type 0 where
   pub table_is : IsTable named
-  pub all : (k e : ℕ) (name : List ℕ) (place : Place) → slice_get (listed named) k ≡ Some name → e < count → IsOwnPlace s e name place → Contains (owners_of named k) e
+  pub all : (k e : ℕ) (name : List ℕ) (place : Place) → slice_get (listed named) k ≡ Some name → e < count → IsOwnPlace s e name place
+      → Contains (owners_of named k) e
   pub within : (k e : ℕ) → Contains (owners_of named k) e → e < length s.entities
 
 abbrev pub AreOwnersOf : Schema → NamedOwners → Type 0
@@ -57,6 +58,7 @@ pub record AddsOwner (e : ℕ) (name : List ℕ) (before after : NamedOwners) : 
 pub record AddsOwners (s : Schema) (e count : ℕ) (before after : NamedOwners) : Type 0 where
   pub names_are : listed after ≡ listed before
   pub size : length after.owners.items ≡ length before.owners.items
-  pub here : (k : ℕ) (name : List ℕ) (place : Place) → slice_get (listed before) k ≡ Some name → IsOwnPlace s e name place → place.index < count → Contains (owners_of after k) e
+  pub here : (k : ℕ) (name : List ℕ) (place : Place) → slice_get (listed before) k ≡ Some name → IsOwnPlace s e name place
+      → place.index < count → Contains (owners_of after k) e
   pub kept : (k f : ℕ) → Contains (owners_of before k) f → Contains (owners_of after k) f
   pub within : (k f : ℕ) → Contains (owners_of after k) f → Contains (owners_of before k) f ⊎ (f ≡ e)

@@ -9,7 +9,9 @@ use Rattle.p21_express.specs.declared.lookups.RedeclarationTarget.TheVariants.{P
 
 -- the place that the supertype declares itself, else the only one of that name in its order
 abbrev pub IsPlaceIn : Schema → ℕ → List ℕ → pure.Place → Type 0
-IsPlaceIn s sup name place = IsOwnPlace s sup name place ⊎ (((other : pure.Place) → ¬ IsOwnPlace s sup name other) × IsPlaceOf s sup name place × ((other : pure.Place) → IsPlaceOf s sup name other → other ≡ place))
+IsPlaceIn s sup name place = IsOwnPlace s sup name place
+    ⊎ (((other : pure.Place) → ¬ IsOwnPlace s sup name other) × IsPlaceOf s sup name place
+    × ((other : pure.Place) → IsPlaceOf s sup name other → other ≡ place))
 
 -- it has this place, or none of the name, or several
 abbrev pub IsTargetIn : Schema → ℕ → List ℕ → RedeclarationTarget → Type 0
@@ -28,4 +30,5 @@ pub record IsMissing (s : Schema) (e : ℕ) (supertype name : List ℕ) (sup : �
 abbrev pub IsTargetOf : Schema → ℕ → List ℕ → List ℕ → RedeclarationTarget → Type 0
 IsTargetOf s e supertype name (Place place) = RedeclaresPlace s e supertype name (place_of place)
 IsTargetOf s e supertype name (Missing sup) = IsMissing s e supertype name sup.0
-IsTargetOf s e supertype name Unclear = ((place : pure.Place) → RedeclaresPlace s e supertype name place → ⊥) × ((sup : ℕ) → IsProperSupertype s e sup supertype → HasNoPlace s sup name → ⊥)
+IsTargetOf s e supertype name Unclear = ((place : pure.Place) → RedeclaresPlace s e supertype name place → ⊥)
+    × ((sup : ℕ) → IsProperSupertype s e sup supertype → HasNoPlace s sup name → ⊥)

@@ -13,14 +13,14 @@ ghost use Rattle.p21_express_graph.specs.Meaning.{place as place_of};
 use crate::named_owners::NamedOwners;
 use p21_express_graph::{EntityId, Names, Place};
 use p21_express_syntax::Entity;
-use p21_schema::Schema;
+use p21_schema::Hierarchy;
 use p21_values::NoMemory;
 use std::alloc::Global;
 
 /// So many attributes of an entity are looked at one by one.
 const MOST_ATTRIBUTES_IN_TURN: u32 = 16;
 
-/// For each entity of a schema the names of the attributes that it declares itself, where these are many; and for each name
+/// For each entity of a hierarchy the names of the attributes that it declares itself, where these are many; and for each name
 /// that is redeclared the entities that declare an attribute of it.
 #[derive(Drop)]
 pub(crate) struct AttributeNames {
@@ -31,54 +31,67 @@ pub(crate) struct AttributeNames {
 impl AttributeNames {
     pub(crate) fn of(
         alloc: Global,
-        schema: &Schema,
+        hierarchy: &Hierarchy,
         declared: &[Entity],
     ) -> Result<AttributeNames, NoMemory>
-        requires { HasDistinctAttributes schema.now }
-        ensures { IfOk result (AreNamesOf schema.now) }
+        requires { HasDistinctAttributes hierarchy.now }
+        ensures { IfOk result (AreNamesOf hierarchy.now) }
     {
-        schema.holds_together();
-        let mut of_each = Vec::with_capacity(alloc, schema.entities())?;
-        for number in 0..schema.entities() {
-            let names = many_names(alloc, schema, EntityId(number as u32))?;
+        hierarchy.holds_together();
+        let mut of_each = Vec::with_capacity(alloc, hierarchy.entities())?;
+        for number in 0..hierarchy.entities() {
+            let names = many_names(alloc, hierarchy, EntityId(number as u32))?;
             of_each.push(names)?;
         }
-        let owners = NamedOwners::of(alloc, schema, declared)?;
+        let owners = NamedOwners::of(alloc, hierarchy, declared)?;
         Ok(AttributeNames { of_each, owners })
     }
 
     /// The place of this name, in upper case, that an entity declares itself.
-    pub(crate) fn own_place(&self, schema: &Schema, entity: EntityId, name: &[u8]) -> Option<Place>
-        requires names { AreNamesOf schema.now self.now }
-        requires entity { IsEntity schema.now entity.0 }
-        ensures { MatchOption result ((place : pure.Place) → IsOwnPlace schema.now entity.0 name.now place → ⊥) (λ place. IsOwnPlace schema.now entity.0 name.now (place_of place)) }
+    pub(crate) fn own_place(
+        &self,
+        hierarchy: &Hierarchy,
+        entity: EntityId,
+        name: &[u8],
+    ) -> Option<Place>
+        requires names { AreNamesOf hierarchy.now self.now }
+        requires entity { IsEntity hierarchy.now entity.0 }
+        ensures { MatchOption result ((place : pure.Place) → IsOwnPlace hierarchy.now entity.0 name.now place → ⊥)
+            (λ place. IsOwnPlace hierarchy.now entity.0 name.now (place_of place)) }
     {
         match self.of_each.get(entity.0 as usize) {
-            Some(kept) => kept_place(schema, entity, kept, name),
-            None => listed_place(schema, entity, name),
+            Some(kept) => kept_place(hierarchy, entity, kept, name),
+            None => listed_place(hierarchy, entity, name),
         }
     }
 }
 
 /// The same, where these names are kept.
-fn kept_place(schema: &Schema, entity: EntityId, kept: &Option<Names>, name: &[u8]) -> Option<Place>
-    requires kept { IsKept schema.now entity.0 kept.now }
-    requires entity { IsEntity schema.now entity.0 }
-    ensures { MatchOption result ((place : pure.Place) → IsOwnPlace schema.now entity.0 name.now place → ⊥) (λ place. IsOwnPlace schema.now entity.0 name.now (place_of place)) }
+fn kept_place(
+    hierarchy: &Hierarchy,
+    entity: EntityId,
+    kept: &Option<Names>,
+    name: &[u8],
+) -> Option<Place>
+    requires kept { IsKept hierarchy.now entity.0 kept.now }
+    requires entity { IsEntity hierarchy.now entity.0 }
+    ensures { MatchOption result ((place : pure.Place) → IsOwnPlace hierarchy.now entity.0 name.now place → ⊥)
+        (λ place. IsOwnPlace hierarchy.now entity.0 name.now (place_of place)) }
 {
     match kept {
-        Some(names) => place_among(schema, entity, names, name),
-        None => listed_place(schema, entity, name),
+        Some(names) => place_among(hierarchy, entity, names, name),
+        None => listed_place(hierarchy, entity, name),
     }
 }
 
 /// The same by the names of all attributes.
-fn place_among(schema: &Schema, entity: EntityId, names: &Names, name: &[u8]) -> Option<Place>
-    requires names { names.now ≡ own_names schema.now entity.0 }
-    requires entity { IsEntity schema.now entity.0 }
-    ensures { MatchOption result ((place : pure.Place) → IsOwnPlace schema.now entity.0 name.now place → ⊥) (λ place. IsOwnPlace schema.now entity.0 name.now (place_of place)) }
+fn place_among(hierarchy: &Hierarchy, entity: EntityId, names: &Names, name: &[u8]) -> Option<Place>
+    requires names { names.now ≡ own_names hierarchy.now entity.0 }
+    requires entity { IsEntity hierarchy.now entity.0 }
+    ensures { MatchOption result ((place : pure.Place) → IsOwnPlace hierarchy.now entity.0 name.now place → ⊥)
+        (λ place. IsOwnPlace hierarchy.now entity.0 name.now (place_of place)) }
 {
-    schema.holds_together();
+    hierarchy.holds_together();
     match names.position(name) {
         Some(at) => Some(Place {
             entity,
@@ -89,14 +102,15 @@ fn place_among(schema: &Schema, entity: EntityId, names: &Names, name: &[u8]) ->
 }
 
 /// The same, one attribute after another.
-fn listed_place(schema: &Schema, entity: EntityId, name: &[u8]) -> Option<Place>
-    requires { IsEntity schema.now entity.0 }
-    ensures { MatchOption result ((place : pure.Place) → IsOwnPlace schema.now entity.0 name.now place → ⊥) (λ place. IsOwnPlace schema.now entity.0 name.now (place_of place)) }
+fn listed_place(hierarchy: &Hierarchy, entity: EntityId, name: &[u8]) -> Option<Place>
+    requires { IsEntity hierarchy.now entity.0 }
+    ensures { MatchOption result ((place : pure.Place) → IsOwnPlace hierarchy.now entity.0 name.now place → ⊥)
+        (λ place. IsOwnPlace hierarchy.now entity.0 name.now (place_of place)) }
 {
-    let count = schema.attribute_count(entity);
+    let count = hierarchy.attribute_count(entity);
     for index in 0..count {
         let place = Place { entity, index };
-        if schema.place_name(place) == name {
+        if hierarchy.place_name(place) == name {
             return Some(place);
         }
     }
@@ -104,24 +118,32 @@ fn listed_place(schema: &Schema, entity: EntityId, name: &[u8]) -> Option<Place>
 }
 
 /// The names of an entity's attributes, where these are many.
-fn many_names(alloc: Global, schema: &Schema, entity: EntityId) -> Result<Option<Names>, NoMemory>
-    requires { IsEntity schema.now entity.0 }
-    ensures { IfOk result (IsKept schema.now entity.0) }
+fn many_names(
+    alloc: Global,
+    hierarchy: &Hierarchy,
+    entity: EntityId,
+) -> Result<Option<Names>, NoMemory>
+    requires { IsEntity hierarchy.now entity.0 }
+    ensures { IfOk result (IsKept hierarchy.now entity.0) }
 {
-    if schema.attribute_count(entity) <= MOST_ATTRIBUTES_IN_TURN {
+    if hierarchy.attribute_count(entity) <= MOST_ATTRIBUTES_IN_TURN {
         return Ok(None);
     }
-    all_names(alloc, schema, entity)
+    all_names(alloc, hierarchy, entity)
 }
 
 /// The names of an entity's attributes.
-fn all_names(alloc: Global, schema: &Schema, entity: EntityId) -> Result<Option<Names>, NoMemory>
-    requires { IsEntity schema.now entity.0 }
-    ensures { IfOk result (IsKept schema.now entity.0) }
+fn all_names(
+    alloc: Global,
+    hierarchy: &Hierarchy,
+    entity: EntityId,
+) -> Result<Option<Names>, NoMemory>
+    requires { IsEntity hierarchy.now entity.0 }
+    ensures { IfOk result (IsKept hierarchy.now entity.0) }
 {
     let mut names = Vec::new(alloc);
-    for index in 0..schema.attribute_count(entity) {
-        names.push(schema.place_name(Place { entity, index }))?;
+    for index in 0..hierarchy.attribute_count(entity) {
+        names.push(hierarchy.place_name(Place { entity, index }))?;
     }
     Names::of(alloc, &names)
 }

@@ -11,7 +11,7 @@ use crate::lookups::{RedeclarationTarget, redeclared_place};
 use p21_express_graph::{EntityId, Place};
 use p21_express_outline::SchemaFault;
 use p21_express_syntax::{AttributeName, Entity};
-use p21_schema::Schema;
+use p21_schema::Hierarchy;
 use std::alloc::Global;
 
 /// Whether an attribute is a new one of this name.
@@ -48,12 +48,12 @@ fn derives_itself(declared: &[Entity], entity: EntityId, name: &[u8]) -> bool
 }
 
 /// Whether an entity or a supertype of it derives a new attribute of this name.
-fn derives_name(schema: &Schema, declared: &[Entity], entity: EntityId, name: &[u8]) -> bool
-    requires { IsEntity schema.now entity.0 }
-    ensures { IsTrue result ↔ DigestDerivesName schema.now (map entity_view declared.now) entity.0 name.now }
+fn derives_name(hierarchy: &Hierarchy, declared: &[Entity], entity: EntityId, name: &[u8]) -> bool
+    requires { IsEntity hierarchy.now entity.0 }
+    ensures { IsTrue result ↔ DigestDerivesName hierarchy.now (map entity_view declared.now) entity.0 name.now }
 {
-    schema.holds_together();
-    for owner in schema.order_of(entity) {
+    hierarchy.holds_together();
+    for owner in hierarchy.order_of(entity) {
         if derives_itself(declared, *owner, name) {
             return true;
         }
@@ -63,21 +63,21 @@ fn derives_name(schema: &Schema, declared: &[Entity], entity: EntityId, name: &[
 
 /// The place that a redeclaration in a DERIVE clause stands for; none where it redeclares a derived attribute.
 fn derived_place(
-    schema: &Schema,
+    hierarchy: &Hierarchy,
     names: &AttributeNames,
     entity: EntityId,
     declared: &[Entity],
     supertype: &[u8],
     name: &[u8],
 ) -> Result<Option<Place>, SchemaFault>
-    requires names { AreNamesOf schema.now names.now }
-    requires entity { IsEntity schema.now entity.0 }
-    ensures { FindsDerivedPlace schema.now (map entity_view declared.now) entity.0 (supertype.now, name.now) result }
+    requires names { AreNamesOf hierarchy.now names.now }
+    requires entity { IsEntity hierarchy.now entity.0 }
+    ensures { FindsDerivedPlace hierarchy.now (map entity_view declared.now) entity.0 (supertype.now, name.now) result }
 {
-    match redeclared_place(schema, names, entity, supertype, name) {
+    match redeclared_place(hierarchy, names, entity, supertype, name) {
         RedeclarationTarget::Place(place) => Ok(Some(place)),
         RedeclarationTarget::Missing(sup) => {
-            if derives_name(schema, declared, sup, name) {
+            if derives_name(hierarchy, declared, sup, name) {
                 Ok(None)
             } else {
                 Err(SchemaFault::RedeclaredPlace)
@@ -89,16 +89,17 @@ fn derived_place(
 
 /// Adds the place of an attribute of a DERIVE clause, if it redeclares one.
 fn add_derived(
-    schema: &Schema,
+    hierarchy: &Hierarchy,
     names: &AttributeNames,
     entity: EntityId,
     declared: &[Entity],
     attribute: &AttributeName,
     out: &mut Vec<Place>,
 ) -> Result<(), SchemaFault>
-    requires names { AreNamesOf schema.now names.now }
-    requires entity { IsEntity schema.now entity.0 }
-    ensures { AddsDerivedPlaces schema.now (map entity_view declared.now) entity.0 (digest_redeclared_names (attribute.now ∷ [])) result out.old out.new }
+    requires names { AreNamesOf hierarchy.now names.now }
+    requires entity { IsEntity hierarchy.now entity.0 }
+    ensures { AddsDerivedPlaces hierarchy.now (map entity_view declared.now) entity.0 (digest_redeclared_names (attribute.now ∷ [])) result
+        out.old out.new }
 {
     match attribute {
         AttributeName::Own(_name) => Ok(()),
@@ -107,7 +108,7 @@ fn add_derived(
             name,
         } => {
             match derived_place(
-                schema,
+                hierarchy,
                 names,
                 entity,
                 declared,
@@ -132,20 +133,20 @@ fn add_derived(
 /// `RedeclaredPlace` for a redeclaration of several places, or of no place and no derived attribute; `NoMemory`.
 pub(crate) fn derived_of(
     alloc: Global,
-    schema: &Schema,
+    hierarchy: &Hierarchy,
     names: &AttributeNames,
     entity: EntityId,
     declared: &[Entity],
     derived: &[AttributeName],
 ) -> Result<Vec<Place>, SchemaFault>
-    requires names { AreNamesOf schema.now names.now }
-    requires entity { IsEntity schema.now entity.0 }
-    ensures { FindsDerivedPlaces schema.now (map entity_view declared.now) entity.0 (digest_redeclared_names derived.now) result }
+    requires names { AreNamesOf hierarchy.now names.now }
+    requires entity { IsEntity hierarchy.now entity.0 }
+    ensures { FindsDerivedPlaces hierarchy.now (map entity_view declared.now) entity.0 (digest_redeclared_names derived.now) result }
 {
     let mut found = Vec::new(alloc);
     for name in derived {
         let name: &AttributeName = name;
-        add_derived(schema, names, entity, declared, name, &mut found)?;
+        add_derived(hierarchy, names, entity, declared, name, &mut found)?;
     }
     Ok(found)
 }

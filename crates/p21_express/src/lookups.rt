@@ -10,7 +10,7 @@ ghost use Rattle.p21_express_graph.specs.Meaning.{place as place_of};
 
 use crate::attribute_names::AttributeNames;
 use p21_express_graph::{EntityId, Place};
-use p21_schema::Schema;
+use p21_schema::Hierarchy;
 
 /// What `SELF\supertype.name` stands for in an entity (ISO 10303-11, Attribute redeclaration).
 #[derive(Clone, Copy, Debug, Drop)]
@@ -24,17 +24,18 @@ pub(crate) enum RedeclarationTarget {
 }
 
 /// The proper supertype of this name, in upper case.
-fn proper_supertype(schema: &Schema, entity: EntityId, name: &[u8]) -> Option<EntityId>
-    requires { IsEntity schema.now entity.0 }
-    ensures { MatchOption result ((sup : ℕ) → IsProperSupertype schema.now entity.0 sup name.now → ⊥) (λ sup. IsProperSupertype schema.now entity.0 sup.0 name.now) }
+fn proper_supertype(hierarchy: &Hierarchy, entity: EntityId, name: &[u8]) -> Option<EntityId>
+    requires { IsEntity hierarchy.now entity.0 }
+    ensures { MatchOption result ((sup : ℕ) → IsProperSupertype hierarchy.now entity.0 sup name.now → ⊥)
+        (λ sup. IsProperSupertype hierarchy.now entity.0 sup.0 name.now) }
 {
-    schema.well_formed();
-    match schema.entity(name) {
+    hierarchy.well_formed();
+    match hierarchy.entity(name) {
         Some(sup) => {
             if sup.0 == entity.0 {
                 return None;
             }
-            if schema.is_a(entity, sup) {
+            if hierarchy.is_a(entity, sup) {
                 Some(sup)
             } else {
                 None
@@ -46,18 +47,18 @@ fn proper_supertype(schema: &Schema, entity: EntityId, name: &[u8]) -> Option<En
 
 /// Entities among which are all of the order of an entity that declare an attribute of this name.
 fn candidates<'a>(
-    schema: &'a Schema,
+    hierarchy: &'a Hierarchy,
     names: &'a AttributeNames,
     entity: EntityId,
     name: &[u8],
 ) -> &'a [EntityId]
-    requires names { AreNamesOf schema.now names.now }
-    requires entity { IsEntity schema.now entity.0 }
-    ensures { AreCandidates schema.now entity.0 name.now (numbers result.now) }
+    requires names { AreNamesOf hierarchy.now names.now }
+    requires entity { IsEntity hierarchy.now entity.0 }
+    ensures { AreCandidates hierarchy.now entity.0 name.now (numbers result.now) }
 {
-    schema.holds_together();
-    let order = schema.order_of(entity);
-    match names.owners.find(schema, name) {
+    hierarchy.holds_together();
+    let order = hierarchy.order_of(entity);
+    match names.owners.find(hierarchy, name) {
         Some(owners) => {
             if owners.len() < order.len() {
                 owners
@@ -71,19 +72,20 @@ fn candidates<'a>(
 
 /// The place of this name that an owner declares itself, if that is the entity or a supertype of it.
 fn place_above(
-    schema: &Schema,
+    hierarchy: &Hierarchy,
     names: &AttributeNames,
     entity: EntityId,
     owner: EntityId,
     name: &[u8],
 ) -> Option<Place>
-    requires names { AreNamesOf schema.now names.now }
-    requires entity { IsEntity schema.now entity.0 }
-    requires owner { IsEntity schema.now owner.0 }
-    ensures { MatchOption result ((place : pure.Place) → IsPlaceAbove schema.now entity.0 owner.0 name.now place → ⊥) (λ place. IsPlaceAbove schema.now entity.0 owner.0 name.now (place_of place)) }
+    requires names { AreNamesOf hierarchy.now names.now }
+    requires entity { IsEntity hierarchy.now entity.0 }
+    requires owner { IsEntity hierarchy.now owner.0 }
+    ensures { MatchOption result ((place : pure.Place) → IsPlaceAbove hierarchy.now entity.0 owner.0 name.now place → ⊥)
+        (λ place. IsPlaceAbove hierarchy.now entity.0 owner.0 name.now (place_of place)) }
 {
-    if schema.is_a(entity, owner) {
-        names.own_place(schema, owner, name)
+    if hierarchy.is_a(entity, owner) {
+        names.own_place(hierarchy, owner, name)
     } else {
         None
     }
@@ -91,18 +93,19 @@ fn place_above(
 
 /// A place of this name in the order of the entity.
 fn first_place(
-    schema: &Schema,
+    hierarchy: &Hierarchy,
     names: &AttributeNames,
     entity: EntityId,
     name: &[u8],
 ) -> Option<Place>
-    requires names { AreNamesOf schema.now names.now }
-    requires entity { IsEntity schema.now entity.0 }
-    ensures { MatchOption result ((place : pure.Place) → IsPlaceOf schema.now entity.0 name.now place → ⊥) (λ place. IsPlaceOf schema.now entity.0 name.now (place_of place)) }
+    requires names { AreNamesOf hierarchy.now names.now }
+    requires entity { IsEntity hierarchy.now entity.0 }
+    ensures { MatchOption result ((place : pure.Place) → IsPlaceOf hierarchy.now entity.0 name.now place → ⊥)
+        (λ place. IsPlaceOf hierarchy.now entity.0 name.now (place_of place)) }
 {
-    schema.holds_together();
-    for owner in candidates(schema, names, entity, name) {
-        match place_above(schema, names, entity, *owner, name) {
+    hierarchy.holds_together();
+    for owner in candidates(hierarchy, names, entity, name) {
+        match place_above(hierarchy, names, entity, *owner, name) {
             Some(place) => return Some(place),
             None => {}
         }
@@ -112,19 +115,19 @@ fn first_place(
 
 /// Whether an owner that is the entity or a supertype of it declares another place of this name itself.
 fn has_other_above(
-    schema: &Schema,
+    hierarchy: &Hierarchy,
     names: &AttributeNames,
     entity: EntityId,
     owner: EntityId,
     name: &[u8],
     first: Place,
 ) -> bool
-    requires names { AreNamesOf schema.now names.now }
-    requires entity { IsEntity schema.now entity.0 }
-    requires owner { IsEntity schema.now owner.0 }
-    ensures { IsTrue result ↔ ((place : pure.Place) × IsPlaceAbove schema.now entity.0 owner.0 name.now place × (place ≢ place_of first)) }
+    requires names { AreNamesOf hierarchy.now names.now }
+    requires entity { IsEntity hierarchy.now entity.0 }
+    requires owner { IsEntity hierarchy.now owner.0 }
+    ensures { IsTrue result ↔ ((place : pure.Place) × IsPlaceAbove hierarchy.now entity.0 owner.0 name.now place × (place ≢ place_of first)) }
 {
-    match place_above(schema, names, entity, owner, name) {
+    match place_above(hierarchy, names, entity, owner, name) {
         Some(place) => !is_same(place, first),
         None => false,
     }
@@ -132,19 +135,19 @@ fn has_other_above(
 
 /// Whether there is another place of this name in the order of the entity.
 fn has_other(
-    schema: &Schema,
+    hierarchy: &Hierarchy,
     names: &AttributeNames,
     entity: EntityId,
     name: &[u8],
     first: Place,
 ) -> bool
-    requires names { AreNamesOf schema.now names.now }
-    requires entity { IsEntity schema.now entity.0 }
-    ensures { IsTrue result ↔ ((place : pure.Place) × IsPlaceOf schema.now entity.0 name.now place × (place ≢ place_of first)) }
+    requires names { AreNamesOf hierarchy.now names.now }
+    requires entity { IsEntity hierarchy.now entity.0 }
+    ensures { IsTrue result ↔ ((place : pure.Place) × IsPlaceOf hierarchy.now entity.0 name.now place × (place ≢ place_of first)) }
 {
-    schema.holds_together();
-    for owner in candidates(schema, names, entity, name) {
-        if has_other_above(schema, names, entity, *owner, name, first) {
+    hierarchy.holds_together();
+    for owner in candidates(hierarchy, names, entity, name) {
+        if has_other_above(hierarchy, names, entity, *owner, name, first) {
             return true;
         }
     }
@@ -160,22 +163,22 @@ pub(crate) fn is_same(place: Place, other: Place) -> bool
 
 /// The place of this name that the entity declares itself, else the only one in its order.
 fn place_in(
-    schema: &Schema,
+    hierarchy: &Hierarchy,
     names: &AttributeNames,
     entity: EntityId,
     name: &[u8],
 ) -> RedeclarationTarget
-    requires names { AreNamesOf schema.now names.now }
-    requires entity { IsEntity schema.now entity.0 }
-    ensures { IsTargetIn schema.now entity.0 name.now result }
+    requires names { AreNamesOf hierarchy.now names.now }
+    requires entity { IsEntity hierarchy.now entity.0 }
+    ensures { IsTargetIn hierarchy.now entity.0 name.now result }
 {
-    match names.own_place(schema, entity, name) {
+    match names.own_place(hierarchy, entity, name) {
         Some(own) => return RedeclarationTarget::Place(own),
         None => {}
     }
-    match first_place(schema, names, entity, name) {
+    match first_place(hierarchy, names, entity, name) {
         Some(first) => {
-            if has_other(schema, names, entity, name, first) {
+            if has_other(hierarchy, names, entity, name, first) {
                 RedeclarationTarget::Unclear
             } else {
                 RedeclarationTarget::Place(first)
@@ -188,19 +191,19 @@ fn place_in(
 /// What `SELF\supertype.name` stands for in an entity, with both names in upper case: the place that the proper supertype
 /// declares itself, else the only one of this name in its order.
 pub(crate) fn redeclared_place(
-    schema: &Schema,
+    hierarchy: &Hierarchy,
     names: &AttributeNames,
     entity: EntityId,
     supertype: &[u8],
     name: &[u8],
 ) -> RedeclarationTarget
-    requires names { AreNamesOf schema.now names.now }
-    requires entity { IsEntity schema.now entity.0 }
-    ensures { IsTargetOf schema.now entity.0 supertype.now name.now result }
+    requires names { AreNamesOf hierarchy.now names.now }
+    requires entity { IsEntity hierarchy.now entity.0 }
+    ensures { IsTargetOf hierarchy.now entity.0 supertype.now name.now result }
 {
-    schema.well_formed();
-    match proper_supertype(schema, entity, supertype) {
-        Some(sup) => place_in(schema, names, sup, name),
+    hierarchy.well_formed();
+    match proper_supertype(hierarchy, entity, supertype) {
+        Some(sup) => place_in(hierarchy, names, sup, name),
         None => RedeclarationTarget::Unclear,
     }
 }

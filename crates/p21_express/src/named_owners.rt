@@ -7,7 +7,7 @@ ghost use Rattle.p21_spec_schema.specs.Schema.{attributes_of};
 
 use p21_express_graph::{EntityId, Names, Place};
 use p21_express_syntax::{AttributeName, Entity, ExplicitAttributes};
-use p21_schema::Schema;
+use p21_schema::Hierarchy;
 use p21_values::NoMemory;
 use std::alloc::Global;
 
@@ -22,23 +22,23 @@ impl NamedOwners {
     /// Those of the names that declarations redeclare.
     pub(crate) fn of(
         alloc: Global,
-        schema: &Schema,
+        hierarchy: &Hierarchy,
         declared: &[Entity],
     ) -> Result<NamedOwners, NoMemory>
-        ensures { IfOk result (AreOwnersOf schema.now) }
+        ensures { IfOk result (AreOwnersOf hierarchy.now) }
     {
-        schema.holds_together();
+        hierarchy.holds_together();
         let mut named = NamedOwners::without_owners(alloc, declared)?;
-        for number in 0..schema.entities() {
-            named.add_entity(schema, EntityId(number as u32))?;
+        for number in 0..hierarchy.entities() {
+            named.add_entity(hierarchy, EntityId(number as u32))?;
         }
         Ok(named)
     }
 
     /// The entities that declare an attribute of a name, if it is one of these.
-    pub(crate) fn find(&self, schema: &Schema, name: &[u8]) -> Option<&[EntityId]>
-        requires { AreOwnersOf schema.now self.now }
-        ensures { IfSome result (λ owners. HasOwners schema.now name.now (numbers owners.now)) }
+    pub(crate) fn find(&self, hierarchy: &Hierarchy, name: &[u8]) -> Option<&[EntityId]>
+        requires { AreOwnersOf hierarchy.now self.now }
+        ensures { IfSome result (λ owners. HasOwners hierarchy.now name.now (numbers owners.now)) }
     {
         match self.position(name) {
             Some(at) => Some(self.owners_at(at)),
@@ -76,17 +76,17 @@ impl NamedOwners {
     }
 
     /// Adds an entity at the names of the attributes that it declares itself.
-    fn add_entity(&mut self, schema: &Schema, owner: EntityId) -> Result<(), NoMemory>
-        requires entity { IsEntity schema.now owner.0 }
+    fn add_entity(&mut self, hierarchy: &Hierarchy, owner: EntityId) -> Result<(), NoMemory>
+        requires entity { IsEntity hierarchy.now owner.0 }
         requires table { IsTable self.old }
-        ensures { OnOk result (AddsOwners schema.now owner.0 (length (attributes_of schema.now owner.0)) self.old self.new) }
+        ensures { OnOk result (AddsOwners hierarchy.now owner.0 (length (attributes_of hierarchy.now owner.0)) self.old self.new) }
     {
-        for index in 0..schema.attribute_count(owner) {
+        for index in 0..hierarchy.attribute_count(owner) {
             let place = Place {
                 entity: owner,
                 index,
             };
-            self.add_owner(owner, schema.place_name(place))?;
+            self.add_owner(owner, hierarchy.place_name(place))?;
         }
         Ok(())
     }
@@ -108,7 +108,8 @@ impl NamedOwners {
     fn push_at(&mut self, at: usize, owner: EntityId) -> Result<(), NoMemory>
         requires { at < length self.old.owners.items }
         ensures names { OnOk result (self.new.names ≡ self.old.names) }
-        ensures owners { OnOk result (number_lists self.new.owners.items ≡ slice_set (number_lists self.old.owners.items) at (owners_of self.old at ++ owner.0 ∷ [])) }
+        ensures owners { OnOk result (number_lists self.new.owners.items ≡ slice_set (number_lists self.old.owners.items) at
+            (owners_of self.old at ++ owner.0 ∷ [])) }
     {
         self.owners[at].push(owner)?;
         Ok(())

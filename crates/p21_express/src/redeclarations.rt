@@ -9,10 +9,10 @@ use crate::attribute_names::AttributeNames;
 use crate::derived::derived_of;
 use crate::distinct::check_places;
 use crate::redeclared::redeclared_of;
-use p21_express_graph::{EntityId, Redeclarations};
-use p21_express_outline::{KnownNames, SchemaFault};
+use p21_express_graph::{EntityId, KnownNames, Redeclarations};
+use p21_express_outline::SchemaFault;
 use p21_express_syntax::Entity;
-use p21_schema::Schema;
+use p21_schema::Hierarchy;
 use std::alloc::Global;
 
 /// What an entity redeclares (ISO 10303-11, Attribute redeclaration). `own` is its declaration, one of those of all
@@ -24,7 +24,7 @@ use std::alloc::Global;
 /// declared, `Duplicate` for a place that is redeclared twice, `NoMemory`.
 pub(crate) fn redeclarations_of(
     alloc: Global,
-    schema: &Schema,
+    hierarchy: &Hierarchy,
     names: &AttributeNames,
     known: &KnownNames,
     declared: &[Entity],
@@ -32,13 +32,13 @@ pub(crate) fn redeclarations_of(
     own: &Entity,
 ) -> Result<Redeclarations, SchemaFault>
     requires few { AreFew known.now }
-    requires entity { IsEntity schema.now entity.0 }
-    requires names { AreNamesOf schema.now names.now }
-    ensures { RedeclarationsFound schema.now (names_of known.now) (map entity_view declared.now) entity.0 (entity_view own.now) result }
+    requires entity { IsEntity hierarchy.now entity.0 }
+    requires names { AreNamesOf hierarchy.now names.now }
+    ensures { RedeclarationsFound hierarchy.now (names_of known.now) (map entity_view declared.now) entity.0 (entity_view own.now) result }
 {
-    schema.well_formed();
-    let redeclared = redeclared_of(alloc, schema, names, known, entity, &own.explicit)?;
-    let derived = derived_of(alloc, schema, names, entity, declared, &own.derived)?;
+    hierarchy.well_formed();
+    let redeclared = redeclared_of(alloc, hierarchy, names, known, entity, &own.explicit)?;
+    let derived = derived_of(alloc, hierarchy, names, entity, declared, &own.derived)?;
     check_places(alloc, &redeclared, &derived)?;
     Ok(Redeclarations {
         redeclared,

@@ -14,17 +14,17 @@ ghost use Rattle.p21_express_graph.specs.Meaning.{place as place_of, type_use as
 
 use crate::attribute_names::AttributeNames;
 use crate::lookups::{RedeclarationTarget, redeclared_place};
-use p21_express_graph::{EntityId, Place, Redeclared, TypeUse};
-use p21_express_outline::{KnownNames, SchemaFault, resolve_type};
+use p21_express_graph::{EntityId, KnownNames, Place, Redeclared, TypeUse};
+use p21_express_outline::{SchemaFault, resolve_type};
 use p21_express_syntax::{AttributeName, ExplicitAttributes};
-use p21_schema::Schema;
+use p21_schema::Hierarchy;
 use std::alloc::Global;
 use std::sync::Arc;
 
-/// An entity that redeclares: its schema, in which nothing is redeclared yet, and the names that the text declares.
+/// An entity that redeclares: its hierarchy, in which nothing is redeclared yet, and the names that the text declares.
 #[derive(Drop)]
 struct Redeclarer<'a> {
-    schema: &'a Schema,
+    hierarchy: &'a Hierarchy,
     names: &'a AttributeNames,
     known: &'a KnownNames,
     entity: EntityId,
@@ -32,17 +32,17 @@ struct Redeclarer<'a> {
 
 /// The place that `SELF\supertype.name` redeclares.
 fn named_place(
-    schema: &Schema,
+    hierarchy: &Hierarchy,
     names: &AttributeNames,
     entity: EntityId,
     supertype: &[u8],
     name: &[u8],
 ) -> Result<Place, SchemaFault>
-    requires names { AreNamesOf schema.now names.now }
-    requires entity { IsEntity schema.now entity.0 }
-    ensures { Finds place_of (RedeclaresPlace schema.now entity.0 supertype.now name.now) result }
+    requires names { AreNamesOf hierarchy.now names.now }
+    requires entity { IsEntity hierarchy.now entity.0 }
+    ensures { Finds place_of (RedeclaresPlace hierarchy.now entity.0 supertype.now name.now) result }
 {
-    match redeclared_place(schema, names, entity, supertype, name) {
+    match redeclared_place(hierarchy, names, entity, supertype, name) {
         RedeclarationTarget::Place(place) => Ok(place),
         RedeclarationTarget::Missing(_supertype) => Err(SchemaFault::RedeclaredPlace),
         RedeclarationTarget::Unclear => Err(SchemaFault::RedeclaredPlace),
@@ -70,13 +70,15 @@ fn redeclared_as(
     explicit: &ExplicitAttributes,
     type_use: &Arc<TypeUse, Global>,
 ) -> Result<Redeclared, SchemaFault>
-    requires names { AreNamesOf redeclarer.now.schema.now redeclarer.now.names.now }
-    requires typed { DigestTypeIs (names_of redeclarer.now.known.now) (type_view explicit.now.data_type) (type_use_of (arc_value type_use.now)) }
-    requires entity { IsEntity redeclarer.now.schema.now redeclarer.now.entity.0 }
-    ensures { Finds redeclared_view (DigestRedeclaredIs redeclarer.now.schema.now (names_of redeclarer.now.known.now) redeclarer.now.entity.0 ((supertype.now, name.now), explicit.now.optional, type_view explicit.now.data_type)) result }
+    requires names { AreNamesOf redeclarer.now.hierarchy.now redeclarer.now.names.now }
+    requires typed { DigestTypeIs (names_of redeclarer.now.known.now) (type_view explicit.now.data_type)
+        (type_use_of (arc_value type_use.now)) }
+    requires entity { IsEntity redeclarer.now.hierarchy.now redeclarer.now.entity.0 }
+    ensures { Finds redeclared_view (DigestRedeclaredIs redeclarer.now.hierarchy.now (names_of redeclarer.now.known.now)
+        redeclarer.now.entity.0 ((supertype.now, name.now), explicit.now.optional, type_view explicit.now.data_type)) result }
 {
     let place = named_place(
-        redeclarer.schema,
+        redeclarer.hierarchy,
         redeclarer.names,
         redeclarer.entity,
         supertype,
@@ -97,10 +99,12 @@ fn add_redeclared(
     type_use: &Arc<TypeUse, Global>,
     out: &mut Vec<Redeclared>,
 ) -> Result<(), SchemaFault>
-    requires names { AreNamesOf redeclarer.now.schema.now redeclarer.now.names.now }
-    requires typed { DigestTypeIs (names_of redeclarer.now.known.now) (type_view explicit.now.data_type) (type_use_of (arc_value type_use.now)) }
-    requires entity { IsEntity redeclarer.now.schema.now redeclarer.now.entity.0 }
-    ensures { AddsEach redeclared_view (DigestRedeclaredIs redeclarer.now.schema.now (names_of redeclarer.now.known.now) redeclarer.now.entity.0) (redeclared_by (attributes_view explicit.now) (name.now ∷ [])) result out.old out.new }
+    requires names { AreNamesOf redeclarer.now.hierarchy.now redeclarer.now.names.now }
+    requires typed { DigestTypeIs (names_of redeclarer.now.known.now) (type_view explicit.now.data_type)
+        (type_use_of (arc_value type_use.now)) }
+    requires entity { IsEntity redeclarer.now.hierarchy.now redeclarer.now.entity.0 }
+    ensures { AddsEach redeclared_view (DigestRedeclaredIs redeclarer.now.hierarchy.now (names_of redeclarer.now.known.now)
+        redeclarer.now.entity.0) (redeclared_by (attributes_view explicit.now) (name.now ∷ [])) result out.old out.new }
 {
     match name {
         AttributeName::Own(_name) => Ok(()),
@@ -128,10 +132,12 @@ fn add_sharing(
     type_use: &Arc<TypeUse, Global>,
     out: &mut Vec<Redeclared>,
 ) -> Result<(), SchemaFault>
-    requires names { AreNamesOf redeclarer.now.schema.now redeclarer.now.names.now }
-    requires typed { DigestTypeIs (names_of redeclarer.now.known.now) (type_view explicit.now.data_type) (type_use_of (arc_value type_use.now)) }
-    requires entity { IsEntity redeclarer.now.schema.now redeclarer.now.entity.0 }
-    ensures { AddsEach redeclared_view (DigestRedeclaredIs redeclarer.now.schema.now (names_of redeclarer.now.known.now) redeclarer.now.entity.0) (redeclared_by (attributes_view explicit.now) explicit.now.names.items) result out.old out.new }
+    requires names { AreNamesOf redeclarer.now.hierarchy.now redeclarer.now.names.now }
+    requires typed { DigestTypeIs (names_of redeclarer.now.known.now) (type_view explicit.now.data_type)
+        (type_use_of (arc_value type_use.now)) }
+    requires entity { IsEntity redeclarer.now.hierarchy.now redeclarer.now.entity.0 }
+    ensures { AddsEach redeclared_view (DigestRedeclaredIs redeclarer.now.hierarchy.now (names_of redeclarer.now.known.now)
+        redeclarer.now.entity.0) (redeclared_by (attributes_view explicit.now) explicit.now.names.items) result out.old out.new }
 {
     for name in &explicit.names {
         let name: &AttributeName = name;
@@ -147,10 +153,11 @@ fn add_all_redeclared(
     explicit: &ExplicitAttributes,
     out: &mut Vec<Redeclared>,
 ) -> Result<(), SchemaFault>
-    requires names { AreNamesOf redeclarer.now.schema.now redeclarer.now.names.now }
+    requires names { AreNamesOf redeclarer.now.hierarchy.now redeclarer.now.names.now }
     requires few { AreFew redeclarer.now.known.now }
-    requires entity { IsEntity redeclarer.now.schema.now redeclarer.now.entity.0 }
-    ensures { AddsEach redeclared_view (DigestRedeclaredIs redeclarer.now.schema.now (names_of redeclarer.now.known.now) redeclarer.now.entity.0) (redeclared_by (attributes_view explicit.now) explicit.now.names.items) result out.old out.new }
+    requires entity { IsEntity redeclarer.now.hierarchy.now redeclarer.now.entity.0 }
+    ensures { AddsEach redeclared_view (DigestRedeclaredIs redeclarer.now.hierarchy.now (names_of redeclarer.now.known.now)
+        redeclarer.now.entity.0) (redeclared_by (attributes_view explicit.now) explicit.now.names.items) result out.old out.new }
 {
     if !has_redeclared(&explicit.names) {
         return Ok(());
@@ -168,19 +175,20 @@ fn add_all_redeclared(
 /// declared, `NoMemory`.
 pub(crate) fn redeclared_of(
     alloc: Global,
-    schema: &Schema,
+    hierarchy: &Hierarchy,
     names: &AttributeNames,
     known: &KnownNames,
     entity: EntityId,
     explicit: &[ExplicitAttributes],
 ) -> Result<Vec<Redeclared>, SchemaFault>
-    requires names { AreNamesOf schema.now names.now }
+    requires names { AreNamesOf hierarchy.now names.now }
     requires few { AreFew known.now }
-    requires entity { IsEntity schema.now entity.0 }
-    ensures { FindsEach redeclared_view (DigestRedeclaredIs schema.now (names_of known.now) entity.0) (digest_redeclared_explicit (map attributes_view explicit.now)) result }
+    requires entity { IsEntity hierarchy.now entity.0 }
+    ensures { FindsEach redeclared_view (DigestRedeclaredIs hierarchy.now (names_of known.now) entity.0)
+        (digest_redeclared_explicit (map attributes_view explicit.now)) result }
 {
     let redeclarer = Redeclarer {
-        schema,
+        hierarchy,
         names,
         known,
         entity,

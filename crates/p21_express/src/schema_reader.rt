@@ -1,6 +1,7 @@
-//! Schemas are read in two steps: first all but redeclarations (the outline), which gives orders and places; then
-//! `SELF\e.a` is resolved in it. It is proved that redeclarations resolve alike in a schema and in the same schema
-//! without them. The second step uses the tables of the first, except those that depend on redeclarations.
+//! A schema is read in one pass, in which each table for look-ups is made once: first all but redeclarations (the
+//! outline), then the orders of its entities (its hierarchy), in which `SELF\e.a` is resolved, then the schema, of the
+//! hierarchy with what is redeclared. It is proved that redeclarations resolve alike in a schema and in the same schema
+//! without them.
 //!
 //! A schema is read by `read_schema(alloc, text)`, a function of `p21_express`, and not by `Schema::read`: `Schema`
 //! stands in `p21_schema`, since the crates that only look things up need no reader, and an inherent function
@@ -17,32 +18,33 @@ use crate::checked::checked_outline;
 use crate::first::first_refusal;
 use crate::redeclaring::all_redeclarations;
 use p21_express_graph::Redeclarations;
-use p21_express_outline::{SchemaFault, known_names};
+use p21_express_outline::SchemaFault;
 use p21_express_syntax::{Declarations, read_declarations};
-use p21_schema::Schema;
+use p21_schema::{Hierarchy, Schema};
 use std::alloc::Global;
 
 /// What declarations declare, but that nothing is redeclared.
-fn bare_schema(alloc: Global, declarations: &Declarations) -> Result<Schema, SchemaFault>
+fn bare_hierarchy(alloc: Global, declarations: &Declarations) -> Result<Hierarchy, SchemaFault>
     requires { AreOfText (schema_view declarations.now) }
     ensures { BareRead (schema_view declarations.now) result }
 {
     let parts = checked_outline(alloc, declarations)?;
-    Ok(Schema::without_own_sets(alloc, parts)?)
+    Ok(Hierarchy::new(alloc, parts)?)
 }
 
 /// What the entities of declarations redeclare.
 fn redeclarations(
     alloc: Global,
     declarations: &Declarations,
-    bare: &Schema,
+    bare: &Hierarchy,
 ) -> Result<Vec<Redeclarations>, SchemaFault>
     requires text { AreOfText (schema_view declarations.now) }
     requires bare { IsBareSchema (schema_view declarations.now) bare.now }
-    ensures { FindsEach redeclaring (λ own found. RedeclarationsAre bare.now (digest_names (schema_view declarations.now)) (schema_view declarations.now).entities own.0 own.1 found) (enumerate_from 0 (schema_view declarations.now).entities) result }
+    ensures { FindsEach redeclaring (λ own found. RedeclarationsAre bare.now (digest_names (schema_view declarations.now))
+        (schema_view declarations.now).entities own.0 own.1 found) (enumerate_from 0 (schema_view declarations.now).entities) result }
 {
-    let known = known_names(alloc, declarations)?;
-    all_redeclarations(alloc, bare, &known, &declarations.entities)
+    bare.holds_together();
+    all_redeclarations(alloc, bare, bare.names(), &declarations.entities)
 }
 
 /// The schema that declarations declare.
@@ -50,9 +52,10 @@ fn declared_schema(alloc: Global, declarations: &Declarations) -> Result<Schema,
     requires { AreOfText (schema_view declarations.now) }
     ensures { SchemaDeclared (schema_view declarations.now) result }
 {
-    let bare = bare_schema(alloc, declarations)?;
+    let bare = bare_hierarchy(alloc, declarations)?;
     let found = redeclarations(alloc, declarations, &bare)?;
-    Ok(bare.with_redeclarations(found)?)
+    let hierarchy = bare.with_redeclarations(alloc, found)?;
+    Ok(Schema::new(alloc, hierarchy)?)
 }
 
 /// The schema that a text declares (ISO 10303-11, Schema declaration): a text declares one at most.

@@ -39,5 +39,5 @@ schema_of parts = record {
 
 -- the names of the entities and of the types stand in their order
 pub record AreNamed (parts : SchemaContents) : Type 0 where
-  pub entities_are : parts.entity_names ≡ map (λ x. x.name) (schema_of parts).entities
-  pub types_are : parts.type_names ≡ map (λ x. x.name) (schema_of parts).types
+  pub entities_are : parts.names.entities ≡ map (λ x. x.name) (schema_of parts).entities
+  pub types_are : parts.names.types ≡ map (λ x. x.name) (schema_of parts).types

@@ -73,7 +73,7 @@ fn entity_named(parts: &SchemaContents, name: &[u8]) -> EntityId
     requires among { Contains (map (λ x. x.name) (schema_of parts.now).entities) name.now }
     ensures { EntityNamed (schema_of parts.now) result.0 name.now }
 {
-    match parts.entity_names.position(name) {
+    match parts.names.entities.position(name) {
         Some(at) => EntityId(at as u32),
         None => unreachable!(),
     }

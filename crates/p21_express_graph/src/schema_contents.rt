@@ -49,15 +49,21 @@ pub struct Defined {
     pub kind: TypeKind,
 }
 
+/// The names of the entities and of the types of a schema, each in the order of the declarations.
+#[derive(Drop)]
+pub struct KnownNames {
+    pub entities: Names,
+    pub types: Names,
+}
+
 /// What a schema declares, with all names resolved: its name, its entities and types in the order of their declarations,
 /// and for each ONEOF list the entities of which an instance is one at most. The names of the entities and of the types
 /// stand in their order.
 #[derive(Drop)]
 pub struct SchemaContents {
     pub name: Word,
-    pub entity_names: Names,
+    pub names: KnownNames,
     pub entities: Vec<Entity>,
-    pub type_names: Names,
     pub types: Vec<Defined>,
     pub one_of_lists: Vec<Vec<EntityId>>,
 }

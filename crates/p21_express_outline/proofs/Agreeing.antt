@@ -30,26 +30,31 @@ order_within-agree : (s t : Schema) → Agree s t → (n e : ℕ) → order_with
 order_within-agree s t agree zero e = refl
 order_within-agree s t agree (suc n) e =
     ap (λ es. first_occurrences (flat_map (order_within s n) es ++ e ∷ [])) (agree.supertypes_are e)
-    ∙ ap (λ es. first_occurrences (es ++ e ∷ [])) (flat_map-same (order_within s n) (order_within t n) (supertypes_of t e) (order_within-agree s t agree n))
+    ∙ ap (λ es. first_occurrences (es ++ e ∷ [])) (flat_map-same (order_within s n) (order_within t n) (supertypes_of t e)
+    (order_within-agree s t agree n))
 
 order-agree : (s t : Schema) → Agree s t → (e : ℕ) → order s e ≡ order t e
 order-agree s t agree e = ap (λ n. order_within s n e) agree.count_is ∙ order_within-agree s t agree (length t.entities) e
 
 own_places-agree : (s t : Schema) → Agree s t → (e : ℕ) → own_places s e ≡ own_places t e
-own_places-agree s t agree e = let f : List Attribute → List Place = λ xs. map (λ p. record { entity = e; index = p.0 }) (enumerate_from 0 xs) in ap f (agree.attributes_are e)
+own_places-agree s t agree e = let f : List Attribute
+    → List Place = λ xs. map (λ p. record { entity = e; index = p.0 }) (enumerate_from 0 xs) in ap f (agree.attributes_are e)
 
 places-agree : (s t : Schema) → Agree s t → (e : ℕ) → places s e ≡ places t e
-places-agree s t agree e = ap (flat_map (own_places s)) (order-agree s t agree e) ∙ flat_map-same (own_places s) (own_places t) (order t e) (own_places-agree s t agree)
+places-agree s t agree e = ap (flat_map (own_places s)) (order-agree s t agree e)
+    ∙ flat_map-same (own_places s) (own_places t) (order t e) (own_places-agree s t agree)
 
 attribute-agree : (s t : Schema) → Agree s t → (place : Place) → attribute_at s place ≡ attribute_at t place
 attribute-agree s t agree place = ap (λ xs. slice_get xs place.index) (agree.attributes_are place.entity)
 
-place_named-by : (s t : Schema) (place : Place) (name : List ℕ) → attribute_at s place ≡ attribute_at t place → PlaceNamed s place name → PlaceNamed t place name
+place_named-by : (s t : Schema) (place : Place) (name : List ℕ) → attribute_at s place ≡ attribute_at t place → PlaceNamed s place name
+    → PlaceNamed t place name
 place_named-by s t place name same (a, at, named) = (a, sym same ∙ at, named)
 
 is_a-agree : (s t : Schema) → Agree s t → (e f : ℕ) → IsA s e f → IsA t e f
 is_a-agree s t agree _ _ (itself e) = itself e
-is_a-agree s t agree _ _ (above sub next sup among is) = let P : List ℕ → Type 0 = λ es. Contains es next in above sub next sup (subst P (agree.supertypes_are sub) among) (is_a-agree s t agree next sup is)
+is_a-agree s t agree _ _ (above sub next sup among is) = let P : List ℕ
+    → Type 0 = λ es. Contains es next in above sub next sup (subst P (agree.supertypes_are sub) among) (is_a-agree s t agree next sup is)
 
 proper-agree : (s t : Schema) → Agree s t → (e sup : ℕ) (name : List ℕ) → IsProperSupertype s e sup name → IsProperSupertype t e sup name
 proper-agree s t agree e sup name (named, is_a, other) = (agree.named_are sup name named, is_a-agree s t agree e sup is_a, other)
@@ -70,29 +75,45 @@ agree-place_of s t agree e name place (among, named) =
     let P : List Place → Type 0 = λ ps. Contains ps place in
     (subst P (sym (places-agree s t agree e)) among, place_named-by t s place name (sym (attribute-agree s t agree place)) named)
 
-pub redeclares-agree : (s t : Schema) → Agree s t → (e : ℕ) (supertype name : List ℕ) (place : Place) → RedeclaresPlace s e supertype name place → RedeclaresPlace t e supertype name place
+pub redeclares-agree : (s t : Schema) → Agree s t → (e : ℕ) (supertype name : List ℕ) (place : Place)
+    → RedeclaresPlace s e supertype name place → RedeclaresPlace t e supertype name place
 redeclares-agree s t agree e supertype name place (sup, proper, is) = (sup, proper-agree s t agree e sup supertype proper, by is)
   where
-    by : IsOwnPlace s sup name place ⊎ (((other : Place) → ¬ IsOwnPlace s sup name other) × IsPlaceOf s sup name place × ((other : Place) → IsPlaceOf s sup name other → other ≡ place))
-        → IsOwnPlace t sup name place ⊎ (((other : Place) → ¬ IsOwnPlace t sup name other) × IsPlaceOf t sup name place × ((other : Place) → IsPlaceOf t sup name other → other ≡ place))
+    by : IsOwnPlace s sup name place ⊎ (((other : Place) → ¬ IsOwnPlace s sup name other) × IsPlaceOf s sup name place
+        × ((other : Place) → IsPlaceOf s sup name other → other ≡ place))
+        → IsOwnPlace t sup name place ⊎ (((other : Place) → ¬ IsOwnPlace t sup name other) × IsPlaceOf t sup name place
+        × ((other : Place) → IsPlaceOf t sup name other → other ≡ place))
     by (inl h) = inl (own-agree s t agree sup name place h)
-    by (inr h) = inr (λ other own. h.0 other (agree-own s t agree sup name other own), place_of-agree s t agree sup name place h.1, λ other of. h.2 other (agree-place_of s t agree sup name other of))
+    by (inr h) = inr (
+      λ other own. h.0 other (agree-own s t agree sup name other own),
+      place_of-agree s t agree sup name place h.1,
+      λ other
+          of. h.2 other (agree-place_of s t agree sup name other of),
+    )
 
 pub none-agree : (s t : Schema) → Agree s t → (sup : ℕ) (name : List ℕ) → HasNoPlace s sup name → HasNoPlace t sup name
 none-agree s t agree sup name none = λ place of. none place (agree-place_of s t agree sup name place of)
 
-pub derives-agree : (s t : Schema) → Agree s t → (entities : List EntityDigest) (e : ℕ) (name : List ℕ) → DigestDerivesName s entities e name → DigestDerivesName t entities e name
+pub derives-agree : (s t : Schema) → Agree s t → (entities : List EntityDigest) (e : ℕ) (name : List ℕ)
+    → DigestDerivesName s entities e name → DigestDerivesName t entities e name
 derives-agree s t agree entities e name (f, x, is_a, at, among) = (f, x, is_a-agree s t agree e f is_a, at, among)
 
-pub derived-agree : (s t : Schema) → Agree s t → (entities : List EntityDigest) (e : ℕ) (names : List (List ℕ × List ℕ)) (found : List Place) → DigestDerivedAre s entities e names found → DigestDerivedAre t entities e names found
+pub derived-agree : (s t : Schema) → Agree s t → (entities : List EntityDigest) (e : ℕ) (names : List (List ℕ × List ℕ))
+    (found : List Place) → DigestDerivedAre s entities e names found → DigestDerivedAre t entities e names found
 derived-agree s t agree entities e _ _ no_more = no_more
-derived-agree s t agree entities e _ _ (a_place supertype name place names found is rest) = a_place supertype name place names found (redeclares-agree s t agree e supertype name place is) (derived-agree s t agree entities e names found rest)
+derived-agree s t agree entities e _ _ (a_place supertype name place names found is rest) =
+    a_place supertype name place names found (redeclares-agree s t agree e supertype name place is)
+    (derived-agree s t agree entities e names found rest)
 derived-agree s t agree entities e _ _ (no_place supertype name sup names found is none derives rest) =
-    no_place supertype name sup names found (proper-agree s t agree e sup supertype is) (none-agree s t agree sup name none) (derives-agree s t agree entities sup name derives) (derived-agree s t agree entities e names found rest)
+    no_place supertype name sup names found (proper-agree s t agree e sup supertype is) (none-agree s t agree sup name none)
+    (derives-agree s t agree entities sup name derives) (derived-agree s t agree entities e names found rest)
 
-pub redeclarations-agree : (s t : Schema) → Agree s t → (n : Named) (entities : List EntityDigest) (e : ℕ) (x : EntityDigest) (found : Entity) → RedeclarationsAre s n entities e x found → RedeclarationsAre t n entities e x found
+pub redeclarations-agree : (s t : Schema) → Agree s t
+    → (n : Named) (entities : List EntityDigest) (e : ℕ) (x : EntityDigest) (found : Entity) → RedeclarationsAre s n entities e x found
+    → RedeclarationsAre t n entities e x found
 redeclarations-agree s t agree n entities e x found are = record {
-  redeclared_are = AllZip-weaker (DigestRedeclaredIs s n e) (DigestRedeclaredIs t n e) (digest_redeclared_explicit x.explicit) found.redeclared (λ w r among among_ h. (redeclares-agree s t agree e w.0.0 w.0.1 r.place h.0, h.1, h.2)) are.redeclared_are;
+  redeclared_are = AllZip-weaker (DigestRedeclaredIs s n e) (DigestRedeclaredIs t n e) (digest_redeclared_explicit x.explicit)
+      found.redeclared (λ w r among among_ h. (redeclares-agree s t agree e w.0.0 w.0.1 r.place h.0, h.1, h.2)) are.redeclared_are;
   derived_are = derived-agree s t agree entities e _ found.derived are.derived_are;
   places_distinct = are.places_distinct;
 }
@@ -120,10 +141,17 @@ attributes-bare s e = ap attributes_in (slice_get-map bare_entity s.entities e) 
     by (Some x) = refl
 
 named-bare : (s : Schema) (e : ℕ) (name : List ℕ) → EntityNamed (bare s) e name → EntityNamed s e name
-named-bare s e name (x, at, named) = let (y, at_y, same) = at-mapped bare_entity s.entities e x at in (y, at_y, ap (λ z. z.name) same ∙ named)
+named-bare s e name (x, at, named) = let (y, at_y, same) = at-mapped bare_entity s.entities e x at in
+    (y, at_y, ap (λ z. z.name) same ∙ named)
 
 pub bare-agrees : (s : Schema) → Agree (bare s) s
-bare-agrees s = record { named_are = named-bare s; supertypes_are = supertypes-bare s; attributes_are = attributes-bare s; count_is = length-map s.entities bare_entity }
+bare-agrees s = record {
+  named_are = named-bare s;
+  supertypes_are = supertypes-bare s;
+  attributes_are = attributes-bare s;
+  count_is =
+      length-map s.entities bare_entity;
+}
 
 pub agrees-bare : (s : Schema) → Agree s (bare s)
 agrees-bare s = record {

@@ -17,7 +17,8 @@ members-within s are t u next =
     let below = are t u members is among in
     omega (arith, below, length-map s.types (λ x. type_numbers (members_of x.kind)))
 
-pub selects-checked : (s : Schema) (lists : List (List ℕ)) (result : Result (Unit {0}) SchemaFault) → lists ≡ select_types s → DecidesClaim (HasNoCircle (IsNext lists)) result → DecidesClaim (HasNoCircle (HasSelect s)) result
+pub selects-checked : (s : Schema) (lists : List (List ℕ)) (result : Result (Unit {0}) SchemaFault) → lists ≡ select_types s
+    → DecidesClaim (HasNoCircle (IsNext lists)) result → DecidesClaim (HasNoCircle (HasSelect s)) result
 selects-checked s lists (Ok u) same ends =
     let P : List (List ℕ) → Type 0 = λ ls. HasNoCircle (IsNext ls) in
     let all = subst P same ends in

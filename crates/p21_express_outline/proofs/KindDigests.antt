@@ -58,25 +58,42 @@ member-of s n has (type_member t) name is = type-of s n has t name is
 kind-digested : (s : Schema) (n : Named) → HasNames s n → (b : Body) (k : Kind) → DeclaresKind s b k → DigestKindIs n (body_digest b) k
 kind-digested s n has _ _ (is_alias w type is small may) = (type, type-digested s n has w type is, no-entity s type may, refl)
 kind-digested s n has _ _ (is_items names distinct) = (refl, distinct)
-kind-digested s n has _ _ (is_choice names members are distinct) = (members, AllZip-weaker (MemberNamed s) (MemberIs n) members names (λ m name among among_ h. member-at s n has m name h) are, distinct, refl)
+kind-digested s n has _ _ (is_choice names members are distinct) = (
+  members,
+  AllZip-weaker (MemberNamed s) (MemberIs n) members names (λ m name among among_ h. member-at s n has m name h) are,
+  distinct,
+  refl,
+)
 
-pub defined-digested : (s : Schema) (n : Named) → HasNames s n → (x : TypeDeclaration) (found : Defined) → DeclaresType s x found → TypeOutline n (defined_type_digest x) found
+pub defined-digested : (s : Schema) (n : Named) → HasNames s n → (x : TypeDeclaration) (found : Defined) → DeclaresType s x found
+    → TypeOutline n (defined_type_digest x) found
 defined-digested s n has x found is = record { name_is = is.name_is; kind_is = kind-digested s n has x.body found.kind is.kind_is }
 
-kind-written : (s : Schema) (n : Named) → HasNames s n → (b : Body) (k : Kind) → IsBodyWithin b → ((u : ℕ) → k ≡ alias (schema.defined u) → IsSelect s u → ⊥) → DigestKindIs n (body_digest b) k → DeclaresKind s b k
+kind-written : (s : Schema) (n : Named) → HasNames s n → (b : Body) (k : Kind) → IsBodyWithin b
+    → ((u : ℕ) → k ≡ alias (schema.defined u) → IsSelect s u → ⊥) → DigestKindIs n (body_digest b) k → DeclaresKind s b k
 kind-written s n has (written.underlying w) k within none (type, is, named, same) =
-    subst (DeclaresKind s (written.underlying w)) (sym same) (is_alias w type (type-written s n has w type within.0 is) within.1 (may-be s type named (λ u is_defined. none u (same ∙ ap alias is_defined))))
-kind-written s n has (written.enumeration names) k within none (same, distinct) = subst (DeclaresKind s (written.enumeration names)) (sym same) (is_items names distinct)
+    subst (DeclaresKind s (written.underlying w)) (sym same)
+    (is_alias w type (type-written s n has w type within.0 is) within.1
+    (may-be s type named (λ u is_defined. none u (same ∙ ap alias is_defined))))
+kind-written s n has (written.enumeration names) k within none (same, distinct) =
+    subst (DeclaresKind s (written.enumeration names)) (sym same) (is_items names distinct)
 kind-written s n has (written.select names) k within none (members, are, distinct, same) =
-    subst (DeclaresKind s (written.select names)) (sym same) (is_choice names members (AllZip-weaker (MemberIs n) (MemberNamed s) members names (λ m name among among_ h. member-of s n has m name h) are) distinct)
+    subst (DeclaresKind s (written.select names)) (sym same)
+    (is_choice names members (AllZip-weaker (MemberIs n) (MemberNamed s) members names
+    (λ m name among among_ h. member-of s n has m name h) are) distinct)
 
 kind-at : (s : Schema) (t : ℕ) (found : Defined) → slice_get s.types t ≡ Some found → kind_of s t ≡ Some found.kind
 kind-at s t found at = let g : Option Defined → Option Kind = λ o. elim o [ Some x ↦ Some x.kind | None ↦ None ] in ap g at
 
-pub defined-written : (s : Schema) (n : Named) → HasNames s n → RenamesNoSelect s → (x : TypeDeclaration) (found : Defined) → IsDefinedWithin x → Contains s.types found → TypeOutline n (defined_type_digest x) found → DeclaresType s x found
+pub defined-written : (s : Schema) (n : Named) → HasNames s n → RenamesNoSelect s → (x : TypeDeclaration) (found : Defined)
+    → IsDefinedWithin x → Contains s.types found → TypeOutline n (defined_type_digest x) found → DeclaresType s x found
 defined-written s n has none x found within among is =
     let (t, at) = Contains-at s.types found among in
-    record { name_is = is.name_is; kind_is = kind-written s n has x.body found.kind within (λ u same select. none t u (kind-at s t found at ∙ ap Some same) select) is.kind_is }
+    record {
+      name_is = is.name_is;
+      kind_is = kind-written s n has x.body found.kind within
+          (λ u same select. none t u (kind-at s t found at ∙ ap Some same) select) is.kind_is;
+    }
 
 pub defined-within : (s : Schema) (b : Body) (k : Kind) → DeclaresKind s b k → IsBodyWithin b
 defined-within s _ _ (is_alias w type is small may) = (type-numbers s w type is, small)
@@ -84,14 +101,16 @@ defined-within s _ _ (is_items names distinct) = tt
 defined-within s _ _ (is_choice names members are distinct) = tt
 
 underlying-no_select : (s : Schema) (b : Body) (k : Kind) (u : ℕ) → DeclaresKind s b k → k ≡ alias (schema.defined u) → IsSelect s u → ⊥
-underlying-no_select s _ _ u (is_alias w type is small may) same select = let h : type ≡ schema.defined u = cc in let m : MayBeUnderlying s (schema.defined u) = subst (MayBeUnderlying s) h may in m select
+underlying-no_select s _ _ u (is_alias w type is small may) same select = let h : type ≡ schema.defined u = cc in
+    let m : MayBeUnderlying s (schema.defined u) = subst (MayBeUnderlying s) h may in m select
 underlying-no_select s _ _ u (is_items names distinct) same select = cc
 underlying-no_select s _ _ u (is_choice names members are distinct) same select = cc
 
 pub declared-no_select : (s : Schema) (types : List TypeDeclaration) → AllZip (DeclaresType s) types s.types → RenamesNoSelect s
 declared-no_select s types are t u renames select = by (slice_get s.types t) refl renames
   where
-    by : (o : Option Defined) → slice_get s.types t ≡ o → ◌≡◌ {A = Option Kind} (elim o [ Some x ↦ Some x.kind | None ↦ None ]) (Some (alias (schema.defined u))) → ⊥
+    by : (o : Option Defined) → slice_get s.types t ≡ o
+        → ◌≡◌ {A = Option Kind} (elim o [ Some x ↦ Some x.kind | None ↦ None ]) (Some (alias (schema.defined u))) → ⊥
     by None at is = cc
     by (Some found) at is =
         let (x, among, defined_is) = AllZip-second_member (DeclaresType s) types s.types found are (Contains-found s.types t found at) in

@@ -10,4 +10,5 @@ AreTypes s = (t u : ℕ) → Renames s t u → u < length s.types
 
 -- each type that is a member of a select is one of the schema
 abbrev pub AreMembers : Schema → Type 0
-AreMembers s = (t u : ℕ) (members : List Member) → kind_of s t ≡ Some (schema.choice members) → Contains members (schema.type_member u) → u < length s.types
+AreMembers s = (t u : ℕ) (members : List Member) → kind_of s t ≡ Some (schema.choice members) → Contains members (schema.type_member u)
+    → u < length s.types

@@ -14,7 +14,8 @@ RenamesNoSelect s = (t u : ℕ) → Renames s t u → IsSelect s u → ⊥
 
 -- each entity redeclares what its declaration says
 abbrev pub AreRedeclared : SchemaDigest → Schema → Type 0
-AreRedeclared k s = AllZip (λ x found. RedeclarationsAre s (digest_names k) k.entities x.0 x.1 found) (enumerate_from 0 k.entities) s.entities
+AreRedeclared k s = AllZip (λ x found. RedeclarationsAre s (digest_names k) k.entities x.0 x.1 found) (enumerate_from 0 k.entities)
+    s.entities
 
 pub record DeclaredBy (k : SchemaDigest) (s : Schema) : Type 0 where
   pub outline : IsOutline k s

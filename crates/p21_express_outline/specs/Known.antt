@@ -5,7 +5,7 @@ use Rattle.std.specs.Str.{bytes_eq}
 use Rattle.p21_spec_schema.specs.Declared.{most_declarations}
 use Rattle.p21_express_outline.specs.Finding.{RefusalShows}
 use Rattle.p21_express_outline.specs.declared.fault.SchemaFault.{SchemaFault}
-use Rattle.p21_express_outline.specs.declared.names.KnownNames.{KnownNames}
+use Rattle.p21_express_graph.specs.declared.schema_contents.KnownNames.{KnownNames}
 use Rattle.p21_express_outline.specs.Outline.{Named}
 
 abbrev pub names_of : KnownNames → Named

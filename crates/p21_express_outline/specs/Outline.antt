@@ -56,7 +56,8 @@ SimpleIs n simple.Boolean type = type ≡ schema.boolean
 SimpleIs n simple.Logical type = type ≡ schema.logical
 SimpleIs n (simple.String width) type = type ≡ schema.text (width_of width)
 SimpleIs n (simple.Binary width) type = type ≡ schema.bits (width_of width)
-SimpleIs n (simple.Named name) type = ((e : ℕ) × IsNamed n.entities e name × (type ≡ schema.entity e)) ⊎ ((t : ℕ) × IsNamed n.types t name × (type ≡ schema.defined t))
+SimpleIs n (simple.Named name) type = ((e : ℕ) × IsNamed n.entities e name × (type ≡ schema.entity e))
+    ⊎ ((t : ℕ) × IsNamed n.types t name × (type ≡ schema.defined t))
 
 abbrev pub DigestTypeIs : Named → TypeDigest → TypeUse → Type 0
 DigestTypeIs n kept type = (element : TypeUse) × SimpleIs n kept.element element × (type ≡ aggregates_of kept.aggregates element)
@@ -113,7 +114,8 @@ IsNoEntity other = Unit {0}
 abbrev pub DigestKindIs : Named → BodyDigest → Kind → Type 0
 DigestKindIs n (underlying kept) kind = (type : TypeUse) × DigestTypeIs n kept type × IsNoEntity type × (kind ≡ schema.alias type)
 DigestKindIs n (enumeration names) kind = (kind ≡ schema.items names) × IsDistinct bytes_eq names
-DigestKindIs n (select names) kind = (members : List Member) × AllZip (MemberIs n) members names × IsDistinct bytes_eq names × (kind ≡ schema.choice members)
+DigestKindIs n (select names) kind = (members : List Member) × AllZip (MemberIs n) members names × IsDistinct bytes_eq names
+    × (kind ≡ schema.choice members)
 
 pub record TypeOutline (n : Named) (x : DefinedTypeDigest) (found : Defined) : Type 0 where
   pub name_is : found.name ≡ x.name

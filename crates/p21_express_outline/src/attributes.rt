@@ -14,9 +14,8 @@ ghost use Rattle.p21_express_graph.specs.SchemaContents.{attribute as attribute_
 
 use crate::fault::SchemaFault;
 use crate::lists::copied;
-use crate::names::KnownNames;
 use crate::types::resolve_type;
-use p21_express_graph::{Attribute, TypeUse};
+use p21_express_graph::{Attribute, KnownNames, TypeUse};
 use p21_express_syntax::{AttributeName, ExplicitAttributes};
 use p21_values::{NoMemory, Word};
 use std::alloc::Global;
@@ -61,7 +60,8 @@ fn add_attribute(
     type_use: &Arc<TypeUse, Global>,
     out: &mut Vec<Attribute>,
 ) -> Result<(), NoMemory>
-    ensures { OnOk result (map attribute_of out.new.items ≡ map attribute_of out.old.items ++ own_with optional (type_use_of (arc_value type_use.now)) (name.now ∷ [])) }
+    ensures { OnOk result (map attribute_of out.new.items ≡ map attribute_of out.old.items
+        ++ own_with optional (type_use_of (arc_value type_use.now)) (name.now ∷ [])) }
 {
     match name {
         AttributeName::Own(name) => {
@@ -80,7 +80,8 @@ fn add_sharing(
     type_use: &Arc<TypeUse, Global>,
     out: &mut Vec<Attribute>,
 ) -> Result<(), NoMemory>
-    ensures { OnOk result (map attribute_of out.new.items ≡ map attribute_of out.old.items ++ own_with optional (type_use_of (arc_value type_use.now)) names.now) }
+    ensures { OnOk result (map attribute_of out.new.items ≡ map attribute_of out.old.items
+        ++ own_with optional (type_use_of (arc_value type_use.now)) names.now) }
 {
     for name in names {
         let name: &AttributeName = name;
@@ -97,7 +98,8 @@ fn add_attributes(
     out: &mut Vec<Attribute>,
 ) -> Result<(), SchemaFault>
     requires { AreFew known.now }
-    ensures { AddsEach attribute_of (DigestAttributeIs (names_of known.now)) (own_of (attributes_view explicit.now) explicit.now.names.items) result out.old out.new }
+    ensures { AddsEach attribute_of (DigestAttributeIs (names_of known.now))
+        (own_of (attributes_view explicit.now) explicit.now.names.items) result out.old out.new }
 {
     if !has_own(&explicit.names) {
         return Ok(());
@@ -115,7 +117,8 @@ pub(crate) fn own_attributes(
     explicit: &[ExplicitAttributes],
 ) -> Result<Vec<Attribute>, SchemaFault>
     requires { AreFew known.now }
-    ensures { FindsEach attribute_of (DigestAttributeIs (names_of known.now)) (digest_own_explicit (map attributes_view explicit.now)) result }
+    ensures { FindsEach attribute_of (DigestAttributeIs (names_of known.now)) (digest_own_explicit (map attributes_view explicit.now))
+        result }
 {
     let mut found = Vec::new(alloc);
     for attributes in explicit {

@@ -8,9 +8,9 @@ ghost use Rattle.p21_express_graph.specs.Meaning.{kind, type_use};
 
 use crate::fault::SchemaFault;
 use crate::lists::{copied, members_named};
-use crate::names::{KnownNames, check_distinct};
+use crate::names::check_distinct;
 use crate::types::resolve_type;
-use p21_express_graph::{Defined, Members, TypeKind, TypeUse, Words};
+use p21_express_graph::{Defined, KnownNames, Members, TypeKind, TypeUse, Words};
 use p21_express_syntax::{Body, DefinedType};
 use p21_values::{NoMemory, Word};
 use std::alloc::Global;

@@ -9,8 +9,8 @@ ghost use Rattle.p21_express_graph.specs.SchemaContents.{entity as entity_of};
 use crate::attributes::own_attributes;
 use crate::fault::SchemaFault;
 use crate::lists::{copied, entities_named};
-use crate::names::{KnownNames, check_attribute_names, check_distinct};
-use p21_express_graph::Entity;
+use crate::names::{check_attribute_names, check_distinct};
+use p21_express_graph::{Entity, KnownNames};
 use p21_express_syntax::Entity as Declared;
 use std::alloc::Global;
 

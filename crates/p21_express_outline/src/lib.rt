@@ -34,7 +34,7 @@ pub use choices::check_selects;
 pub use direct_renaming::check_renaming;
 pub use fault::SchemaFault;
 pub use laws::one_schema;
-pub use names::{KnownNames, known_names};
+pub use names::known_names;
 pub use outlines::outline;
 pub use selects::check_no_select;
 pub use supertypes::check_supertypes;

@@ -5,8 +5,7 @@ ghost use Rattle.p21_express_outline.specs.Outline.{IsNamed, MemberIs};
 ghost use Rattle.p21_express_graph.specs.Meaning.{member};
 
 use crate::fault::SchemaFault;
-use crate::names::KnownNames;
-use p21_express_graph::{EntityId, Member, TypeId};
+use p21_express_graph::{EntityId, KnownNames, Member, TypeId};
 use p21_values::{NoMemory, Word};
 use std::alloc::Global;
 

@@ -8,17 +8,10 @@ ghost use Rattle.p21_express_outline.specs.Outline.{attribute_names, digest_name
 ghost use Rattle.p21_express_syntax.specs.Views.{attributes_view, entity_view, schema_view};
 
 use crate::fault::SchemaFault;
-use p21_express_graph::{Names, are_distinct};
+use p21_express_graph::{KnownNames, Names, are_distinct};
 use p21_express_syntax::{AttributeName, Declarations, DefinedType, Entity, ExplicitAttributes};
 use p21_values::{NoMemory, Word};
 use std::alloc::Global;
-
-/// The names of the entities and of the types of a schema, each in the order of the declarations.
-#[derive(Drop)]
-pub struct KnownNames {
-    pub entities: Names,
-    pub types: Names,
-}
 
 /// No name is listed twice.
 fn check_once(alloc: Global, names: &[&[u8]]) -> Result<(), SchemaFault>
@@ -116,7 +109,8 @@ fn add_explicit_names<'a>(
     names: &mut Vec<&'a [u8]>,
     explicit: &'a [ExplicitAttributes],
 ) -> Result<(), NoMemory>
-    ensures { OnOk result (texts_of names.new.items ≡ texts_of names.old.items ++ digest_own_names (flat_map (λ d. d.names) (map attributes_view explicit.now))) }
+    ensures { OnOk result (texts_of names.new.items ≡ texts_of names.old.items
+        ++ digest_own_names (flat_map (λ d. d.names) (map attributes_view explicit.now))) }
 {
     for attributes in explicit {
         let attributes: &ExplicitAttributes = attributes;

@@ -13,8 +13,8 @@ use crate::defined::resolve_types;
 use crate::entity::resolve_entities;
 use crate::fault::SchemaFault;
 use crate::lists::{copied, entities_named};
-use crate::names::{KnownNames, check_distinct, known_names};
-use p21_express_graph::{EntityId, SchemaContents};
+use crate::names::{check_distinct, known_names};
+use p21_express_graph::{EntityId, KnownNames, SchemaContents};
 use p21_express_syntax::{Declarations, Entity};
 use p21_values::Word;
 use std::alloc::Global;
@@ -75,9 +75,8 @@ pub fn outline(alloc: Global, declarations: &Declarations) -> Result<SchemaConte
     let name = copied(alloc, &declarations.name)?;
     Ok(SchemaContents {
         name,
-        entity_names: known.entities,
+        names: known,
         entities,
-        type_names: known.types,
         types,
         one_of_lists,
     })

@@ -7,8 +7,7 @@ ghost use Rattle.p21_express_syntax.specs.declared.types.SimpleType.TheVariants 
 ghost use Rattle.p21_express_graph.specs.Meaning.{type_use, width_option};
 
 use crate::fault::SchemaFault;
-use crate::names::KnownNames;
-use p21_express_graph::{EntityId, TypeId, TypeUse, Width};
+use p21_express_graph::{EntityId, KnownNames, TypeId, TypeUse, Width};
 use p21_express_syntax::{Aggregate, DataType, SimpleType, Width as WrittenWidth};
 use p21_values::NoMemory;
 use std::alloc::Global;

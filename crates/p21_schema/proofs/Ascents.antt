@@ -42,7 +42,11 @@ all_open (false ∷ done) none = ap suc (all_open done (λ x is. none (suc x) is
 
 pub none-found : (ascent : Ascent) → ((x : ℕ) → IsDone ascent.marked.items x → ⊥) → ascent.above.items ≡ [] → Ascends ascent
 none-found ascent none empty = record {
-  same = λ f. (λ among. let P : List ℕ → Type 0 = λ fs. Contains fs f in absurd (Contains-none f (subst P empty among)), λ is. absurd (none f is));
+  same = λ f. (
+    λ among. let P : List ℕ → Type 0 = λ fs. Contains fs f in
+        absurd (Contains-none f (subst P empty among)),
+    λ is. absurd (none f is),
+  );
   once = let many = all_open ascent.marked.items none in omega (arith, many, ap length empty);
 }
 
@@ -55,12 +59,17 @@ pub goes-on : (a b c : Ascent) → AscendsFurther a b → AscendsFurther b c →
 goes-on a b c first second = record {
   ascends = second.ascends;
   size = second.size ∙ first.size;
-  begins = (first.begins.0 ++ second.begins.0, second.begins.1 ∙ ap (λ xs. xs ++ second.begins.0) first.begins.1 ∙ append_assoc a.above.items first.begins.0 second.begins.0);
+  begins = (
+    first.begins.0 ++ second.begins.0,
+    second.begins.1 ∙ ap (λ xs. xs ++ second.begins.0) first.begins.1
+        ∙ append_assoc a.above.items first.begins.0 second.begins.0,
+  );
 }
 
 -- what was found stays found
 pub found-kept : (a b : Ascent) → AscendsFurther a b → (f : ℕ) → Contains a.above.items f → Contains b.above.items f
-found-kept a b goes f among = let P : List ℕ → Type 0 = λ fs. Contains fs f in subst P (sym goes.begins.1) (Contains-append_left a.above.items goes.begins.0 f among)
+found-kept a b goes f among = let P : List ℕ → Type 0 = λ fs. Contains fs f in
+    subst P (sym goes.begins.1) (Contains-append_left a.above.items goes.begins.0 f among)
 
 -- those that are found are so many at most
 pub found-many : (a : Ascent) → Ascends a → length a.above.items ≤ length a.marked.items
@@ -82,19 +91,22 @@ more-found before after f is g = let P : List ℕ → Type 0 = λ fs. Contains f
 pub read_open : (marks : List Bool) (x : ℕ) (mark : Bool) → x < length marks → mark ≡ get_or marks x mark → mark ≡ false → IsOpen marks x
 read_open marks x mark below is unset = get_or_default marks x true mark below ∙ sym is ∙ unset
 
-module _ (a b : Ascent) (f : ℕ) (is : Ascends a) (open_is : IsOpen a.marked.items f) (below : f < length a.marked.items) (marked_is : b.marked.items ≡ slice_set a.marked.items f true) (above_is : b.above.items ≡ a.above.items ++ f ∷ []) where
+module _ (a b : Ascent) (f : ℕ) (is : Ascends a) (open_is : IsOpen a.marked.items f) (below : f < length a.marked.items)
+    (marked_is : b.marked.items ≡ slice_set a.marked.items f true) (above_is : b.above.items ≡ a.above.items ++ f ∷ []) where
   marked-more : (g : ℕ) → IsDone b.marked.items g ↔ (IsDone a.marked.items g ⊎ (g ≡ f))
   marked-more g = let P : List Bool → Type 0 = λ d. IsDone d g in (
     λ done. set_only a.marked.items f g (subst P marked_is done),
     λ h. subst P (sym marked_is) (elim h [
       | inl old ↦ set_keeps a.marked.items f g old
-      | inr same ↦ (let Q : ℕ → Type 0 = λ x. IsDone (slice_set a.marked.items f true) x in subst Q (sym same) (set_done a.marked.items f below))
+      | inr same ↦ (let Q : ℕ → Type 0 = λ x. IsDone (slice_set a.marked.items f true) x in
+          subst Q (sym same) (set_done a.marked.items f below))
     ]),
   )
 
   pub goes-more : AscendsFurther a b
   goes-more =
-      let found : (g : ℕ) → Contains b.above.items g ↔ (Contains a.above.items g ⊎ (g ≡ f)) = more-found a.above.items b.above.items f above_is in
+      let found : (g : ℕ) → Contains b.above.items g ↔ (Contains a.above.items g ⊎ (g ≡ f)) =
+      more-found a.above.items b.above.items f above_is in
       let count = set_count a.marked.items f open_is in
       let long = set_length a.marked.items f in
       let more = length-append a.above.items (f ∷ []) in
@@ -111,7 +123,9 @@ module _ (a b : Ascent) (f : ℕ) (is : Ascends a) (open_is : IsOpen a.marked.it
       }
 
 -- of a list one more is found
-pub found-more : (before now after seen : List ℕ) (x : ℕ) → ((f : ℕ) → Contains now f ↔ (Contains before f ⊎ Contains seen f)) → ((f : ℕ) → Contains after f ↔ (Contains now f ⊎ (f ≡ x))) → (f : ℕ) → Contains after f ↔ (Contains before f ⊎ Contains (seen ++ x ∷ []) f)
+pub found-more : (before now after seen : List ℕ) (x : ℕ) → ((f : ℕ) → Contains now f ↔ (Contains before f ⊎ Contains seen f))
+    → ((f : ℕ) → Contains after f ↔ (Contains now f ⊎ (f ≡ x))) → (f : ℕ) → Contains after f
+    ↔ (Contains before f ⊎ Contains (seen ++ x ∷ []) f)
 found-more before now after seen x so_far one f = (
   λ among. elim ((one f).0 among) [
     | inl old ↦ elim ((so_far f).0 old) [ inl h ↦ inl h | inr h ↦ inr (Contains-append_left seen (x ∷ []) f h) ]
@@ -130,14 +144,17 @@ abbrev pub HasBelow : Schema → List ℕ → ℕ → Type 0
 HasBelow s es f = (e : ℕ) × Contains es e × HasSupertype s e f
 
 -- where nothing was found before, these are all
-pub next-all : (s : Schema) (before now es : List ℕ) → before ≡ [] → ((f : ℕ) → Contains now f ↔ (Contains before f ⊎ HasBelow s es f)) → (f : ℕ) → Contains now f ↔ HasBelow s es f
+pub next-all : (s : Schema) (before now es : List ℕ) → before ≡ [] → ((f : ℕ) → Contains now f ↔ (Contains before f ⊎ HasBelow s es f))
+    → (f : ℕ) → Contains now f ↔ HasBelow s es f
 next-all s before now es empty found f = let P : List ℕ → Type 0 = λ fs. Contains fs f in (
   λ among. elim ((found f).0 among) [ inl old ↦ absurd (Contains-none f (subst P empty old)) | inr below ↦ below ],
   λ below. (found f).1 (inr below),
 )
 
 -- the direct supertypes of one entity more are found
-pub next-more : (s : Schema) (before now after seen : List ℕ) (e : ℕ) → ((f : ℕ) → Contains now f ↔ (Contains before f ⊎ HasBelow s seen f)) → ((f : ℕ) → Contains after f ↔ (Contains now f ⊎ HasSupertype s e f)) → (f : ℕ) → Contains after f ↔ (Contains before f ⊎ HasBelow s (seen ++ e ∷ []) f)
+pub next-more : (s : Schema) (before now after seen : List ℕ) (e : ℕ) → ((f : ℕ) → Contains now f ↔ (Contains before f ⊎ HasBelow s seen f))
+    → ((f : ℕ) → Contains after f ↔ (Contains now f ⊎ HasSupertype s e f)) → (f : ℕ) → Contains after f
+    ↔ (Contains before f ⊎ HasBelow s (seen ++ e ∷ []) f)
 next-more s before now after seen e so_far one f = (
   λ among. elim ((one f).0 among) [
     | inl old ↦ elim ((so_far f).0 old) [ inl h ↦ inl h | inr h ↦ inr (h.0, Contains-append_left seen (e ∷ []) h.0 h.1, h.2) ]
@@ -165,15 +182,18 @@ front-get [] ys k below = absurd (omega (arith, below))
 front-get (x ∷ xs) ys zero below = refl
 front-get (x ∷ xs) ys (suc k) below = front-get xs ys k (omega (arith, below))
 
-pub up-more : (s : Schema) (before now after left : List ℕ) (k e : ℕ) → AreUpTo s before now k → slice_get now k ≡ Some e → after ≡ now ++ left → ((f : ℕ) → Contains after f ↔ (Contains now f ⊎ HasSupertype s e f)) → AreUpTo s before after (k + 1)
+pub up-more : (s : Schema) (before now after left : List ℕ) (k e : ℕ) → AreUpTo s before now k → slice_get now k ≡ Some e
+    → after ≡ now ++ left → ((f : ℕ) → Contains after f ↔ (Contains now f ⊎ HasSupertype s e f)) → AreUpTo s before after (k + 1)
 up-more s before now after left k e so_far at after_is one = record {
   within = λ f among. elim ((one f).0 among) [
     | inl old ↦ so_far.within f old
-    | inr up ↦ (let (g, g_among, is) = so_far.within e (Contains-found now k e at) in (g, g_among, IsA-transitive s g e f is (above e f f up (itself f))))
+    | inr up ↦ (let (g, g_among, is) = so_far.within e (Contains-found now k e at) in
+        (g, g_among, IsA-transitive s g e f is (above e f f up (itself f))))
   ];
   closed = λ j x f below x_at up.
       let inside = slice_get_within now k e at in
-      let old_at : slice_get now j ≡ Some x = sym (front-get now left j (omega (arith, below, inside))) ∙ ap (λ xs. slice_get xs j) (sym after_is) ∙ x_at in
+      let old_at : slice_get now j ≡ Some x = sym (front-get now left j (omega (arith, below, inside)))
+      ∙ ap (λ xs. slice_get xs j) (sym after_is) ∙ x_at in
       elim (cases_lt j k) [
         | inl h ↦ (one f).1 (inl (so_far.closed j x f h old_at up))
         | inr h ↦
@@ -185,19 +205,23 @@ up-more s before now after left k e so_far at after_is one = record {
 }
 
 -- once those of all are found, there are no more
-pub up-all : (s : Schema) (before now : List ℕ) (k : ℕ) → AreUpTo s before now k → length now ≤ k → (e f : ℕ) → Contains now e → HasSupertype s e f → Contains now f
+pub up-all : (s : Schema) (before now : List ℕ) (k : ℕ) → AreUpTo s before now k → length now ≤ k → (e f : ℕ) → Contains now e
+    → HasSupertype s e f → Contains now f
 up-all s before now k so_far all e f among up =
     let (j, at) = Contains-at now e among in
     let inside = slice_get_within now j e at in
     so_far.closed j e f (omega (arith, inside, all)) at up
 
 -- what has the direct supertypes of all that it has has all supertypes of these
-pub climbs : (s : Schema) (found : List ℕ) → ((e f : ℕ) → Contains found e → HasSupertype s e f → Contains found f) → (e f : ℕ) → IsA s e f → Contains found e → Contains found f
+pub climbs : (s : Schema) (found : List ℕ) → ((e f : ℕ) → Contains found e → HasSupertype s e f → Contains found f) → (e f : ℕ) → IsA s e f
+    → Contains found e → Contains found f
 climbs s found closed _ _ (itself e) among = among
 climbs s found closed _ _ (above sub next sup up more) among = climbs s found closed next sup more (closed sub next among up)
 
 -- the supertypes of the direct ones are the proper ones
-module _ (s : Schema) (ends : HasNoCircle (HasSupertype s)) (es next found : List ℕ) (next_are : (f : ℕ) → Contains next f ↔ HasBelow s es f) (kept : (f : ℕ) → Contains next f → Contains found f) (within : (f : ℕ) → Contains found f → (e : ℕ) × Contains next e × IsA s e f)
+module _ (s : Schema) (ends : HasNoCircle (HasSupertype s)) (es next found : List ℕ)
+    (next_are : (f : ℕ) → Contains next f ↔ HasBelow s es f) (kept : (f : ℕ) → Contains next f → Contains found f)
+    (within : (f : ℕ) → Contains found f → (e : ℕ) × Contains next e × IsA s e f)
     (closed : (e f : ℕ) → Contains found e → HasSupertype s e f → Contains found f) where
   apart : (e g : ℕ) → HasSupertype s e g → IsA s g e → ⊥
   apart e g up back =

@@ -25,12 +25,17 @@ longer (y ∷ xs) (suc m) (suc n) x least among = elim (Contains-cases y (take m
 ]
 
 -- the order of an entity is its front
-front-is : (s : Schema) (all : PrefixLists) (e : ℕ) (front : RunPrefix) → AreOrders s (lists_in all) → IsEntity s e → slice_get all.prefixes.items e ≡ Some front → list_of (number_lists all.runs.items) front ≡ order s e
+front-is : (s : Schema) (all : PrefixLists) (e : ℕ) (front : RunPrefix) → AreOrders s (lists_in all) → IsEntity s e
+    → slice_get all.prefixes.items e ≡ Some front → list_of (number_lists all.runs.items) front ≡ order s e
 front-is s all e front are is_entity at =
-    some_is (list_of (number_lists all.runs.items) front) (order s e) (sym (slice_get-map (list_of (number_lists all.runs.items)) all.prefixes.items e ∙ ap (option_map (list_of (number_lists all.runs.items))) at) ∙ are.each e is_entity)
+    some_is (list_of (number_lists all.runs.items) front) (order s e)
+    (sym (slice_get-map (list_of (number_lists all.runs.items)) all.prefixes.items e
+    ∙ ap (option_map (list_of (number_lists all.runs.items))) at) ∙ are.each e is_entity)
 
 -- so where the front of one entity is that of another one or longer, it is below that
-pub front-below : (s : Schema) → HoldsTogether s → (inside : Schema) (all : PrefixLists) (e f : ℕ) (whole front : RunPrefix) → inside ≡ s → AreOrders inside (lists_in all) → IsEntity s e → IsEntity s f → slice_get all.prefixes.items e ≡ Some whole → slice_get all.prefixes.items f ≡ Some front
+pub front-below : (s : Schema) → HoldsTogether s → (inside : Schema) (all : PrefixLists) (e f : ℕ) (whole front : RunPrefix) → inside ≡ s
+    → AreOrders inside (lists_in all) → IsEntity s e → IsEntity s f → slice_get all.prefixes.items e ≡ Some whole
+    → slice_get all.prefixes.items f ≡ Some front
     → front.run ≡ whole.run → front.size ≤ whole.size → IsA s e f
 front-below s holds inside all e f whole front same inside_are e_is f_is e_at f_at one_run least =
     let P : Schema → Type 0 = λ z. AreOrders z (lists_in all) in
@@ -38,4 +43,5 @@ front-below s holds inside all e f whole front same inside_are e_is f_is e_at f_
     let R : ℕ → Type 0 = λ r. Contains (take front.size (nexts_of (number_lists all.runs.items) r)) f in
     let are = subst P same inside_are in
     let own = subst Q (sym (front-is s all f front are f_is f_at)) ((order-tells s holds f f).1 (itself f)) in
-    (order-tells s holds e f).0 (subst Q (front-is s all e whole are e_is e_at) (longer (nexts_of (number_lists all.runs.items) whole.run) front.size whole.size f least (subst R one_run own)))
+    (order-tells s holds e f).0 (subst Q (front-is s all e whole are e_is e_at)
+    (longer (nexts_of (number_lists all.runs.items) whole.run) front.size whole.size f least (subst R one_run own)))

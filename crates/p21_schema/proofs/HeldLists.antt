@@ -32,10 +32,12 @@ holder-other : (h : Holder) (set : ℕ) → h.set ≢ set → holder_of set (Som
 holder-other h set differ = ap (λ b. if b then Some h.entity else None) (other-number h.set set differ)
 
 -- what the last one that was noted at a list says
-pub held : (lists : List (Option Holder)) (set k : ℕ) (h : Holder) → slice_get lists k ≡ Some (Some h) → h.set ≡ set → Some h.entity ≡ noted_in lists set k
+pub held : (lists : List (Option Holder)) (set k : ℕ) (h : Holder) → slice_get lists k ≡ Some (Some h) → h.set ≡ set
+    → Some h.entity ≡ noted_in lists set k
 held lists set k h at same = sym (ap (holder_of set) at ∙ holder-same h set same)
 
-pub held-other : (lists : List (Option Holder)) (set k : ℕ) (h : Holder) → slice_get lists k ≡ Some (Some h) → h.set ≢ set → None ≡ noted_in lists set k
+pub held-other : (lists : List (Option Holder)) (set k : ℕ) (h : Holder) → slice_get lists k ≡ Some (Some h) → h.set ≢ set
+    → None ≡ noted_in lists set k
 held-other lists set k h at differ = sym (ap (holder_of set) at ∙ holder-other h set differ)
 
 pub held-none : (lists : List (Option Holder)) (set k : ℕ) → slice_get lists k ≡ Some None → None ≡ noted_in lists set k
@@ -73,7 +75,8 @@ module _ (lists : List (Option Holder)) (list : ℕ) (h : Holder) (below : list 
 pub notes-none : (set : ℕ) (lists : List (Option Holder)) → NotesSet set lists lists
 notes-none set lists = record { size = refl; others = λ other differ none. none }
 
-pub notes-further : (set : ℕ) (before now after : List (Option Holder)) → NotesSet set before now → NotesSet set now after → NotesSet set before after
+pub notes-further : (set : ℕ) (before now after : List (Option Holder)) → NotesSet set before now → NotesSet set now after
+    → NotesSet set before after
 notes-further set before now after so_far next = record {
   size = next.size ∙ so_far.size;
   others = λ other differ none. next.others other differ (so_far.others other differ none);
@@ -89,7 +92,8 @@ none-from lists all set least k = by_place lists all k
     by_place (l ∷ ls) each (suc k) = by_place ls each.1 k
 
 -- behind one set there is none of the sets with higher numbers
-pub none-next : (number : ℕ) (before after : List (Option Holder)) → NotesSet number before after → NoneFrom number before → NoneFrom (number + 1) after
+pub none-next : (number : ℕ) (before after : List (Option Holder)) → NotesSet number before after → NoneFrom number before
+    → NoneFrom (number + 1) after
 none-next number before after noted none set least = noted.others set (λ same. omega (arith, least, same)) (none set (omega (arith, least)))
 
 -- the number of a list with an entity is that of one of the lists

@@ -26,13 +26,17 @@ pub record IsNoted (e : ℕ) (lists : List ℕ) (old new : ℕ → Option ℕ) :
 pub noted-none : (e : ℕ) (find : ℕ → Option ℕ) → IsNoted e [] find find
 noted-none e find = record { here = λ k among. absurd (Contains-none k among); other = λ k none. refl }
 
-pub noted-more : (e : ℕ) (lists : List ℕ) (k : ℕ) (old now after : ℕ → Option ℕ) → IsNoted e lists old now → after k ≡ Some e → ((j : ℕ) → j ≢ k → after j ≡ now j) → IsNoted e (lists ++ k ∷ []) old after
+pub noted-more : (e : ℕ) (lists : List ℕ) (k : ℕ) (old now after : ℕ → Option ℕ) → IsNoted e lists old now → after k ≡ Some e
+    → ((j : ℕ) → j ≢ k → after j ≡ now j) → IsNoted e (lists ++ k ∷ []) old after
 noted-more e lists k old now after so_far here others = record {
   here = λ j among. elim (cases_eq j k) [
     | inl same ↦ let P : ℕ → Type 0 = λ i. after i ≡ Some e in subst P (sym same) here
-    | inr differ ↦ others j differ ∙ so_far.here j (elim (Contains-push_cases lists k j among) [ inl h ↦ h | inr h ↦ absurd (differ (sym h)) ])
+    | inr differ ↦ others j differ ∙ so_far.here j (elim (Contains-push_cases lists k j among)
+        [ inl h ↦ h | inr h ↦ absurd (differ (sym h)) ])
   ];
-  other = λ j none. others j (λ same. none (let P : ℕ → Type 0 = λ i. Contains (lists ++ k ∷ []) i in subst P (sym same) (Contains-push lists k))) ∙ so_far.other j (λ among. none (Contains-append_left lists (k ∷ []) j among));
+  other = λ j none. others j (λ same. none (let P : ℕ
+      → Type 0 = λ i. Contains (lists ++ k ∷ []) i in subst P (sym same) (Contains-push lists k)))
+      ∙ so_far.other j (λ among. none (Contains-append_left lists (k ∷ []) j among));
 }
 
 among_or : (xs : List ℕ) (x : ℕ) → Contains xs x ⊎ (Contains xs x → ⊥)
@@ -45,21 +49,26 @@ among_or (y ∷ ys) x = elim (cases_eq y x) [
   ]
 ]
 
-module _ (s : Schema) (seen : List ℕ) (e : ℕ) (lists : List ℕ) (are : (k : ℕ) → Contains lists k ↔ IsListedIn s k e) (old : ℕ → Option ℕ) (held : AreNoted s seen old) where
+module _ (s : Schema) (seen : List ℕ) (e : ℕ) (lists : List ℕ) (are : (k : ℕ) → Contains lists k ↔ IsListedIn s k e) (old : ℕ → Option ℕ)
+    (held : AreNoted s seen old) where
   -- another one at one of its lists
-  pub clash-found : (k other : ℕ) (front : List ℕ) (now : ℕ → Option ℕ) → IsNoted e front old now → Contains lists k → now k ≡ Some other → other ≢ e → ClashesWith s seen e
+  pub clash-found : (k other : ℕ) (front : List ℕ) (now : ℕ → Option ℕ) → IsNoted e front old now → Contains lists k → now k ≡ Some other
+      → other ≢ e → ClashesWith s seen e
   clash-found k other front now noted among is differ =
-      let apart : Contains front k → ⊥ = (λ in_front. let same : Some e ≡ Some other = sym (noted.here k in_front) ∙ is in let inner : e ≡ other = cc in differ (sym inner)) in
+      let apart : Contains front k → ⊥ = (λ in_front. let same : Some e ≡ Some other = sym (noted.here k in_front)
+      ∙ is in let inner : e ≡ other = cc in differ (sym inner)) in
       let (other_seen, listed) = held.found k other (sym (noted.other k apart) ∙ is) in
       (other, other_seen, differ, (k, (are k).0 among, listed))
 
   -- it is noted at all of them, where none has another one
-  pub noted_more : (new : ℕ → Option ℕ) → IsNoted e lists old new → ((k : ℕ) → Contains lists k → (other : ℕ) → old k ≡ Some other → other ≡ e) → AreNoted s (seen ++ e ∷ []) new
+  pub noted_more : (new : ℕ → Option ℕ) → IsNoted e lists old new
+      → ((k : ℕ) → Contains lists k → (other : ℕ) → old k ≡ Some other → other ≡ e) → AreNoted s (seen ++ e ∷ []) new
   noted_more new noted none = record {
     found = λ k f is. by_list k f is (listed_or k);
     kept = λ k f among listed. elim (Contains-push_cases seen e f among) [
       | inl h ↦ by_kept k f h listed (listed_or k)
-      | inr h ↦ (let P : ℕ → Type 0 = λ x. new k ≡ Some x in let Q : ℕ → Type 0 = λ x. IsListedIn s k x in subst P h (noted.here k ((are k).1 (subst Q (sym h) listed))))
+      | inr h ↦ (let P : ℕ → Type 0 = λ x. new k ≡ Some x in let Q : ℕ
+          → Type 0 = λ x. IsListedIn s k x in subst P h (noted.here k ((are k).1 (subst Q (sym h) listed))))
     ];
   }
     where
@@ -81,7 +90,8 @@ module _ (s : Schema) (seen : List ℕ) (e : ℕ) (lists : List ℕ) (are : (k :
       by_kept k f in_seen listed (inr apart) = noted.other k apart ∙ held.kept k f in_seen listed
 
 -- a clash among those that were noted, and none
-pub clash-of : (s : Schema) (entities : List ℕ) (seen : List ℕ) (e : ℕ) → ((f : ℕ) → Contains seen f → Contains entities f) → Contains entities e → ClashesWith s seen e → Clashes s entities
+pub clash-of : (s : Schema) (entities : List ℕ) (seen : List ℕ) (e : ℕ) → ((f : ℕ) → Contains seen f → Contains entities f)
+    → Contains entities e → ClashesWith s seen e → Clashes s entities
 clash-of s entities seen e within among (f, f_seen, differ, (k, (listed, at, has), (listed_, at_, has_))) =
     let same : listed_ ≡ listed = (let both : Some listed_ ≡ Some listed = sym at_ ∙ at in cc) in
     let P : List ℕ → Type 0 = λ es. Contains es f in
@@ -95,11 +105,15 @@ no-clash s entities find held (listed, listed_among, (e, f, has, has_, differ, a
     differ inner
 
 -- one list more at which the entity was noted
-pub noted-next : (e : ℕ) (lists : List ℕ) (k : ℕ) (old : ℕ → Option ℕ) (now after : BTreeMap ℕ ℕ) → IsNoted e lists old (get nat_cmp now) → Updates nat_cmp now after k (Some e) → IsNoted e (lists ++ k ∷ []) old (get nat_cmp after)
-noted-next e lists k old now after so_far updates = noted-more e lists k old (get nat_cmp now) (get nat_cmp after) so_far updates.1 (λ j differ. updates.2 j (is_at-other k j differ))
+pub noted-next : (e : ℕ) (lists : List ℕ) (k : ℕ) (old : ℕ → Option ℕ) (now after : BTreeMap ℕ ℕ) → IsNoted e lists old (get nat_cmp now)
+    → Updates nat_cmp now after k (Some e) → IsNoted e (lists ++ k ∷ []) old (get nat_cmp after)
+noted-next e lists k old now after so_far updates =
+    noted-more e lists k old (get nat_cmp now) (get nat_cmp after) so_far updates.1 (λ j differ. updates.2 j (is_at-other k j differ))
 
 -- where none was noted but the entity, none is at one list more
-pub none-more : (e : ℕ) (lists : List ℕ) (k : ℕ) (old now : ℕ → Option ℕ) → IsNoted e lists old now → ((other : ℕ) → now k ≡ Some other → other ≡ e) → ((j : ℕ) → Contains lists j → (other : ℕ) → old j ≡ Some other → other ≡ e) → (j : ℕ) → Contains (lists ++ k ∷ []) j → (other : ℕ) → old j ≡ Some other → other ≡ e
+pub none-more : (e : ℕ) (lists : List ℕ) (k : ℕ) (old now : ℕ → Option ℕ) → IsNoted e lists old now
+    → ((other : ℕ) → now k ≡ Some other → other ≡ e) → ((j : ℕ) → Contains lists j → (other : ℕ) → old j ≡ Some other → other ≡ e) → (j : ℕ)
+    → Contains (lists ++ k ∷ []) j → (other : ℕ) → old j ≡ Some other → other ≡ e
 none-more e lists k old now noted here none j among other is = elim (Contains-push_cases lists k j among) [
   | inl front ↦ none j front other is
   | inr same ↦ elim (among_or lists k) [

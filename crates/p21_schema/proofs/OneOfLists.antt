@@ -22,12 +22,18 @@ listed-within s holds k e among =
 
 pub are-listed-in : (s : Schema) (lists : List (List ℕ)) → AreInverted s.one_of_lists lists → AreListedIn s lists
 are-listed-in s lists are = record {
-  each = λ e k. (λ among. (in-list s.one_of_lists k e).0 ((are.each e k).0 among), λ is. (are.each e k).1 ((in-list s.one_of_lists k e).1 is));
+  each = λ e k. (
+    λ among. (in-list s.one_of_lists k e).0 ((are.each e k).0 among),
+    λ is. (are.each e k).1
+        ((in-list s.one_of_lists k e).1 is),
+  );
   rising = are.rising;
 }
 
 -- no number below a place and none from it on is the number
-pub not-there : (others : List ℕ) (number place : ℕ) → IsStrictlyIncreasing others → ((k : ℕ) → k < place → get_or others k 0 < number) → (place < length others → number ≤ get_or others place 0) → (place < length others → get_or others place 0 ≡ number → ⊥) → Contains others number → ⊥
+pub not-there : (others : List ℕ) (number place : ℕ) → IsStrictlyIncreasing others → ((k : ℕ) → k < place → get_or others k 0 < number)
+    → (place < length others → number ≤ get_or others place 0) → (place < length others → get_or others place 0 ≡ number → ⊥)
+    → Contains others number → ⊥
 not-there others number place rising below not_below other (j, within, is) =
     let here : get_or others j 0 ≡ number = sym (get_or_default_zero others j number within) ∙ is in
     elim (cases_lt j place) [

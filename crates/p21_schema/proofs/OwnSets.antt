@@ -1,27 +1,26 @@
 -- The set that an entity and its supertypes make.
-use Rattle.std.specs.Prelude.{◌≡◌, ℕ, ◌<◌, Bool, List, [], length, Contains}
-use Rattle.std.specs.Global.{Vec}
-use Rattle.std.proofs.Common.{arith, ap, sym}
-use Rattle.std.proofs.lemmas.Option.{slice_get_within}
+use Rattle.std.specs.Prelude.{◌≡◌, ℕ, ◌<◌, List, length, Contains}
+use Rattle.std.proofs.Common.{ap, sym}
 use Rattle.p21_spec_basics.proofs.Members.{Contains-flat_map, Contains-one_of}
 use Rattle.p21_spec_schema.specs.Order.{order, own_places}
 use Rattle.p21_spec_schema.specs.PlaceType.{TypeAt, two_redeclarations}
 use Rattle.p21_spec_schema.specs.Schema.{Schema, Place, attributes_of}
 use Rattle.p21_spec_schema.proofs.OwnPlaces.{own_places-within}
 use Rattle.p21_schema.specs.Decisions.{IsDecision}
-use Rattle.p21_schema.specs.OwnSets.{AreOwnClashes, LeavesOpen}
-use Rattle.p21_schema.specs.Prepared.{IsPrepared}
+use Rattle.p21_schema.specs.OwnSets.{LeavesOpen}
 use Rattle.p21_schema.specs.declared.place_types.Decision.{Decision}
 use Rattle.p21_schema.specs.declared.place_types.Decision.TheVariants.{Two}
-use Rattle.p21_schema.specs.declared.tables.Tables.{Tables}
 use Rattle.p21_schema.proofs.Decisions.{open-decided}
 
 -- a place that an entity declares, by its number
-pub own-place-at : (s : Schema) (owner : ℕ) (place : Place) → Contains (own_places s owner) place → (i : ℕ) × (i < length (attributes_of s owner)) × (place ≡ record { entity = owner; index = i })
-own-place-at s owner place among = let (same, below) = own_places-within s owner place among in (place.index, below, ap (λ e. record { entity = e; index = place.index }) (sym same))
+pub own-place-at : (s : Schema) (owner : ℕ) (place : Place) → Contains (own_places s owner) place
+    → (i : ℕ) × (i < length (attributes_of s owner)) × (place ≡ record { entity = owner; index = i })
+own-place-at s owner place among = let (same, below) = own_places-within s owner place among in
+    (place.index, below, ap (λ e. record { entity = e; index = place.index }) (sym same))
 
 -- one decision says that a place is left open
-pub two-only : (s : Schema) (entities : List ℕ) (place : Place) (found : Decision) → IsDecision s entities place found → TypeAt s entities place two_redeclarations → found ≡ Two
+pub two-only : (s : Schema) (entities : List ℕ) (place : Place) (found : Decision) → IsDecision s entities place found
+    → TypeAt s entities place two_redeclarations → found ≡ Two
 two-only s entities place found is open_ = open-decided s entities place open_ found is
 
 -- an entity of the own set leaves a place open, and one that does
@@ -33,25 +32,5 @@ module _ (s : Schema) (e : ℕ) where
   opens owner in_order (p, own, open_) = (p, (Contains-flat_map (own_places s) (order s e) owner p in_order own, open_))
 
   pub opened : LeavesOpen s e → (owner : ℕ) × Contains (order s e) owner × OpensOf owner
-  opened (p, (among, open_)) = let (owner, in_order, own) = Contains-one_of (own_places s) (order s e) p among in (owner, in_order, (p, own, open_))
-
--- the tables with what is prepared of own sets
-pub with-clashes : (s : Schema) (tables : Tables) (clashes : Vec Bool) → IsPrepared s tables → AreOwnClashes s clashes.items → IsPrepared s (record tables { own_clashes = clashes })
-with-clashes s tables clashes is are = record {
-  prefixes_are = is.prefixes_are;
-  orders_are = is.orders_are;
-  above_are = is.above_are;
-  indexes_are = is.indexes_are;
-  listed_are = is.listed_are;
-  redeclared_are = is.redeclared_are;
-  ends_are = is.ends_are;
-  entities_offered = is.entities_offered;
-  types_offered = is.types_offered;
-  ranking_is = is.ranking_is;
-  rising_are = is.rising_are;
-  clashes_are = are;
-}
-
--- as yet there is none
-pub none-prepared : (s : Schema) (clashes : List Bool) → clashes ≡ [] → AreOwnClashes s clashes
-none-prepared s clashes none e clash at = let below = slice_get_within clashes e clash at in absurd (omega (arith, below, ap length none))
+  opened (p, (among, open_)) = let (owner, in_order, own) = Contains-one_of (own_places s) (order s e) p among in
+      (owner, in_order, (p, own, open_))

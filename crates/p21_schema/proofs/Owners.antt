@@ -20,7 +20,8 @@ use Rattle.p21_schema.specs.declared.redeclarers.Redeclarers.{Redeclarers}
 use Rattle.p21_schema.proofs.Places.{same-or}
 
 -- none redeclares a place for which there is no redeclarer
-pub no-redeclarer : (s : Schema) (place : Place) (found : List EntityId) → length found ≡ 0 → ((e : ℕ) → RedeclaresPlace s e place → Contains (numbers found) e) → (e : ℕ) → RedeclaresPlace s e place → ⊥
+pub no-redeclarer : (s : Schema) (place : Place) (found : List EntityId) → length found ≡ 0
+    → ((e : ℕ) → RedeclaresPlace s e place → Contains (numbers found) e) → (e : ℕ) → RedeclaresPlace s e place → ⊥
 no-redeclarer s place [] empty all e is = Contains-none e (all e is)
 no-redeclarer s place (f ∷ found) empty all e is = absurd (omega (arith, empty))
 
@@ -38,7 +39,8 @@ pub adds-none : (e : ℕ) (all : Redeclarers) → AddsRedeclarer e [] all all
 adds-none e all = record { here = λ p among. absurd (Contains-none p among); kept = λ p f among. among; within = λ p f among. inl among }
 
 -- at some places, and at some others
-pub adds-both : (e : ℕ) (ps qs : List Place) (before now after : Redeclarers) → AddsRedeclarer e ps before now → AddsRedeclarer e qs now after → AddsRedeclarer e (ps ++ qs) before after
+pub adds-both : (e : ℕ) (ps qs : List Place) (before now after : Redeclarers) → AddsRedeclarer e ps before now
+    → AddsRedeclarer e qs now after → AddsRedeclarer e (ps ++ qs) before after
 adds-both e ps qs before now after first second = record {
   here = λ p among. elim (Contains-append_cases ps qs p among) [ inl h ↦ second.kept p e (first.here p h) | inr h ↦ second.here p h ];
   kept = λ p f among. second.kept p f (first.kept p f among);
@@ -46,10 +48,12 @@ adds-both e ps qs before now after first second = record {
 }
 
 -- at one place
-pub adds-one : (e : ℕ) (p : Place) (before after : Redeclarers) → redeclarers_in after p ≡ redeclarers_in before p ++ e ∷ [] → ((q : Place) → q ≢ p → redeclarers_in after q ≡ redeclarers_in before q) → AddsRedeclarer e (p ∷ []) before after
+pub adds-one : (e : ℕ) (p : Place) (before after : Redeclarers) → redeclarers_in after p ≡ redeclarers_in before p ++ e ∷ []
+    → ((q : Place) → q ≢ p → redeclarers_in after q ≡ redeclarers_in before q) → AddsRedeclarer e (p ∷ []) before after
 adds-one e p before after there others = record {
   here = λ q among. elim (Contains-cases p [] q among) [
-    | inl same ↦ (let P : Place → Type 0 = λ r. Contains (redeclarers_in after r) e in let Q : List ℕ → Type 0 = λ fs. Contains fs e in subst P same (subst Q (sym there) (Contains-push (redeclarers_in before p) e)))
+    | inl same ↦ (let P : Place → Type 0 = λ r. Contains (redeclarers_in after r) e in let Q : List ℕ
+        → Type 0 = λ fs. Contains fs e in subst P same (subst Q (sym there) (Contains-push (redeclarers_in before p) e)))
     | inr none ↦ absurd (Contains-none q none)
   ];
   kept = λ q f among. let Q : List ℕ → Type 0 = λ fs. Contains fs f in elim (same-or p q) [
@@ -63,13 +67,15 @@ adds-one e p before after there others = record {
     | inl same ↦
         let P : Place → Type 0 = λ r. Contains (redeclarers_in after r) f in
         let R : Place → Type 0 = λ r. Contains (redeclarers_in before r) f in
-        elim (Contains-push_cases (redeclarers_in before p) e f (subst Q there (subst P same among))) [ inl old ↦ inl (subst R (sym same) old) | inr new ↦ inr (sym new) ]
+        elim (Contains-push_cases (redeclarers_in before p) e f (subst Q there (subst P same among)))
+        [ inl old ↦ inl (subst R (sym same) old) | inr new ↦ inr (sym new) ]
     | inr differ ↦ inl (subst Q (others q differ) among)
   ];
 }
 
 -- each of the entities so far has been added, and one more
-pub redeclarers-more : (xs : List Entity) (x : Entity) (before after : Redeclarers) → AreRedeclarersOf xs before → AddsRedeclarer (length xs) (places_redeclared x) before after → AreRedeclarersOf (xs ++ x ∷ []) after
+pub redeclarers-more : (xs : List Entity) (x : Entity) (before after : Redeclarers) → AreRedeclarersOf xs before
+    → AddsRedeclarer (length xs) (places_redeclared x) before after → AreRedeclarersOf (xs ++ x ∷ []) after
 redeclarers-more xs x before after so_far adds = record {
   all = λ e y p at among. elim (snoc-get xs x e y at) [
     | inl old ↦ adds.kept p e (so_far.all e y p old among)
@@ -96,7 +102,8 @@ are-redeclarers s all are = record { all = λ e place redeclares. by e place red
     by : (e : ℕ) (place : Place) → RedeclaresPlace s e place → Contains (redeclarers_in all place) e
     by e place (inl (r, ((x, at, among), is))) =
         let P : Place → Type 0 = λ q. Contains (explicit_places x) q in
-        are.all e x place at (Contains-append_left (explicit_places x) x.derived place (subst P is (Contains-mapped (λ q. q.place) x.redeclared r among)))
+        are.all e x place at (Contains-append_left (explicit_places x) x.derived place
+        (subst P is (Contains-mapped (λ q. q.place) x.redeclared r among)))
     by e place (inr (x, at, among)) = are.all e x place at (Contains-append_right (explicit_places x) x.derived place among)
 
 -- ---- positions in the lists of each entity
@@ -104,9 +111,11 @@ are-redeclarers s all are = record { all = λ e place redeclares. by e place red
 pub each-none : (of_each : List EntityPlaces) → of_each ≡ [] → ArePlacesOfEach [] of_each
 each-none of_each none = record { size = ap length none; each = λ e x places at found. (let no : None ≡ Some x = at in cc) }
 
-pub each-next : (xs : List Entity) (x : Entity) (before after : List EntityPlaces) (places : EntityPlaces) → ArePlacesOfEach xs before → ArePlacesOf x places → after ≡ before ++ places ∷ [] → ArePlacesOfEach (xs ++ x ∷ []) after
+pub each-next : (xs : List Entity) (x : Entity) (before after : List EntityPlaces) (places : EntityPlaces) → ArePlacesOfEach xs before
+    → ArePlacesOf x places → after ≡ before ++ places ∷ [] → ArePlacesOfEach (xs ++ x ∷ []) after
 each-next xs x before after places so_far one after_is = record {
-  size = (let long = length-append xs (x ∷ []) in let long_ = length-append before (places ∷ []) in omega (arith, ap length after_is, long, long_, so_far.size));
+  size = (let long = length-append xs (x ∷ []) in let long_ = length-append before (places ∷ []) in
+      omega (arith, ap length after_is, long, long_, so_far.size));
   each = λ e y found at found_at. elim (snoc-get xs x e y at) [
     | inl old ↦ elim (snoc-get before places e found (ap (λ ps. slice_get ps e) (sym after_is) ∙ found_at)) [
       | inl h ↦ so_far.each e y found old h
@@ -123,9 +132,13 @@ each-next xs x before after places so_far one after_is = record {
 }
 
 -- one place more of redeclarations
-pub place-next : {X Y : Type 0} (place : X → Place) (of : Y → Place) (xs after : List X) (x : X) (ys : List Y) (k : ℕ) (d : Y) → k < length ys → after ≡ xs ++ x ∷ [] → place x ≡ of (get_or ys k d) → map place xs ≡ map of (take k ys) → map place after ≡ map of (take (k + 1) ys)
+pub place-next : {X Y : Type 0} (place : X → Place) (of : Y → Place) (xs after : List X) (x : X) (ys : List Y) (k : ℕ) (d : Y)
+    → k < length ys → after ≡ xs ++ x ∷ [] → place x ≡ of (get_or ys k d) → map place xs ≡ map of (take k ys)
+    → map place after ≡ map of (take (k + 1) ys)
 place-next place of xs after x ys k d below after_is is so_far =
-    ap (map place) after_is ∙ map-append place xs (x ∷ []) ∙ ap (λ ps. ps ++ place x ∷ []) so_far ∙ ap (λ p. map of (take k ys) ++ p ∷ []) is ∙ sym (ap (map of) (take_more ys k d below) ∙ map-append of (take k ys) (get_or ys k d ∷ []))
+    ap (map place) after_is ∙ map-append place xs (x ∷ []) ∙ ap (λ ps. ps ++ place x ∷ []) so_far
+    ∙ ap (λ p. map of (take k ys) ++ p ∷ []) is ∙ sym (ap (map of) (take_more ys k d below)
+    ∙ map-append of (take k ys) (get_or ys k d ∷ []))
 
 -- ---- what is found of an entity
 
@@ -134,20 +147,27 @@ there [] k below = absurd (omega (arith, below))
 there (x ∷ xs) zero below = (x, refl)
 there (x ∷ xs) (suc k) below = there xs k (omega (arith, below))
 
-unmapped-at : {X Y : Type 0} (f : X → Y) (xs : List X) (k : ℕ) (y : Y) → slice_get (map f xs) k ≡ Some y → (x : X) × (slice_get xs k ≡ Some x) × (f x ≡ y)
+unmapped-at : {X Y : Type 0} (f : X → Y) (xs : List X) (k : ℕ) (y : Y) → slice_get (map f xs) k ≡ Some y
+    → (x : X) × (slice_get xs k ≡ Some x) × (f x ≡ y)
 unmapped-at f [] k y at = cc
 unmapped-at f (x ∷ xs) zero y at = (x, refl, some_is (f x) y at)
 unmapped-at f (x ∷ xs) (suc k) y at = unmapped-at f xs k y at
 
-module _ (s : Schema) (e : ℕ) (p : Place) (places : EntityPlaces) (is : IsEntity s e) (are : (x : Entity) → slice_get s.entities e ≡ Some x → ArePlacesOf x places) where
-  pub derives-option : (result : Option ℕ) → ((qs : List Place) → HavePositions places.derived qs → MatchOption result (Contains qs p → ⊥) (λ k. slice_get qs k ≡ Some p)) → MatchOption result (DerivesPlace s e p → ⊥) (λ k. DerivesPlace s e p)
+module _ (s : Schema) (e : ℕ) (p : Place) (places : EntityPlaces) (is : IsEntity s e)
+    (are : (x : Entity) → slice_get s.entities e ≡ Some x → ArePlacesOf x places) where
+  pub derives-option : (result : Option ℕ) → ((qs : List Place) → HavePositions places.derived qs
+      → MatchOption result (Contains qs p → ⊥) (λ k. slice_get qs k ≡ Some p))
+      → MatchOption result (DerivesPlace s e p → ⊥) (λ k. DerivesPlace s e p)
   derives-option None found = λ (x, at, among). found x.derived (are x at).derived_are among
-  derives-option (Some k) found = let (x, at) = there s.entities e is in (x, at, Contains-found x.derived k p (found x.derived (are x at).derived_are))
+  derives-option (Some k) found = let (x, at) = there s.entities e is in
+      (x, at, Contains-found x.derived k p (found x.derived (are x at).derived_are))
 
-  pub redeclares-option : (result : Option ℕ) → ((qs : List Place) → HavePositions places.redeclared qs → MatchOption result (Contains qs p → ⊥) (λ k. slice_get qs k ≡ Some p))
+  pub redeclares-option : (result : Option ℕ) → ((qs : List Place) → HavePositions places.redeclared qs
+      → MatchOption result (Contains qs p → ⊥) (λ k. slice_get qs k ≡ Some p))
       → MatchOption result (IsRedeclarer s p e → ⊥) (λ k. (r : Redeclared) × IsRedeclaredAs s e k r × (r.place ≡ p))
   redeclares-option None found =
-      λ (r, ((x, at, among), same)). let P : Place → Type 0 = λ q. Contains (explicit_places x) q in found (explicit_places x) (are x at).explicit_are (subst P same (Contains-mapped (λ q. q.place) x.redeclared r among))
+      λ (r, ((x, at, among), same)). let P : Place → Type 0 = λ q. Contains (explicit_places x) q in
+      found (explicit_places x) (are x at).explicit_are (subst P same (Contains-mapped (λ q. q.place) x.redeclared r among))
   redeclares-option (Some k) found =
       let (x, at) = there s.entities e is in
       let (r, r_at, same) = unmapped-at (λ q. q.place) x.redeclared k p (found (explicit_places x) (are x at).explicit_are) in

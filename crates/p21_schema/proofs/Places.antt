@@ -48,7 +48,8 @@ places-none found none = record {
 }
 
 -- one place more
-pub places-more : (before after : BTreeMap (ℕ × ℕ) ℕ) (places : List Place) (p : Place) (at : ℕ) → at ≡ length places → FindsPlaces before places → Updates pair_cmp before after (p.entity, p.index) (Some at) → FindsPlaces after (places ++ p ∷ [])
+pub places-more : (before after : BTreeMap (ℕ × ℕ) ℕ) (places : List Place) (p : Place) (at : ℕ) → at ≡ length places
+    → FindsPlaces before places → Updates pair_cmp before after (p.entity, p.index) (Some at) → FindsPlaces after (places ++ p ∷ [])
 places-more before after places p at long so_far updates = record {
   right = λ q k is. elim (place-cases p q) [
     | inl same ↦
@@ -69,6 +70,7 @@ places-more before after places p at long so_far updates = record {
 }
 
 -- what is found of a place
-pub finds-option : (found : BTreeMap (ℕ × ℕ) ℕ) (places : List Place) → FindsPlaces found places → (p : Place) (result : Option ℕ) → at_place found p ≡ result → MatchOption result (Contains places p → ⊥) (λ at. slice_get places at ≡ Some p)
+pub finds-option : (found : BTreeMap (ℕ × ℕ) ℕ) (places : List Place) → FindsPlaces found places → (p : Place) (result : Option ℕ)
+    → at_place found p ≡ result → MatchOption result (Contains places p → ⊥) (λ at. slice_get places at ≡ Some p)
 finds-option found places is p None at = is.all p at
 finds-option found places is p (Some k) at = is.right p k at

@@ -7,7 +7,8 @@ use Rattle.p21_express_graph.specs.Resolved.{IsEntity}
 use Rattle.p21_schema.specs.RisingSets.{AreRisingSets, IsRisingSet, RisingSet}
 
 -- what a complete table has for an entity
-pub set-kept : {inside s : Schema} {sets : List RisingSet} {e : ℕ} {set kept : RisingSet} → inside ≡ s → AreRisingSets inside sets → IsEntity s e
+pub set-kept : {inside s : Schema} {sets : List RisingSet} {e : ℕ} {set kept : RisingSet} → inside ≡ s → AreRisingSets inside sets
+    → IsEntity s e
     → set ≡ get_or sets e set → set ≡ kept → IsRisingSet s e kept
 set-kept {inside} {s} {sets} {e} {set} {kept} same are is_entity read is =
     let P : Schema → Type 0 = λ z. AreRisingSets z sets in

@@ -77,13 +77,16 @@ abbrev range_code : Coded (ℕ × Option ℕ)
 range_code = coded× coded_ℕ (coded_option coded_ℕ)
 
 abbrev layer_code : Coded Layer
-layer_code = coded⊎ (coded× (coded× coded_ℕ coded_ℕ) (coded× coded_bool coded_bool)) (coded⊎ (coded× range_code coded_bool) (coded⊎ range_code range_code))
+layer_code = coded⊎ (coded× (coded× coded_ℕ coded_ℕ) (coded× coded_bool coded_bool))
+    (coded⊎ (coded× range_code coded_bool) (coded⊎ range_code range_code))
 
 abbrev base_code : Coded Base
-base_code = coded_option (coded_option (coded_option (coded_option (coded_option (coded⊎ (coded⊎ (coded_option width_code) (coded_option width_code)) (coded⊎ coded_ℕ coded_ℕ))))))
+base_code = coded_option (coded_option (coded_option
+    (coded_option (coded_option (coded⊎ (coded⊎ (coded_option width_code) (coded_option width_code)) (coded⊎ coded_ℕ coded_ℕ))))))
 
 abbrev type_code : Coded TypeUse
-type_code = code_by (List Layer × Base) (coded× (coded_list layer_code) base_code) (λ t. (layers t, base t)) (λ p. within p.0 p.1) within-layers
+type_code = code_by (List Layer × Base) (coded× (coded_list layer_code) base_code) (λ t. (layers t, base t)) (λ p. within p.0 p.1)
+    within-layers
 
 abbrev name_code : Coded (List ℕ)
 name_code = coded_list coded_ℕ
@@ -119,25 +122,33 @@ kind-back (items words) = refl
 kind-back (choice members) = refl
 
 abbrev kind_code : Coded Kind
-kind_code = code_by (TypeUse ⊎ (List (List ℕ) ⊎ List Member)) (coded⊎ type_code (coded⊎ (coded_list name_code) (coded_list member_code))) kind_cases kind_from kind-back
+kind_code = code_by (TypeUse ⊎ (List (List ℕ) ⊎ List Member)) (coded⊎ type_code (coded⊎ (coded_list name_code) (coded_list member_code)))
+    kind_cases kind_from kind-back
 
 abbrev attribute_code : Coded Attribute
-attribute_code = code_by ((List ℕ × Bool) × TypeUse) (coded× (coded× name_code coded_bool) type_code) (λ a. ((a.name, a.optional), a.type)) (λ p. record { name = p.0.0; optional = p.0.1; type = p.1 }) (λ _. refl)
+attribute_code = code_by ((List ℕ × Bool) × TypeUse) (coded× (coded× name_code coded_bool) type_code) (λ a. ((a.name, a.optional), a.type))
+    (λ p. record { name = p.0.0; optional = p.0.1; type = p.1 }) (λ _. refl)
 
 abbrev redeclared_code : Coded Redeclared
-redeclared_code = code_by ((Place × Bool) × TypeUse) (coded× (coded× place_code coded_bool) type_code) (λ r. ((r.place, r.optional), r.type)) (λ p. record { place = p.0.0; optional = p.0.1; type = p.1 }) (λ _. refl)
+redeclared_code = code_by ((Place × Bool) × TypeUse) (coded× (coded× place_code coded_bool) type_code)
+    (λ r. ((r.place, r.optional), r.type)) (λ p. record { place = p.0.0; optional = p.0.1; type = p.1 }) (λ _. refl)
 
 abbrev EntityParts : Type 0
 EntityParts = ((List ℕ × Bool) × List ℕ) × ((List Attribute × List Redeclared) × List Place)
 
 abbrev entity_code : Coded Entity
-entity_code = code_by EntityParts (coded× (coded× (coded× name_code coded_bool) (coded_list coded_ℕ)) (coded× (coded× (coded_list attribute_code) (coded_list redeclared_code)) (coded_list place_code)))
+entity_code = code_by EntityParts (coded× (coded× (coded× name_code coded_bool) (coded_list coded_ℕ))
+    (coded× (coded× (coded_list attribute_code) (coded_list redeclared_code)) (coded_list place_code)))
     (λ e. (((e.name, e.is_abstract), e.supertypes), ((e.attributes, e.redeclared), e.derived)))
-    (λ p. record { name = p.0.0.0; is_abstract = p.0.0.1; supertypes = p.0.1; attributes = p.1.0.0; redeclared = p.1.0.1; derived = p.1.1 }) (λ _. refl)
+    (λ p. record { name = p.0.0.0; is_abstract = p.0.0.1; supertypes = p.0.1; attributes = p.1.0.0; redeclared = p.1.0.1; derived = p.1.1 })
+    (λ _. refl)
 
 abbrev defined_code : Coded Defined
-defined_code = code_by (List ℕ × Kind) (coded× name_code kind_code) (λ d. (d.name, d.kind)) (λ p. record { name = p.0; kind = p.1 }) (λ _. refl)
+defined_code = code_by (List ℕ × Kind) (coded× name_code kind_code) (λ d. (d.name, d.kind)) (λ p. record { name = p.0; kind = p.1 })
+    (λ _. refl)
 
 abbrev pub schema_code : Coded Schema
-schema_code = code_by ((List ℕ × List Entity) × (List Defined × List (List ℕ))) (coded× (coded× name_code (coded_list entity_code)) (coded× (coded_list defined_code) (coded_list (coded_list coded_ℕ))))
-    (λ s. ((s.name, s.entities), (s.types, s.one_of_lists))) (λ p. record { name = p.0.0; entities = p.0.1; types = p.1.0; one_of_lists = p.1.1 }) (λ _. refl)
+schema_code = code_by ((List ℕ × List Entity) × (List Defined × List (List ℕ)))
+    (coded× (coded× name_code (coded_list entity_code)) (coded× (coded_list defined_code) (coded_list (coded_list coded_ℕ))))
+    (λ s. ((s.name, s.entities), (s.types, s.one_of_lists)))
+    (λ p. record { name = p.0.0; entities = p.0.1; types = p.1.0; one_of_lists = p.1.1 }) (λ _. refl)

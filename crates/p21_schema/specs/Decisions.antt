@@ -16,7 +16,8 @@ IsRedeclaredAs s e at r = (x : Entity) × (slice_get s.entities e ≡ Some x) ×
 abbrev pub IsDecision : Schema → List ℕ → Place → Decision → Type 0
 IsDecision s entities place Declared = ¬ IsDerivedIn s entities place × ¬ IsRedeclared s entities place
 IsDecision s entities place Derived = IsDerivedIn s entities place
-IsDecision s entities place (Redeclared e at) = ¬ IsDerivedIn s entities place × ((r : MeantRedeclared) × IsRedeclaredAs s e.0 at r × Decides s entities place r)
+IsDecision s entities place (Redeclared e at) = ¬ IsDerivedIn s entities place
+    × ((r : MeantRedeclared) × IsRedeclaredAs s e.0 at r × Decides s entities place r)
 IsDecision s entities place Two = TypeAt s entities place two_redeclarations
 
 -- the entity redeclares the place as an explicit attribute
@@ -52,4 +53,5 @@ IsBelowLast s e (Some last) = IsA s e last.0
 
 -- the entity is one of these that counts and redeclares the place, and no other one that does is a subtype of all that do
 abbrev pub IsLowest : Schema → List ℕ → Option EntityId → Place → ℕ → Type 0
-IsLowest s entities own place e = Contains entities e × IsRedeclaring s own place e × ((f : ℕ) → Contains entities f → IsRedeclaring s own place f → IsBelowAll s entities own place f → f ≡ e)
+IsLowest s entities own place e = Contains entities e × IsRedeclaring s own place e
+    × ((f : ℕ) → Contains entities f → IsRedeclaring s own place f → IsBelowAll s entities own place f → f ≡ e)

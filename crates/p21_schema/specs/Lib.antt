@@ -3,6 +3,7 @@ pub mod Base
 pub mod Coding
 pub mod PlacePositions
 pub mod Decisions
+pub mod EntityTables
 pub mod Ids
 pub mod OneOf
 pub mod OwnSets

@@ -1,14 +1,10 @@
 -- The tables that are prepared for the look-ups of a schema.
 use Rattle.p21_spec_schema.specs.Schema.{Schema, entity_member, type_member}
-use Rattle.p21_express_graph.specs.Above.{AreAbove}
-use Rattle.p21_express_graph.specs.Prefixes.{AreRunPrefixes, lists_in}
-use Rattle.p21_express_graph.specs.Indexes.{AreIndexes}
 use Rattle.p21_express_graph.specs.Offered.{AreOffered}
-use Rattle.p21_express_graph.specs.Orders.{AreOrders, numbers, number_lists}
+use Rattle.p21_express_graph.specs.Orders.{numbers}
 use Rattle.p21_express_graph.specs.Ranking.{IsRanking}
 use Rattle.p21_express_graph.specs.DirectRenaming.{AreEnds}
 use Rattle.p21_express_graph.specs.SettledOrder.{lists_of}
-use Rattle.p21_schema.specs.OneOf.{AreListedIn}
 use Rattle.p21_schema.specs.OwnSets.{AreOwnClashes}
 use Rattle.p21_schema.specs.Redeclarers.{AreRedeclared}
 use Rattle.p21_schema.specs.RisingSets.{AreRisingSets}
@@ -16,11 +12,6 @@ use Rattle.p21_schema.specs.declared.tables.Tables.{Tables}
 
 -- each table is that of the schema
 pub record IsPrepared (s : Schema) (tables : Tables) : Type 0 where
-  pub prefixes_are : AreRunPrefixes tables.orders
-  pub orders_are : AreOrders s (lists_in tables.orders)
-  pub above_are : AreAbove tables.orders tables.above.items
-  pub indexes_are : AreIndexes (number_lists tables.orders.runs.items) tables.above.items tables.indexes.items
-  pub listed_are : AreListedIn s (lists_of tables.listed_in.items)
   pub redeclared_are : AreRedeclared s tables.redeclared
   pub ends_are : AreEnds s tables.ends.items
   pub entities_offered : AreOffered s entity_member (lists_of tables.offered.entities.items)

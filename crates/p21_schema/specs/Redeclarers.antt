@@ -31,7 +31,8 @@ pub record ArePlacesOf (x : Entity) (places : EntityPlaces) : Type 0 where
 -- each entity has those of its lists
 pub record ArePlacesOfEach (entities : List Entity) (of_each : List EntityPlaces) : Type 0 where
   pub size : length of_each ≡ length entities
-  pub each : (e : ℕ) (x : Entity) (places : EntityPlaces) → slice_get entities e ≡ Some x → slice_get of_each e ≡ Some places → ArePlacesOf x places
+  pub each : (e : ℕ) (x : Entity) (places : EntityPlaces) → slice_get entities e ≡ Some x → slice_get of_each e ≡ Some places
+      → ArePlacesOf x places
 
 -- the list at an index; none behind the last one
 abbrev pub items_at : {T : Type 0} → List (std.Vec T Global) → ℕ → List T
@@ -58,7 +59,8 @@ pub record AddsRedeclarer (e : ℕ) (places : List Place) (before after : Redecl
 
 -- each of the entities has been added at the places that it redeclares
 pub record AreRedeclarersOf (entities : List Entity) (redeclarers : Redeclarers) : Type 0 where
-  pub all : (e : ℕ) (x : Entity) (p : Place) → slice_get entities e ≡ Some x → Contains (places_redeclared x) p → Contains (redeclarers_in redeclarers p) e
+  pub all : (e : ℕ) (x : Entity) (p : Place) → slice_get entities e ≡ Some x → Contains (places_redeclared x) p
+      → Contains (redeclarers_in redeclarers p) e
   pub within : (e : ℕ) (p : Place) → Contains (redeclarers_in redeclarers p) e → e < length entities
 
 pub record AreRedeclared (s : Schema) (redeclared : RedeclaredPlaces) : Type 0 where

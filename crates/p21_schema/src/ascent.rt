@@ -48,7 +48,8 @@ impl Schema {
         requires ascends { Ascends ascent.old }
         requires size { length ascent.old.marked.items ≡ length self.now.entities }
         ensures goes_on { OnOk result (AscendsFurther ascent.old ascent.new) }
-        ensures found { OnOk result ((f : ℕ) → Contains ascent.new.above.items f ↔ (Contains ascent.old.above.items f ⊎ ((e : ℕ) × Contains (numbers entities.now) e × HasSupertype self.now e f))) }
+        ensures found { OnOk result ((f : ℕ) → Contains ascent.new.above.items f
+            ↔ (Contains ascent.old.above.items f ⊎ ((e : ℕ) × Contains (numbers entities.now) e × HasSupertype self.now e f))) }
     {
         self.holds_together();
         for entity in entities {
@@ -62,8 +63,10 @@ impl Schema {
         requires ascends { Ascends ascent.old }
         requires size { length ascent.old.marked.items ≡ length self.now.entities }
         ensures kept { OnOk result ((f : ℕ) → Contains ascent.old.above.items f → Contains ascent.new.above.items f) }
-        ensures within { OnOk result ((f : ℕ) → Contains ascent.new.above.items f → (e : ℕ) × Contains ascent.old.above.items e × IsA self.now e f) }
-        ensures closed { OnOk result ((e f : ℕ) → Contains ascent.new.above.items e → HasSupertype self.now e f → Contains ascent.new.above.items f) }
+        ensures within { OnOk result ((f : ℕ) → Contains ascent.new.above.items f
+            → (e : ℕ) × Contains ascent.old.above.items e × IsA self.now e f) }
+        ensures closed { OnOk result ((e f : ℕ) → Contains ascent.new.above.items e → HasSupertype self.now e f
+            → Contains ascent.new.above.items f) }
     {
         self.holds_together();
         for at in 0..self.entities() {
@@ -96,7 +99,8 @@ impl Ascent {
         requires ascends { Ascends self.old }
         requires within { (f : ℕ) → Contains (numbers supertypes.now) f → f < length self.old.marked.items }
         ensures goes_on { OnOk result (AscendsFurther self.old self.new) }
-        ensures found { OnOk result ((f : ℕ) → Contains self.new.above.items f ↔ (Contains self.old.above.items f ⊎ Contains (numbers supertypes.now) f)) }
+        ensures found { OnOk result ((f : ℕ) → Contains self.new.above.items f
+            ↔ (Contains self.old.above.items f ⊎ Contains (numbers supertypes.now) f)) }
     {
         for supertype in supertypes {
             self.add_one(*supertype)?;

@@ -12,7 +12,9 @@ ghost use Rattle.p21_express_graph.specs.Orders.{numbers};
 ghost use Rattle.p21_express_graph.specs.Resolved.{IsEntity};
 ghost use Rattle.p21_schema.specs.NotedEntities.{AreNoted, IsNone, NoneNoted, Notes, NotesSet, noted_in};
 ghost use Rattle.p21_schema.specs.OneOf.{ClashesWith};
+ghost use Rattle.p21_schema.specs.OwnSets.{AreOwnClashes};
 
+use crate::hierarchy::Hierarchy;
 use crate::schema::Schema;
 use p21_express_graph::EntityId;
 use p21_values::NoMemory;
@@ -24,7 +26,7 @@ const MOST_IN_PAIRS: usize = 16;
 
 /// For each ONEOF list the entity that was noted there last.
 #[derive(Drop)]
-pub(crate) struct Holders {
+struct Holders {
     of_lists: Vec<Option<Holder>>,
 }
 
@@ -37,7 +39,7 @@ struct Holder {
 
 impl Holders {
     /// At so many lists none is noted.
-    pub(crate) fn new(alloc: Global, lists: usize) -> Result<Holders, NoMemory>
+    fn new(alloc: Global, lists: usize) -> Result<Holders, NoMemory>
         ensures size { IfOk result (λ holders. length holders.of_lists.items ≡ lists) }
         ensures none { IfOk result (λ holders. Each IsNone holders.of_lists.items) }
     {
@@ -84,7 +86,8 @@ impl Holders {
     /// Whether another entity of an own set is noted at a list.
     fn has_other(&self, set: u32, list: usize, entity: u32) -> bool
         requires { list < length self.now.of_lists.items }
-        ensures { MatchBool result ((other : ℕ) × (noted_in self.now.of_lists.items set list ≡ Some other) × (other ≢ entity)) ((other : ℕ) → noted_in self.now.of_lists.items set list ≡ Some other → other ≡ entity) }
+        ensures { MatchBool result ((other : ℕ) × (noted_in self.now.of_lists.items set list ≡ Some other) × (other ≢ entity))
+            ((other : ℕ) → noted_in self.now.of_lists.items set list ≡ Some other → other ≡ entity) }
     {
         match self.find(set, list) {
             Some(other) => other != entity,
@@ -129,7 +132,8 @@ impl Schema {
         entity: EntityId,
         holders: &mut BTreeMap<usize, u32>,
     ) -> Result<bool, NoMemory>
-        ensures { IfOk result (λ beside. (seen : List ℕ) → AreNoted self.now seen (get nat_cmp holders.old) → MatchBool beside (ClashesWith self.now seen entity.0) (AreNoted self.now (seen ++ entity.0 ∷ []) (get nat_cmp holders.new))) }
+        ensures { IfOk result (λ beside. (seen : List ℕ) → AreNoted self.now seen (get nat_cmp holders.old)
+            → MatchBool beside (ClashesWith self.now seen entity.0) (AreNoted self.now (seen ++ entity.0 ∷ []) (get nat_cmp holders.new))) }
     {
         for number in self.lists_with(entity) {
             if has_other(holders, *number, entity.0) {
@@ -141,9 +145,24 @@ impl Schema {
         }
         Ok(false)
     }
+}
+
+impl Hierarchy {
+    /// Whether the own set of each entity clashes.
+    pub(crate) fn all_own_clashes(&self, alloc: Global) -> Result<Vec<bool>, NoMemory>
+        ensures { IfOk result (λ clashes. AreOwnClashes self.now clashes.items) }
+    {
+        self.holds_together();
+        let mut holders = Holders::new(alloc, self.one_of_lists())?;
+        let mut clashes = Vec::with_capacity(alloc, self.entities())?;
+        for number in 0..self.entities() {
+            clashes.push(self.find_own_clash(EntityId(number as u32), &mut holders))?;
+        }
+        Ok(clashes)
+    }
 
     /// Whether two entities of the own set of an entity stand in one ONEOF list; `holders` has none of that set.
-    pub(crate) fn find_own_clash(&self, set: EntityId, holders: &mut Holders) -> bool
+    fn find_own_clash(&self, set: EntityId, holders: &mut Holders) -> bool
         requires entity { IsEntity self.now set.0 }
         requires size { length holders.old.of_lists.items ≡ length self.now.one_of_lists }
         requires none { NoneNoted set.0 holders.old.of_lists.items }
@@ -161,7 +180,9 @@ impl Schema {
     /// Notes an entity of an own set at each list in which it stands, unless another one stands there.
     fn is_beside(&self, entity: EntityId, set: EntityId, holders: &mut Holders) -> bool
         requires { length holders.old.of_lists.items ≡ length self.now.one_of_lists }
-        ensures clash { (seen : List ℕ) → AreNoted self.now seen (noted_in holders.old.of_lists.items set.0) → MatchBool result (ClashesWith self.now seen entity.0) (AreNoted self.now (seen ++ entity.0 ∷ []) (noted_in holders.new.of_lists.items set.0)) }
+        ensures clash { (seen : List ℕ) → AreNoted self.now seen (noted_in holders.old.of_lists.items set.0)
+            → MatchBool result (ClashesWith self.now seen entity.0)
+            (AreNoted self.now (seen ++ entity.0 ∷ []) (noted_in holders.new.of_lists.items set.0)) }
         ensures noted { NotesSet set.0 holders.old.of_lists.items holders.new.of_lists.items }
     {
         for number in self.lists_with(entity) {
@@ -176,7 +197,8 @@ impl Schema {
 
 /// Whether another number is noted at a list.
 fn has_other(holders: &BTreeMap<usize, u32>, list: usize, number: u32) -> bool
-    ensures { MatchBool result ((other : ℕ) × (get nat_cmp holders.now list ≡ Some other) × (other ≢ number)) ((other : ℕ) → get nat_cmp holders.now list ≡ Some other → other ≡ number) }
+    ensures { MatchBool result ((other : ℕ) × (get nat_cmp holders.now list ≡ Some other) × (other ≢ number))
+        ((other : ℕ) → get nat_cmp holders.now list ≡ Some other → other ≡ number) }
 {
     match holders.get(&list) {
         Some(other) => *other != number,

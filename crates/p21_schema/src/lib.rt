@@ -11,6 +11,7 @@
 
 mod ascent;
 mod base;
+mod hierarchy;
 mod holders;
 mod ids;
 mod one_of;
@@ -24,5 +25,6 @@ mod tables;
 mod words;
 
 pub use base::Base;
+pub use hierarchy::Hierarchy;
 pub use ids::Ids;
 pub use schema::Schema;

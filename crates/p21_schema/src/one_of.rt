@@ -50,10 +50,7 @@ impl Schema {
         ensures each { (k : ℕ) → Contains result.now k ↔ IsListedIn self.now k entity.0 }
         ensures rising { IsStrictlyIncreasing result.now }
     {
-        match self.tables.listed_in.get(entity.0 as usize) {
-            Some(lists) => lists,
-            None => &[],
-        }
+        self.hierarchy.lists_with(entity)
     }
 }
 

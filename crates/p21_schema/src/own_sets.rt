@@ -1,4 +1,4 @@
-ghost use Rattle.std.specs.Prelude.{◌≡◌, ◌<◌, ◌↔◌, ℕ, IsTrue, length, Contains, IfOk, OnErr, OnOk};
+ghost use Rattle.std.specs.Prelude.{◌≡◌, ◌<◌, ◌↔◌, ℕ, IsTrue, length, Contains, IfOk, OnErr};
 ghost use Rattle.p21_spec_schema.specs.Schema.{Place as MeantPlace};
 ghost use Rattle.p21_spec_schema.specs.OneOf.{Clashes};
 ghost use Rattle.p21_spec_schema.specs.Order.{order, own_places};
@@ -10,10 +10,9 @@ ghost use Rattle.p21_express_graph.specs.Orders.{numbers};
 ghost use Rattle.p21_express_graph.specs.Resolved.{IsEntity, IsPlace};
 ghost use Rattle.p21_express_graph.specs.Rising.{IsOwnRising};
 ghost use Rattle.p21_schema.specs.Decisions.{IsDecision};
-ghost use Rattle.p21_schema.specs.OwnSets.{AreOwnClashes, LeavesOpen};
+ghost use Rattle.p21_schema.specs.OwnSets.{LeavesOpen};
 ghost use Rattle.p21_schema.specs.Redeclarers.{RedeclaresPlace};
 
-use crate::holders::Holders;
 use crate::ids::Ids;
 use crate::place_types::Decision;
 use crate::schema::Schema;
@@ -121,40 +120,7 @@ impl Schema {
         requires other { IsEntity self.now other.0 }
         ensures { IsTrue result ↔ IsA self.now entity.0 other.0 }
     {
-        self.begins_with(entity, other) || self.is_a(entity, other)
-    }
-
-    /// Whether the orders of two entities are fronts of one run, that of the other one no longer.
-    fn begins_with(&self, entity: EntityId, other: EntityId) -> bool
-        requires entity { IsEntity self.now entity.0 }
-        requires other { IsEntity self.now other.0 }
-        ensures { IsTrue result → IsA self.now entity.0 other.0 }
-    {
-        self.holds_together();
-        let whole = self.tables.orders.prefix_of(entity.0);
-        let front = self.tables.orders.prefix_of(other.0);
-        front.run == whole.run && front.size <= whole.size
-    }
-
-    /// Prepares whether the own sets of all entities clash.
-    pub(crate) fn prepare_clashes(&mut self) -> Result<(), NoMemory>
-        ensures { OnOk result (self.new ≡ self.old) }
-    {
-        self.tables.own_clashes = self.all_own_clashes()?;
-        Ok(())
-    }
-
-    /// Whether the own set of each entity clashes.
-    fn all_own_clashes(&self) -> Result<Vec<bool>, NoMemory>
-        ensures { IfOk result (λ clashes. AreOwnClashes self.now clashes.items) }
-    {
-        self.holds_together();
-        let mut holders = Holders::new(self.alloc, self.one_of_lists())?;
-        let mut clashes = Vec::with_capacity(self.alloc, self.entities())?;
-        for number in 0..self.entities() {
-            clashes.push(self.find_own_clash(EntityId(number as u32), &mut holders))?;
-        }
-        Ok(clashes)
+        self.hierarchy.begins_with(entity, other) || self.is_a(entity, other)
     }
 
     /// Whether two entities of the set of an entity and its supertypes stand in one ONEOF list (ISO 10303-11, Subtype/supertype
@@ -163,10 +129,7 @@ impl Schema {
         requires { IsEntity self.now entity.0 }
         ensures { IsTrue result ↔ Clashes self.now (order self.now entity.0) }
     {
-        match self.tables.own_clashes.get(entity.0 as usize) {
-            Some(clash) => *clash,
-            None => self.clashes(self.order_of(entity)),
-        }
+        self.tables.own_clashes[entity.0 as usize]
     }
 
     fn find_rising(&self, entity: EntityId) -> Result<Vec<EntityId>, NoMemory>
@@ -197,7 +160,8 @@ impl Schema {
     fn leaves_open_of(&self, entity: EntityId, owner: EntityId) -> bool
         requires entity { IsEntity self.now entity.0 }
         requires owner { IsEntity self.now owner.0 }
-        ensures { IsTrue result ↔ ((p : MeantPlace) × Contains (own_places self.now owner.0) p × TypeAt self.now (order self.now entity.0) p two_redeclarations) }
+        ensures { IsTrue result ↔ ((p : MeantPlace) × Contains (own_places self.now owner.0) p
+            × TypeAt self.now (order self.now entity.0) p two_redeclarations) }
     {
         for index in 0..self.attribute_count(owner) {
             let place = Place {

@@ -31,7 +31,8 @@ impl PlacePositions {
     }
 
     pub(crate) fn find(&self, place: Place) -> Option<usize>
-        ensures { (places : List MeantPlace) → HavePositions self.now places → MatchOption result (Contains places (place_of place) → ⊥) (λ at. slice_get places at ≡ Some (place_of place)) }
+        ensures { (places : List MeantPlace) → HavePositions self.now places
+            → MatchOption result (Contains places (place_of place) → ⊥) (λ at. slice_get places at ≡ Some (place_of place)) }
     {
         self.found.get(&(place.entity.0, place.index)).copied()
     }

@@ -45,7 +45,8 @@ impl Schema {
     pub(crate) fn decided_type(&self, place: Place, decision: Decision) -> PlaceType<'_>
         requires place { IsPlace self.now (place_of place) }
         requires decided { (entities : List ℕ) × IsDecision self.now entities (place_of place) decision }
-        ensures { (entities : List ℕ) → IsDecision self.now entities (place_of place) decision → TypeAt self.now entities (place_of place) (place_type result) }
+        ensures { (entities : List ℕ) → IsDecision self.now entities (place_of place) decision
+            → TypeAt self.now entities (place_of place) (place_type result) }
     {
         match decision {
             Decision::Declared => {
@@ -91,7 +92,8 @@ impl Schema {
     ) -> Decision
         requires entities { AreEntities self.now (numbers entities.now) }
         requires own { IfSome own (λ e. IsEntity self.now e.0) }
-        ensures { (set : List ℕ) → AreMembers self.now (numbers entities.now) own (place_of place) set → IsDecision self.now set (place_of place) result }
+        ensures { (set : List ℕ) → AreMembers self.now (numbers entities.now) own (place_of place) set
+            → IsDecision self.now set (place_of place) result }
     {
         if self.is_derived_in(entities, own, place) {
             return Decision::Derived;
@@ -113,7 +115,8 @@ impl Schema {
         requires entities { AreEntities self.now (numbers entities.now) }
         requires own { IfSome own (λ e. IsEntity self.now e.0) }
         requires lowest { IsLowest self.now (numbers entities.now) own (place_of place) lowest.0 }
-        ensures { (set : List ℕ) → AreMembers self.now (numbers entities.now) own (place_of place) set → (IsDerivedIn self.now set (place_of place) → ⊥) → IsDecision self.now set (place_of place) result }
+        ensures { (set : List ℕ) → AreMembers self.now (numbers entities.now) own (place_of place) set
+            → (IsDerivedIn self.now set (place_of place) → ⊥) → IsDecision self.now set (place_of place) result }
     {
         if !self.is_below(lowest, entities, own, place) {
             return Decision::Two;
@@ -148,7 +151,8 @@ impl Schema {
     fn lowest(&self, entities: &[EntityId], own: Option<EntityId>, place: Place) -> Option<EntityId>
         requires entities { AreEntities self.now (numbers entities.now) }
         requires own { IfSome own (λ e. IsEntity self.now e.0) }
-        ensures { MatchOption result ((e : ℕ) → Contains (numbers entities.now) e → IsRedeclaring self.now own (place_of place) e → ⊥) (λ e. IsLowest self.now (numbers entities.now) own (place_of place) e.0) }
+        ensures { MatchOption result ((e : ℕ) → Contains (numbers entities.now) e → IsRedeclaring self.now own (place_of place) e → ⊥)
+            (λ e. IsLowest self.now (numbers entities.now) own (place_of place) e.0) }
     {
         self.holds_together();
         let mut lowest: Option<EntityId> = None;
@@ -242,7 +246,8 @@ impl Schema {
     /// Where in its list an entity redeclares a place as an explicit attribute.
     pub(crate) fn redeclaration(&self, entity: EntityId, place: Place) -> Option<usize>
         requires { IsEntity self.now entity.0 }
-        ensures { MatchOption result (IsRedeclarer self.now (place_of place) entity.0 → ⊥) (λ at. (r : MeantRedeclared) × IsRedeclaredAs self.now entity.0 at r × (r.place ≡ place_of place)) }
+        ensures { MatchOption result (IsRedeclarer self.now (place_of place) entity.0 → ⊥)
+            (λ at. (r : MeantRedeclared) × IsRedeclaredAs self.now entity.0 at r × (r.place ≡ place_of place)) }
     {
         let places = self.places_redeclared(entity);
         places.redeclared.find(place)

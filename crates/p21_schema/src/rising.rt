@@ -1,16 +1,14 @@
 ghost use Rattle.std.specs.Prelude.{◌≡◌, ◌<◌, ℕ, length, map, slice_index_or, Contains, IfOk};
 ghost use Rattle.p21_express_graph.specs.Lookups.{AreEntities};
-ghost use Rattle.p21_express_graph.specs.Orders.{AreOrders, numbers};
-ghost use Rattle.p21_express_graph.specs.Prefixes.{AreRunPrefixes, lists_in};
-ghost use Rattle.p21_express_graph.specs.Resolved.{HoldsTogether};
+ghost use Rattle.p21_express_graph.specs.Orders.{numbers};
 ghost use Rattle.p21_express_graph.specs.Rising.{HaveSame};
-ghost use Rattle.p21_express_graph.specs.SchemaContents.{schema_of};
 ghost use Rattle.p21_schema.specs.RisingSets.{AreRanked, AreRisingSets, IsRisingSet, RanksEntities};
 ghost use Rattle.p21_spec_schema.specs.Order.{order};
 ghost use Rattle.p21_spec_schema.specs.Schema.{AreRisingByName, Schema as Meant};
 
+use crate::hierarchy::Hierarchy;
 use crate::schema::Schema;
-use p21_express_graph::{EntityId, PrefixLists, Ranking, SchemaContents, rising_numbers};
+use p21_express_graph::{EntityId, Ranking, rising_numbers};
 use p21_values::NoMemory;
 use std::alloc::Global;
 
@@ -35,20 +33,18 @@ const MOST_OF_A_RISING_SET: usize = 64;
 /// For each entity, it and its supertypes, rising by name, where they are few.
 pub(crate) fn all_rising_sets(
     alloc: Global,
-    parts: &SchemaContents,
-    orders: &PrefixLists,
+    hierarchy: &Hierarchy,
     ranking: &Ranking,
 ) -> Result<Vec<Option<Vec<EntityId>>>, NoMemory>
-    requires holds { HoldsTogether (schema_of parts.now) }
-    requires prefixes { AreRunPrefixes orders.now }
-    requires orders { AreOrders (schema_of parts.now) (lists_in orders.now) }
-    requires ranking { RanksEntities (schema_of parts.now) ranking.now }
-    ensures { IfOk result (λ sets. AreRisingSets (schema_of parts.now) sets.items) }
+    requires { RanksEntities hierarchy.now ranking.now }
+    ensures { IfOk result (λ sets. AreRisingSets hierarchy.now sets.items) }
 {
-    let count = parts.entities.len();
+    hierarchy.holds_together();
+    let count = hierarchy.entities();
     let mut sets = Vec::with_capacity(alloc, count)?;
     for number in 0..count {
-        let set = few_rising(alloc, ranking, orders.list(number as u32))?;
+        let order = hierarchy.order_of(EntityId(number as u32));
+        let set = few_rising(alloc, ranking, order)?;
         sets.push(set)?;
     }
     Ok(sets)

@@ -2,9 +2,8 @@
 //! tables may change under one contract. The price is that schemas have to be coded as numbers and lists
 //! (`specs/Coding`), on which nothing that is claimed rests.
 //!
-//! An entity has fewer than 2^32 attributes (a text of 16 MB can't write more): this is a field of `HoldsTogether`,
-//! since the place is numbered by a u32.
-ghost use Rattle.std.specs.Prelude.{◌≡◌, ◌↔◌, ℕ, IsTrue, length, map, ◌++◌, slice_get, Contains, MatchOption, IfOk, OnOk, Some};
+//! A schema is made of a hierarchy once that has its redeclarations, with each table there.
+ghost use Rattle.std.specs.Prelude.{◌≡◌, ◌↔◌, ℕ, IsTrue, length, map, ◌++◌, slice_get, MatchOption, IfOk, OnOk, Some};
 ghost use Rattle.p21_spec_schema.specs.Schema.{EntityNamed, TypeNamed, PlaceNamed, IsAbstract, entity_member, kind_of, attribute_at, attributes_of};
 ghost use Rattle.p21_spec_schema.specs.Select.{Offers};
 ghost use Rattle.p21_spec_schema.specs.Supertype.{IsA, AreLeaves};
@@ -15,13 +14,11 @@ ghost use Rattle.p21_express_graph.specs.Orders.{numbers};
 ghost use Rattle.p21_express_graph.specs.Meaning.{place as place_of, kind, member as member_of};
 ghost use Rattle.p21_express_graph.specs.Resolved.{HoldsTogether, IsEntity, IsType, IsPlace};
 ghost use Rattle.p21_express_graph.specs.SchemaContents.{schema_of, AreNamed, entity as entity_of, attribute as attribute_of, defined as defined_of};
-ghost use Rattle.p21_express_graph.specs.Redeclaring.{redeclaring, redeclaring_schema};
 
-use crate::redeclarers::all_redeclared;
+use crate::hierarchy::Hierarchy;
 use crate::tables::{Tables, tables_of};
 use p21_express_graph::{
-    Attribute, Defined, Entity, EntityId, Member, Place, Redeclarations, SchemaContents, TypeId,
-    TypeKind, contents_with, is_among,
+    Attribute, Defined, Entity, EntityId, Member, Place, SchemaContents, TypeId, TypeKind, is_among,
 };
 use p21_values::NoMemory;
 use std::alloc::Global;
@@ -31,7 +28,7 @@ use std::marker::Model;
 /// A schema with all names resolved (ISO 10303-11), prepared for look-ups.
 pub struct Schema {
     pub(crate) alloc: Global,
-    parts: SchemaContents,
+    pub(crate) hierarchy: Hierarchy,
     pub(crate) tables: Tables,
 }
 
@@ -40,7 +37,7 @@ impl Drop for Schema {
     fn drop(self) {
         let Schema {
             alloc: _,
-            parts: _,
+            hierarchy: _,
             tables: _,
         } = self;
     }
@@ -61,86 +58,27 @@ impl Model for Schema {
 
     ghost coded = { schema_code };
 
-    ghost use Rattle.p21_express_graph.specs.SchemaContents.{schema_of, AreNamed};
-    ghost use Rattle.p21_express_graph.specs.Resolved.{HoldsTogether};
     ghost use Rattle.p21_schema.specs.Prepared.{IsPrepared};
 
-    ghost view = { λ schema. schema_of schema.parts };
+    ghost view = { λ schema. schema.hierarchy };
 
-    ghost invariant = { λ schema. HoldsTogether (schema_of schema.parts) × AreNamed schema.parts × IsPrepared (schema_of schema.parts) schema.tables };
+    ghost invariant = { λ schema. IsPrepared schema.hierarchy schema.tables };
 }
 
 impl Schema {
-    /// Prepares the parts of a schema.
+    /// Prepares a hierarchy for all look-ups.
     ///
     /// # Errors
     ///
     /// `NoMemory`.
-    pub fn new(alloc: Global, parts: SchemaContents) -> Result<Schema, NoMemory>
-        requires named { AreNamed parts }
-        requires holds_together { HoldsTogether (schema_of parts) }
-        ensures { IfOk result (λ schema. schema ≡ schema_of parts) }
+    pub fn new(alloc: Global, hierarchy: Hierarchy) -> Result<Schema, NoMemory>
+        ensures { IfOk result (λ schema. schema ≡ hierarchy) }
     {
-        let mut schema = Schema::without_own_sets(alloc, parts)?;
-        schema.prepare_clashes()?;
-        Ok(schema)
-    }
-
-    /// Prepares the parts of a schema, but not whether the own sets of entities clash: that is found where it is asked for.
-    ///
-    /// # Errors
-    ///
-    /// `NoMemory`.
-    pub fn without_own_sets(alloc: Global, parts: SchemaContents) -> Result<Schema, NoMemory>
-        requires named { AreNamed parts }
-        requires holds_together { HoldsTogether (schema_of parts) }
-        ensures { IfOk result (λ schema. schema ≡ schema_of parts) }
-    {
-        let tables = tables_of(alloc, &parts)?;
+        let tables = tables_of(alloc, &hierarchy)?;
         Ok(Schema {
             alloc,
-            parts,
+            hierarchy,
             tables,
-        })
-    }
-
-    /// The same schema, in which each entity redeclares what is given for its number. What is prepared without regard to
-    /// redeclarations is kept.
-    ///
-    /// # Errors
-    ///
-    /// `NoMemory`.
-    pub fn with_redeclarations(self, found: Vec<Redeclarations>) -> Result<Schema, NoMemory>
-        requires each { length self.entities ≡ length found.items }
-        requires whole { HoldsTogether (redeclaring_schema self (map redeclaring found.items)) }
-        ensures { IfOk result (λ schema. schema ≡ redeclaring_schema self (map redeclaring found.items)) }
-    {
-        let mut schema = self.with_redeclarers(found)?;
-        schema.prepare_clashes()?;
-        Ok(schema)
-    }
-
-    /// The same, but whether own sets clash isn't prepared.
-    fn with_redeclarers(self, found: Vec<Redeclarations>) -> Result<Schema, NoMemory>
-        requires each { length self.entities ≡ length found.items }
-        requires whole { HoldsTogether (redeclaring_schema self (map redeclaring found.items)) }
-        ensures { IfOk result (λ schema. schema ≡ redeclaring_schema self (map redeclaring found.items)) }
-    {
-        let Schema {
-            alloc,
-            parts,
-            tables,
-        } = self;
-        let whole = contents_with(alloc, parts, found)?;
-        let redeclared = all_redeclared(alloc, &whole)?;
-        Ok(Schema {
-            alloc,
-            parts: whole,
-            tables: Tables {
-                redeclared,
-                own_clashes: Vec::new(alloc),
-                ..tables
-            },
         })
     }
 
@@ -148,7 +86,7 @@ impl Schema {
     pub fn holds_together(&self)
         ensures { HoldsTogether self.now }
     {
-        let _ = &self.parts;
+        self.hierarchy.holds_together();
     }
 
     /// No two entities and no two types have one name, no entity redeclares a place twice as an explicit attribute, and
@@ -159,35 +97,40 @@ impl Schema {
         self.holds_together();
     }
 
+    /// What is declared. It takes no memory.
+    fn contents(&self) -> &SchemaContents
+        ensures value { schema_of result.now ≡ self.now }
+        ensures named { AreNamed result.now }
+    {
+        self.hierarchy.contents()
+    }
+
     /// The name of the schema. It takes no memory.
     pub fn name(&self) -> &[u8]
         ensures { result.now ≡ self.now.name }
     {
-        self.parts.name.bytes()
+        self.contents().name.bytes()
     }
 
     /// How many entities there are. It takes no memory.
     pub fn entities(&self) -> usize
         ensures { result ≡ length self.now.entities }
     {
-        self.parts.entities.len()
+        self.hierarchy.entities()
     }
 
     /// How many types there are. It takes no memory.
     pub fn types(&self) -> usize
         ensures { result ≡ length self.now.types }
     {
-        self.parts.types.len()
+        self.contents().types.len()
     }
 
     /// The entity of this name, in upper case. It takes no memory.
     pub fn entity(&self, name: &[u8]) -> Option<EntityId>
         ensures { MatchOption result ((e : ℕ) → EntityNamed self.now e name.now → ⊥) (λ entity. EntityNamed self.now entity.0 name.now) }
     {
-        match self.parts.entity_names.position(name) {
-            Some(at) => Some(EntityId(at as u32)),
-            None => None,
-        }
+        self.hierarchy.entity(name)
     }
 
     /// The name of an entity, in upper case. It takes no memory.
@@ -211,15 +154,7 @@ impl Schema {
         requires { IsEntity self.now sub.0 }
         ensures { IsTrue result ↔ IsA self.now sub.0 sup.0 }
     {
-        self.holds_together();
-        if sub.0 == sup.0 {
-            return true;
-        }
-        let above = &self.tables.above[sub.0 as usize];
-        if self.tables.indexes[above.front.run].has(sup.0, above.front.size) {
-            return true;
-        }
-        is_among(&above.others, sup.0)
+        self.hierarchy.is_a(sub, sup)
     }
 
     /// The order of an entity in an instance (ISO 10303-21, Mapping of EXPRESS entity data types: internal mapping).
@@ -240,7 +175,7 @@ impl Schema {
         requires { IsEntity self.now entity.0 }
         ensures { numbers result.now ≡ order self.now entity.0 }
     {
-        self.tables.orders.list(entity.0)
+        self.hierarchy.order_of(entity)
     }
 
     /// The places of an entity in an instance, in the order of internal mapping.
@@ -276,8 +211,7 @@ impl Schema {
         requires { IsEntity self.now entity.0 }
         ensures { result ≡ length (attributes_of self.now entity.0) }
     {
-        self.holds_together();
-        self.entity_at(entity).attributes.len() as u32
+        self.hierarchy.attribute_count(entity)
     }
 
     /// The entities of a list that are no supertype of another one in it, in the order of the list.
@@ -304,14 +238,15 @@ impl Schema {
         requires { IsPlace self.now (place_of place) }
         ensures { PlaceNamed self.now (place_of place) result.now }
     {
-        self.attribute_at(place).name.bytes()
+        self.hierarchy.place_name(place)
     }
 
     /// The type of this name, in upper case. It takes no memory.
     pub fn type_named(&self, name: &[u8]) -> Option<TypeId>
         ensures { MatchOption result ((t : ℕ) → TypeNamed self.now t name.now → ⊥) (λ type_. TypeNamed self.now type_.0 name.now) }
     {
-        match self.parts.type_names.position(name) {
+        self.holds_together();
+        match self.contents().names.types.position(name) {
             Some(at) => Some(TypeId(at as u32)),
             None => None,
         }
@@ -356,19 +291,12 @@ impl Schema {
         !self.tables.offered.entities[of.0 as usize].is_empty()
     }
 
-    /// How many ONEOF lists there are.
-    pub(crate) fn one_of_lists(&self) -> usize
-        ensures { result ≡ length self.now.one_of_lists }
-    {
-        self.parts.one_of_lists.len()
-    }
-
     /// The entity of this number.
     pub(crate) fn entity_at(&self, entity: EntityId) -> &Entity
         requires { IsEntity self.now entity.0 }
         ensures { slice_get self.now.entities entity.0 ≡ Some (entity_of result.now) }
     {
-        &self.parts.entities[entity.0 as usize]
+        self.hierarchy.entity_at(entity)
     }
 
     /// The attribute at a place.
@@ -376,7 +304,7 @@ impl Schema {
         requires { IsPlace self.now (place_of place) }
         ensures { attribute_at self.now (place_of place) ≡ Some (attribute_of result.now) }
     {
-        &self.entity_at(place.entity).attributes[place.index as usize]
+        self.hierarchy.attribute_at(place)
     }
 
     /// The type of this number.
@@ -384,6 +312,6 @@ impl Schema {
         requires { IsType self.now of.0 }
         ensures { slice_get self.now.types of.0 ≡ Some (defined_of result.now) }
     {
-        &self.parts.types[of.0 as usize]
+        &self.contents().types[of.0 as usize]
     }
 }

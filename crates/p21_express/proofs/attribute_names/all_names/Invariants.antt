@@ -5,4 +5,4 @@ use Rattle.p21_express.proofs.attribute_names.all_names.Given as goal
 
 -- the names so far
 abbrev pub invariant-loop-index : goal.invariant-loop-index
-invariant-loop-index l = texts_of l.names.items ≡ map (λ a. a.name) (take l.index (attributes_of l.schema l.entity.0))
+invariant-loop-index l = texts_of l.names.items ≡ map (λ a. a.name) (take l.index (attributes_of l.hierarchy l.entity.0))

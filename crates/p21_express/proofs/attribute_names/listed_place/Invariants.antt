@@ -4,4 +4,4 @@ use Rattle.p21_express.proofs.attribute_names.listed_place.Given as goal
 
 -- none so far has the name
 abbrev pub invariant-loop-index : goal.invariant-loop-index
-invariant-loop-index l = (k : ℕ) → k < l.index → PlaceNamed l.schema (record { entity = l.entity.0; index = k }) l.name → ⊥
+invariant-loop-index l = (k : ℕ) → k < l.index → PlaceNamed l.hierarchy (record { entity = l.entity.0; index = k }) l.name → ⊥

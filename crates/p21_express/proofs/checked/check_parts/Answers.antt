@@ -13,7 +13,9 @@ check_supertypes-requires-clause-within c = outline-entities c.requires.0 (schem
 
 pub returns-in_err-check_supertypes : goal.returns-in_err-check_supertypes
 returns-in_err-check_supertypes c k text found =
-    test-refused k c.args.parts.now (HasNoCircle (HasSupertype (schema_of c.args.parts.now))) c.in_err-check_supertypes.field-0.0 c.from_residual.result c.from_residual.ensures.0 c.from_residual.ensures.1 (λ s by. supertypes-refused k (schema_of c.args.parts.now) s found.0 by) c.in_err-check_supertypes.ensures
+    test-refused k c.args.parts.now (HasNoCircle (HasSupertype (schema_of c.args.parts.now))) c.in_err-check_supertypes.field-0.0
+    c.from_residual.result c.from_residual.ensures.0 c.from_residual.ensures.1
+    (λ s by. supertypes-refused k (schema_of c.args.parts.now) s found.0 by) c.in_err-check_supertypes.ensures
 
 pub check_renaming-requires-clause-few : goal.check_renaming-requires-clause-few
 check_renaming-requires-clause-few c = few-types c.requires.0 c.args.parts.now c.requires.1 c.requires.2.0
@@ -23,7 +25,10 @@ check_renaming-requires-clause-within c = outline-types c.requires.0 (schema_of 
 
 pub returns-in_err-check_renaming : goal.returns-in_err-check_renaming
 returns-in_err-check_renaming c k text found =
-    test-refused k c.args.parts.now (HasNoCircle (Renames (schema_of c.args.parts.now))) c.in_err-check_renaming.field-0.0 c.from_residual-in_err-check_renaming.result c.from_residual-in_err-check_renaming.ensures.0 c.from_residual-in_err-check_renaming.ensures.1 (λ s by. renaming-refused k (schema_of c.args.parts.now) s found.0 by) c.in_err-check_renaming.ensures
+    test-refused k c.args.parts.now (HasNoCircle (Renames (schema_of c.args.parts.now))) c.in_err-check_renaming.field-0.0
+    c.from_residual-in_err-check_renaming.result c.from_residual-in_err-check_renaming.ensures.0
+    c.from_residual-in_err-check_renaming.ensures.1 (λ s by. renaming-refused k (schema_of c.args.parts.now) s found.0 by)
+    c.in_err-check_renaming.ensures
 
 pub check_selects-requires-clause-few : goal.check_selects-requires-clause-few
 check_selects-requires-clause-few c = few-types c.requires.0 c.args.parts.now c.requires.1 c.requires.2.0
@@ -33,11 +38,17 @@ check_selects-requires-clause-within c = outline-members c.requires.0 (schema_of
 
 pub returns-in_err-check_selects : goal.returns-in_err-check_selects
 returns-in_err-check_selects c k text found =
-    test-refused k c.args.parts.now (HasNoCircle (HasSelect (schema_of c.args.parts.now))) c.in_err-check_selects.field-0.0 c.from_residual-in_err-check_selects.result c.from_residual-in_err-check_selects.ensures.0 c.from_residual-in_err-check_selects.ensures.1 (λ s by. selects-refused k (schema_of c.args.parts.now) s found.0 by) c.in_err-check_selects.ensures
+    test-refused k c.args.parts.now (HasNoCircle (HasSelect (schema_of c.args.parts.now))) c.in_err-check_selects.field-0.0
+    c.from_residual-in_err-check_selects.result c.from_residual-in_err-check_selects.ensures.0
+    c.from_residual-in_err-check_selects.ensures.1 (λ s by. selects-refused k (schema_of c.args.parts.now) s found.0 by)
+    c.in_err-check_selects.ensures
 
 pub returns-in_err-check_no_select : goal.returns-in_err-check_no_select
 returns-in_err-check_no_select c k text found =
-    test-refused k c.args.parts.now (RenamesNoSelect (schema_of c.args.parts.now)) c.in_err-check_no_select.field-0.0 c.from_residual-in_err-check_no_select.result c.from_residual-in_err-check_no_select.ensures.0 c.from_residual-in_err-check_no_select.ensures.1 (λ s by. no_select-refused k (schema_of c.args.parts.now) s found.0 by) c.in_err-check_no_select.ensures
+    test-refused k c.args.parts.now (RenamesNoSelect (schema_of c.args.parts.now)) c.in_err-check_no_select.field-0.0
+    c.from_residual-in_err-check_no_select.result c.from_residual-in_err-check_no_select.ensures.0
+    c.from_residual-in_err-check_no_select.ensures.1 (λ s by. no_select-refused k (schema_of c.args.parts.now) s found.0 by)
+    c.in_err-check_no_select.ensures
 
 pub returns : goal.returns
 returns c k text found = (

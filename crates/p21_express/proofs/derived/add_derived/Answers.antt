@@ -10,13 +10,17 @@ use Rattle.p21_express.proofs.derived.add_derived.Goals as goal
 
 pub returns-in-Own : goal.returns-in-Own
 returns-in-Own c =
-    let P : AttributeName → Type 0 = λ x. DigestDerivedAre c.args.schema.now (map entity_view c.args.declared.now) c.args.entity.0 (digest_redeclared_names (x ∷ [])) [] in
-    adds-none c.args.schema.now (map entity_view c.args.declared.now) c.args.entity.0 (digest_redeclared_names (c.args.attribute.now ∷ [])) c.args.out.now (subst P (sym c.in-Own.is) no_more)
+    let P : AttributeName → Type 0 = λ x. DigestDerivedAre c.args.hierarchy.now (map entity_view c.args.declared.now) c.args.entity.0
+    (digest_redeclared_names (x ∷ [])) [] in
+    adds-none c.args.hierarchy.now (map entity_view c.args.declared.now) c.args.entity.0
+    (digest_redeclared_names (c.args.attribute.now ∷ [])) c.args.out.now (subst P (sym c.in-Own.is) no_more)
 
 pub returns-in_ok-push-in-Some : goal.returns-in_ok-push-in-Some
 returns-in_ok-push-in-Some c =
     let place = c.in-Some.place in
-    let P : AttributeName → Type 0 = λ x. DigestDerivedAre c.args.schema.now (map entity_view c.args.declared.now) c.args.entity.0 (digest_redeclared_names (x ∷ [])) (place_of place ∷ []) in
+    let P : AttributeName → Type 0 = λ x. DigestDerivedAre c.args.hierarchy.now (map entity_view c.args.declared.now) c.args.entity.0
+    (digest_redeclared_names (x ∷ [])) (place_of place ∷ []) in
     let found = rw c.in-Some.is at c.in_ok-place-in-Redeclared.ensures in
-    adds-one c.args.schema.now (map entity_view c.args.declared.now) c.args.entity.0 (digest_redeclared_names (c.args.attribute.now ∷ [])) c.args.out.now c.push.new.self place c.in_ok-push-in-Some.ensures.items
+    adds-one c.args.hierarchy.now (map entity_view c.args.declared.now) c.args.entity.0
+    (digest_redeclared_names (c.args.attribute.now ∷ [])) c.args.out.now c.push.new.self place c.in_ok-push-in-Some.ensures.items
     (subst P (sym c.in-Redeclared.is) (rw (c.bytes.ensures, c.bytes-in-Redeclared.ensures) at found))

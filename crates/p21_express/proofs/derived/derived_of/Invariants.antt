@@ -7,4 +7,5 @@ use Rattle.p21_express.proofs.derived.derived_of.Given as goal
 
 -- those so far are found
 abbrev pub invariant-loop-name : goal.invariant-loop-name
-invariant-loop-name l = DigestDerivedAre l.schema (map entity_view l.declared) l.entity.0 (digest_redeclared_names (take l.name-index l.derived)) (map place_of l.found.items)
+invariant-loop-name l = DigestDerivedAre l.hierarchy (map entity_view l.declared) l.entity.0
+    (digest_redeclared_names (take l.name-index l.derived)) (map place_of l.found.items)

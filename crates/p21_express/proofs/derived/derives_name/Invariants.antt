@@ -5,4 +5,5 @@ use Rattle.p21_express.proofs.derived.derives_name.Given as goal
 
 -- none so far derives the name
 abbrev pub invariant-loop-owner : goal.invariant-loop-owner
-invariant-loop-owner l = (k : ℕ) → k < l.owner-index → DerivesItself (map entity_view l.declared) (slice_index_or l.owner-items k record { 0 = 0 }).0 l.name → ⊥
+invariant-loop-owner l = (k : ℕ) → k < l.owner-index
+    → DerivesItself (map entity_view l.declared) (slice_index_or l.owner-items k record { 0 = 0 }).0 l.name → ⊥

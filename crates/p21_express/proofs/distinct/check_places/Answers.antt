@@ -15,5 +15,6 @@ returns c =
     let own = λ (r : Redeclared). r.place in
     let P : List Place → Type 0 = λ ps. DecidesClaim (IsDistinct same_place ps) c.check_once.result in
     subst P
-    (ap (map place) (c.deref.ensures.value ∙ c.in_ok-places.ensures) ∙ map-append place (map own c.args.redeclared.now) c.args.derived.now ∙ ap (λ ps. ps ++ map place c.args.derived.now) (map-twice own place c.args.redeclared.now))
+    (ap (map place) (c.deref.ensures.value ∙ c.in_ok-places.ensures) ∙ map-append place (map own c.args.redeclared.now) c.args.derived.now
+    ∙ ap (λ ps. ps ++ map place c.args.derived.now) (map-twice own place c.args.redeclared.now))
     c.check_once.ensures

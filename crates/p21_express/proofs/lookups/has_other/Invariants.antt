@@ -6,4 +6,5 @@ use Rattle.p21_express.proofs.lookups.has_other.Given as goal
 
 -- none so far has another place of the name
 abbrev pub invariant-loop-owner : goal.invariant-loop-owner
-invariant-loop-owner l = (k : ℕ) → k < l.owner-index → (place : Place) → IsPlaceAbove l.schema l.entity.0 (get_or l.owner-items k record { 0 = 0 }).0 l.name place → place ≢ place_of l.first → ⊥
+invariant-loop-owner l = (k : ℕ) → k < l.owner-index → (place : Place)
+    → IsPlaceAbove l.hierarchy l.entity.0 (get_or l.owner-items k record { 0 = 0 }).0 l.name place → place ≢ place_of l.first → ⊥

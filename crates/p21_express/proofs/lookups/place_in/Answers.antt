@@ -6,7 +6,8 @@ use Rattle.p21_express.proofs.lookups.place_in.Goals as goal
 
 pub returns-then-has_other : goal.returns-then-has_other
 returns-then-has_other c = (
-  several c.args.schema.now c.args.entity.0 c.args.name.now (place c.in-Some-first_place.first) c.in-None.ensures c.in-Some-first_place.ensures (c.has_other.ensures.0 c.if-has_other.true),
+  several c.args.hierarchy.now c.args.entity.0 c.args.name.now (place c.in-Some-first_place.first) c.in-None.ensures
+      c.in-Some-first_place.ensures (c.has_other.ensures.0 c.if-has_other.true),
   λ none. none (place c.in-Some-first_place.first) c.in-Some-first_place.ensures,
 )
 
@@ -14,5 +15,6 @@ pub returns-else-has_other : goal.returns-else-has_other
 returns-else-has_other c = inr (
   c.in-None.ensures,
   c.in-Some-first_place.ensures,
-  λ other of. place-one other (place c.in-Some-first_place.first) (λ differ. let t : true ≡ false = sym (c.has_other.ensures.1 (other, of, differ)) ∙ c.if-has_other.false in cc),
+  λ other of. place-one other (place c.in-Some-first_place.first)
+      (λ differ. let t : true ≡ false = sym (c.has_other.ensures.1 (other, of, differ)) ∙ c.if-has_other.false in cc),
 )

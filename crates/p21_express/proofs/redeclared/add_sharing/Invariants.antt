@@ -10,4 +10,6 @@ use Rattle.p21_express.proofs.redeclared.add_sharing.Given as goal
 
 -- those so far are added
 abbrev pub invariant-loop-name : goal.invariant-loop-name
-invariant-loop-name l = (ys : List Redeclared) × (map redeclared l.out.items ≡ map redeclared l.fn.out.items ++ ys) × AllZip (DigestRedeclaredIs l.redeclarer.schema.now (names_of l.redeclarer.known.now) l.redeclarer.entity.0) (redeclared_by (attributes_view l.explicit) (take l.name-index l.explicit.names.items)) ys
+invariant-loop-name l = (ys : List Redeclared) × (map redeclared l.out.items ≡ map redeclared l.fn.out.items ++ ys)
+    × AllZip (DigestRedeclaredIs l.redeclarer.hierarchy.now (names_of l.redeclarer.known.now) l.redeclarer.entity.0)
+    (redeclared_by (attributes_view l.explicit) (take l.name-index l.explicit.names.items)) ys

@@ -9,13 +9,15 @@ pub returns-in-Redeclared : goal.returns-in-Redeclared
 returns-in-Redeclared c =
     let names = c.args.names.now in
     let rest = digest_redeclared_names (drop (c.loop-name.name-index + 1) names) in
-    let all = sym c.loop-name.invariant ∙ redeclared-at names c.loop-name.name-index c.name-item.result c.loop-name-test.true c.name-item.is ∙ ap (λ x. digest_redeclared_names (x ∷ []) ++ rest) c.in-Redeclared.is in
+    let all = sym c.loop-name.invariant ∙ redeclared-at names c.loop-name.name-index c.name-item.result c.loop-name-test.true c.name-item.is
+    ∙ ap (λ x. digest_redeclared_names (x ∷ []) ++ rest) c.in-Redeclared.is in
     let P : List (List ℕ × List ℕ) → Type 0 = λ ds. 0 < length ds in
     ((λ _. subst P (sym all) (omega arith)), (λ _. refl))
 
 pub returns : goal.returns
 returns c =
-    let none = sym c.loop-name.invariant ∙ at_drop_all digest_redeclared_names c.args.names.now c.loop-name.name-index c.loop-name-test.false in
+    let none = sym c.loop-name.invariant ∙ at_drop_all digest_redeclared_names c.args.names.now c.loop-name.name-index
+    c.loop-name-test.false in
     let P : List (List ℕ × List ℕ) → Type 0 = λ ds. 0 < length ds in
     ((λ no. let t : false ≡ true = no in cc), (λ some. absurd (omega (arith, subst P none some))))
 
@@ -23,4 +25,5 @@ pub loop-name-preserved : goal.loop-name-preserved
 loop-name-preserved c =
     let names = c.args.names.now in
     let rest = digest_redeclared_names (drop (c.loop-name.name-index + 1) names) in
-    sym (redeclared-at names c.loop-name.name-index c.name-item.result c.loop-name-test.true c.name-item.is ∙ ap (λ x. digest_redeclared_names (x ∷ []) ++ rest) c.in-Own.is) ∙ c.loop-name.invariant
+    sym (redeclared-at names c.loop-name.name-index c.name-item.result c.loop-name-test.true c.name-item.is
+    ∙ ap (λ x. digest_redeclared_names (x ∷ []) ++ rest) c.in-Own.is) ∙ c.loop-name.invariant

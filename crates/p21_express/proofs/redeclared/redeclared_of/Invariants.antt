@@ -9,4 +9,5 @@ use Rattle.p21_express.proofs.redeclared.redeclared_of.Given as goal
 
 -- those so far are found
 abbrev pub invariant-loop-attributes : goal.invariant-loop-attributes
-invariant-loop-attributes l = AllZip (DigestRedeclaredIs l.schema (names_of l.known) l.fn.entity.0) (digest_redeclared_explicit (map attributes_view (take l.attributes-index l.explicit))) (map redeclared l.found.items)
+invariant-loop-attributes l = AllZip (DigestRedeclaredIs l.hierarchy (names_of l.known) l.fn.entity.0)
+    (digest_redeclared_explicit (map attributes_view (take l.attributes-index l.explicit))) (map redeclared l.found.items)

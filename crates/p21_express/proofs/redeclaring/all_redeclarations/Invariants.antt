@@ -8,4 +8,6 @@ use Rattle.p21_express.proofs.redeclaring.all_redeclarations.Given as goal
 
 -- those so far are found
 abbrev pub invariant-loop-own : goal.invariant-loop-own
-invariant-loop-own l = (length l.found.items ≡ l.own-index) × AllZip (λ own found. RedeclarationsAre l.schema (names_of l.known) (map entity_view l.declared) own.0 own.1 found) (take l.own-index (enumerate_from 0 (map entity_view l.declared))) (map redeclaring l.found.items)
+invariant-loop-own l = (length l.found.items ≡ l.own-index)
+    × AllZip (λ own found. RedeclarationsAre l.hierarchy (names_of l.known) (map entity_view l.declared) own.0 own.1 found)
+    (take l.own-index (enumerate_from 0 (map entity_view l.declared))) (map redeclaring l.found.items)

@@ -8,4 +8,5 @@ use Rattle.p21_express_outline.proofs.attributes.add_sharing.Given as goal
 
 -- what is added so far, and what is left to add
 abbrev pub invariant-loop-name : goal.invariant-loop-name
-invariant-loop-name l = map attribute l.out.items ++ own_with l.optional (type_use (arc_value l.type_use)) (drop l.name-index l.names) ≡ map attribute l.fn.out.items ++ own_with l.optional (type_use (arc_value l.type_use)) l.names
+invariant-loop-name l = map attribute l.out.items ++ own_with l.optional (type_use (arc_value l.type_use)) (drop l.name-index l.names) ≡ map
+    attribute l.fn.out.items ++ own_with l.optional (type_use (arc_value l.type_use)) l.names

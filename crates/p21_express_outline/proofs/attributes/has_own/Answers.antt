@@ -10,7 +10,8 @@ returns-in-Own c =
     let names = c.args.names.now in
     let rest = digest_own_names (drop (c.loop-name.name-index + 1) names) in
     let all : digest_own_names names ≡ c.in-Own._name ∷ rest =
-    sym c.loop-name.invariant ∙ own-at names c.loop-name.name-index c.name-item.result c.loop-name-test.true c.name-item.is ∙ ap (λ x. digest_own_names (x ∷ []) ++ rest) c.in-Own.is in
+    sym c.loop-name.invariant ∙ own-at names c.loop-name.name-index c.name-item.result c.loop-name-test.true c.name-item.is
+    ∙ ap (λ x. digest_own_names (x ∷ []) ++ rest) c.in-Own.is in
     let P : List (List ℕ) → Type 0 = λ ds. 0 < length ds in
     ((λ _. subst P (sym all) (omega arith)), (λ _. refl))
 
@@ -24,4 +25,5 @@ pub loop-name-preserved : goal.loop-name-preserved
 loop-name-preserved c =
     let names = c.args.names.now in
     let rest = digest_own_names (drop (c.loop-name.name-index + 1) names) in
-    sym (own-at names c.loop-name.name-index c.name-item.result c.loop-name-test.true c.name-item.is ∙ ap (λ x. digest_own_names (x ∷ []) ++ rest) c.in-Redeclared.is) ∙ c.loop-name.invariant
+    sym (own-at names c.loop-name.name-index c.name-item.result c.loop-name-test.true c.name-item.is
+    ∙ ap (λ x. digest_own_names (x ∷ []) ++ rest) c.in-Redeclared.is) ∙ c.loop-name.invariant

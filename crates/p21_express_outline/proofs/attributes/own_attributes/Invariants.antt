@@ -8,4 +8,5 @@ use Rattle.p21_express_outline.proofs.attributes.own_attributes.Given as goal
 
 -- those so far are found
 abbrev pub invariant-loop-attributes : goal.invariant-loop-attributes
-invariant-loop-attributes l = AllZip (DigestAttributeIs (names_of l.known)) (digest_own_explicit (map attributes_view (take l.attributes-index l.explicit))) (map attribute l.found.items)
+invariant-loop-attributes l = AllZip (DigestAttributeIs (names_of l.known))
+    (digest_own_explicit (map attributes_view (take l.attributes-index l.explicit))) (map attribute l.found.items)

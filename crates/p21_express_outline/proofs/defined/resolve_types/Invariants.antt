@@ -8,4 +8,5 @@ use Rattle.p21_express_outline.proofs.defined.resolve_types.Given as goal
 
 -- those so far are found
 abbrev pub invariant-loop-defined : goal.invariant-loop-defined
-invariant-loop-defined l = AllZip (λ x found. TypeOutline (names_of l.known) (defined_view x) found) (take l.defined-index l.declared) (map defined l.found.items)
+invariant-loop-defined l = AllZip (λ x found. TypeOutline (names_of l.known) (defined_view x) found) (take l.defined-index l.declared)
+    (map defined l.found.items)

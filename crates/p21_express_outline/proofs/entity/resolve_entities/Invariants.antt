@@ -8,4 +8,5 @@ use Rattle.p21_express_outline.proofs.entity.resolve_entities.Given as goal
 
 -- those so far are found
 abbrev pub invariant-loop-entity : goal.invariant-loop-entity
-invariant-loop-entity l = AllZip (λ x found. EntityFound (names_of l.known) (entity_view x) found) (take l.entity-index l.declared) (map entity l.found.items)
+invariant-loop-entity l = AllZip (λ x found. EntityFound (names_of l.known) (entity_view x) found) (take l.entity-index l.declared)
+    (map entity l.found.items)

@@ -7,4 +7,5 @@ use Rattle.p21_express_outline.specs.Finding.{DecidesClaim}
 use Rattle.p21_express_outline.proofs.names.check_distinct.Goals as goal
 
 pub returns : goal.returns
-returns c = let P : List (List ℕ) → Type 0 = λ names. DecidesClaim (IsDistinct bytes_eq names) c.check_once.result in subst P (ap texts_of c.deref.ensures.value ∙ c.in_ok-names.ensures) c.check_once.ensures
+returns c = let P : List (List ℕ) → Type 0 = λ names. DecidesClaim (IsDistinct bytes_eq names) c.check_once.result in
+    subst P (ap texts_of c.deref.ensures.value ∙ c.in_ok-names.ensures) c.check_once.ensures

@@ -13,14 +13,21 @@ returns-in_err-found-in-Some c =
     let n = names_of c.args.known.now in
     let names = c.in-Some.names.items in
     let refused = rw c.deref-in-Some.ensures.value at c.in_err-found-in-Some.ensures in
-    adds-refused list_of (DigestOneOfIs n) (one_of_list (some_list c.args.names.now)) [] (names ∷ []) [] c.in_err-found-in-Some.field-0.0 c.from_residual-in_err-found-in-Some.result c.args.out.now c.args.out.now
-    c.from_residual-in_err-found-in-Some.ensures.0 c.from_residual-in_err-found-in-Some.ensures.1 (ap (λ o. one_of_list (some_list o)) c.in-Some.is)
+    adds-refused list_of (DigestOneOfIs n) (one_of_list (some_list c.args.names.now)) [] (names ∷ []) [] c.in_err-found-in-Some.field-0.0
+    c.from_residual-in_err-found-in-Some.result c.args.out.now c.args.out.now
+    c.from_residual-in_err-found-in-Some.ensures.0 c.from_residual-in_err-found-in-Some.ensures.1
+    (ap (λ o. one_of_list (some_list o)) c.in-Some.is)
     (λ other. one-none (DigestOneOfIs n) names (λ y h. refused other y (AllZip-turned (IsNamed n.entities) y names h.0)))
 
 pub returns-in_ok-push-in-Some : goal.returns-in_ok-push-in-Some
 returns-in_ok-push-in-Some c =
     let n = names_of c.args.known.now in
     let names = c.in-Some.names.items in
-    push-one list_of (DigestOneOfIs n) names (one_of_list (some_list c.args.names.now)) c.args.out.now.items c.push.new.self.items c.in_ok-found-in-Some.found c.in_ok-push-in-Some.ensures.items
-    (AllZip-turned (λ name e. IsNamed n.entities e name) names (map (λ e. e.0) c.in_ok-found-in-Some.found.items) (rw c.deref-in-Some.ensures.value at c.in_ok-found-in-Some.ensures), rw c.deref.ensures.value at c.in_ok-check_distinct-in-Some.ensures)
+    push-one list_of (DigestOneOfIs n) names (one_of_list (some_list c.args.names.now)) c.args.out.now.items c.push.new.self.items
+    c.in_ok-found-in-Some.found c.in_ok-push-in-Some.ensures.items (
+      AllZip-turned (λ name e. IsNamed n.entities e name) names (map (λ e. e.0) c.in_ok-found-in-Some.found.items)
+          (rw c.deref-in-Some.ensures.value at c.in_ok-found-in-Some.ensures),
+      rw c.deref.ensures.value at
+          c.in_ok-check_distinct-in-Some.ensures,
+    )
     (ap (λ o. one_of_list (some_list o)) c.in-Some.is)

@@ -8,4 +8,5 @@ use Rattle.p21_express_outline.proofs.outlines.resolve_lists.Given as goal
 
 -- those so far are found
 abbrev pub invariant-loop-entity : goal.invariant-loop-entity
-invariant-loop-entity l = AllZip (DigestOneOfIs (names_of l.known)) (digest_one_of_lists (map entity_view (take l.entity-index l.declared))) (map list_of l.found.items)
+invariant-loop-entity l = AllZip (DigestOneOfIs (names_of l.known)) (digest_one_of_lists (map entity_view (take l.entity-index l.declared)))
+    (map list_of l.found.items)

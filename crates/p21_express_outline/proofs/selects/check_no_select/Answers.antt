@@ -12,15 +12,20 @@ returns-then-has_select c = λ other none.
     let (u, among, is) = c.has_select.ensures.0 c.if-has_select.true in
     let P : List ℕ → Type 0 = λ us. Contains us u in
     none c.loop-defined.defined-index u
-    (renames-at c.args.parts.now c.loop-defined.defined-index u c.defined-item.result (rw c.deref-defined-items.ensures.value at c.loop-defined-test.true) (rw c.deref-defined-items.ensures.value at c.defined-item.is)
+    (renames-at c.args.parts.now c.loop-defined.defined-index u c.defined-item.result
+    (rw c.deref-defined-items.ensures.value at c.loop-defined-test.true) (rw c.deref-defined-items.ensures.value at c.defined-item.is)
     (subst P (c.deref.ensures.value ∙ c.in_ok-direct_renaming.ensures) among)) is
 
 pub loop-defined-preserved : goal.loop-defined-preserved
-loop-defined-preserved c = up-to (λ t. (u : ℕ) → Renames (schema_of c.args.parts.now) t u → IsSelect (schema_of c.args.parts.now) u → ⊥) c.loop-defined.defined-index c.loop-defined.invariant
+loop-defined-preserved c = up-to (λ t. (u : ℕ) → Renames (schema_of c.args.parts.now) t u → IsSelect (schema_of c.args.parts.now) u → ⊥)
+    c.loop-defined.defined-index c.loop-defined.invariant
     (λ u renames is.
     let P : List ℕ → Type 0 = λ us. Contains us u in
-    let among = renames-of c.args.parts.now c.loop-defined.defined-index u c.defined-item.result (rw c.deref-defined-items.ensures.value at c.loop-defined-test.true) (rw c.deref-defined-items.ensures.value at c.defined-item.is) renames in
-    let t : true ≡ false = sym (c.has_select.ensures.1 (u, subst P (sym (c.deref.ensures.value ∙ c.in_ok-direct_renaming.ensures)) among, is)) ∙ c.if-has_select.false in cc)
+    let among = renames-of c.args.parts.now c.loop-defined.defined-index u c.defined-item.result
+    (rw c.deref-defined-items.ensures.value at c.loop-defined-test.true) (rw c.deref-defined-items.ensures.value at c.defined-item.is)
+    renames in
+    let t : true ≡ false = sym (c.has_select.ensures.1
+    (u, subst P (sym (c.deref.ensures.value ∙ c.in_ok-direct_renaming.ensures)) among, is)) ∙ c.if-has_select.false in cc)
 
 pub returns : goal.returns
 returns c = λ t u renames is.

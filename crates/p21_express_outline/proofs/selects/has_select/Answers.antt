@@ -7,10 +7,12 @@ use Rattle.p21_express_outline.proofs.Selecting.{none-of, said-none}
 use Rattle.p21_express_outline.proofs.selects.has_select.Goals as goal
 
 pub loop-number-preserved : goal.loop-number-preserved
-loop-number-preserved c = up-to (λ k. IsSelect (schema_of c.args.parts.now) (slice_index_or c.args.numbers.now k 0) → ⊥) c.loop-number.number-index c.loop-number.invariant
+loop-number-preserved c = up-to (λ k. IsSelect (schema_of c.args.parts.now) (slice_index_or c.args.numbers.now k 0) → ⊥)
+    c.loop-number.number-index c.loop-number.invariant
     (λ is. let t : true ≡ false = sym (c.is_select.ensures.1 is) ∙ c.if-is_select.false in cc)
 
 pub returns : goal.returns
 returns c =
     let P : ℕ → Type 0 = IsSelect (schema_of c.args.parts.now) in
-    said-none ((u : ℕ) × Contains c.args.numbers.now u × P u) (none-of P c.args.numbers.now c.loop-number.number-index (omega (arith, c.loop-number-test.false)) c.loop-number.invariant)
+    said-none ((u : ℕ) × Contains c.args.numbers.now u × P u)
+    (none-of P c.args.numbers.now c.loop-number.number-index (omega (arith, c.loop-number-test.false)) c.loop-number.invariant)

@@ -7,7 +7,9 @@ use Rattle.p21_express_outline.proofs.types.resolve_type.Given as goal
 
 -- the aggregates behind those that are left stand around the element
 abbrev pub invariant-loop-left : goal.invariant-loop-left
-invariant-loop-left l = (l.left ≤ length l.written.aggregates.items) × ((element : TypeUse) × SimpleIs (names_of l.known) l.written.element element × (type_use l.found ≡ aggregates_of (drop l.left l.written.aggregates.items) element))
+invariant-loop-left l = (l.left ≤ length l.written.aggregates.items)
+    × ((element : TypeUse) × SimpleIs (names_of l.known) l.written.element element
+    × (type_use l.found ≡ aggregates_of (drop l.left l.written.aggregates.items) element))
 
 abbrev pub decreases-loop-left : goal.decreases-loop-left
 decreases-loop-left l = l.left

@@ -14,4 +14,6 @@ inverted_lists-requires c k e among =
     omega (arith, below, c.len.ensures, mapped-length entity c.args.parts.now.entities.items, c.args.parts.now.entities.ok.0)
 
 pub returns : goal.returns
-returns c = let P : List (List ℕ) → Type 0 = λ tables. AreInverted tables (lists_of c.in_ok-lists.lists.items) in are-listed-in (schema_of c.args.parts.now) (lists_of c.in_ok-lists.lists.items) (subst P (ap number_lists c.deref.ensures.value) c.in_ok-lists.ensures)
+returns c = let P : List (List ℕ) → Type 0 = λ tables. AreInverted tables (lists_of c.in_ok-lists.lists.items) in
+    are-listed-in (schema_of c.args.parts.now) (lists_of c.in_ok-lists.lists.items)
+    (subst P (ap number_lists c.deref.ensures.value) c.in_ok-lists.ensures)

@@ -25,7 +25,8 @@ loop-number-preserved c =
       | else-place-others-via-else-place-others w ↦ absurd (omega (arith, low, w.if-place-others.false))
     ] in (
       c.position_from-place.ensures.within,
-      up-to (λ k. Contains others (get_or numbers k 0) → ⊥) index so_far.1 (not-there others number place c.requires.others_rising below c.position_from-place.ensures.not_below apart),
+      up-to (λ k. Contains others (get_or numbers k 0) → ⊥) index so_far.1
+          (not-there others number place c.requires.others_rising below c.position_from-place.ensures.not_below apart),
       λ k i k_below from within.
           let lt = below k k_below in
           let next = AllPairs-from_increasing numbers c.requires.rising index i 0 (omega (arith, from)) within in
@@ -37,5 +38,6 @@ returns c = (
   λ no. let t : false ≡ true = no in cc,
   λ (k, (i, below, is), other).
       let P : ℕ → Type 0 = λ n. Contains c.args.others.now n in
-      absurd (c.loop-number.invariant.1 i (omega (arith, below, c.loop-number-test.false)) (subst P (sym is ∙ get_or_default_zero c.args.numbers.now i k below) other)),
+      absurd (c.loop-number.invariant.1 i (omega (arith, below, c.loop-number-test.false))
+      (subst P (sym is ∙ get_or_default_zero c.args.numbers.now i k below) other)),
 )

@@ -12,5 +12,6 @@ returns c =
     let Q : List Entity → Type 0 = λ es. AreRedeclarersOf es c.in_ok-redeclarers.redeclarers in
     record {
       each_are = subst P (ap (map entity) c.deref.ensures.value) c.in_ok-of_each.ensures;
-      redeclarers_are = are-redeclarers (schema_of c.args.parts.now) c.in_ok-redeclarers.redeclarers (subst Q (ap (map entity) c.deref-2.ensures.value) c.in_ok-redeclarers.ensures);
+      redeclarers_are = are-redeclarers (schema_of c.args.parts.now) c.in_ok-redeclarers.redeclarers
+          (subst Q (ap (map entity) c.deref-2.ensures.value) c.in_ok-redeclarers.ensures);
     }

@@ -24,7 +24,8 @@ loop-number-preserved c =
     let Q : Entity → Type 0 = λ y. AreRedeclarersOf (map entity (take k xs) ++ y ∷ []) c.add_entity.new.self in
     let R : List Entity → Type 0 = λ es. AreRedeclarersOf es c.add_entity.new.self in
     subst R (sym (numbers-more entity xs k x below))
-    (subst Q (ap entity c.index-entities-number.is) (redeclarers-more (map entity (take k xs)) (entity x) c.loop-number.redeclarers c.add_entity.new.self c.loop-number.invariant (subst P long c.in_ok-add_entity.ensures)))
+    (subst Q (ap entity c.index-entities-number.is) (redeclarers-more (map entity (take k xs)) (entity x) c.loop-number.redeclarers
+    c.add_entity.new.self c.loop-number.invariant (subst P long c.in_ok-add_entity.ensures)))
 
 pub returns : goal.returns
 returns c =

@@ -19,7 +19,9 @@ loop-entity-preserved c =
     let P : List Entity → Type 0 = λ es. ArePlacesOfEach es c.push.new.self.items in
     let Q : Entity → Type 0 = λ x. ArePlacesOf x c.in_ok-places_of_entity.field-0 in
     subst P (sym (numbers-more entity xs k c.entity-item.result c.loop-entity-test.true))
-    (each-next (map entity (take k xs)) (entity (get_or xs k c.entity-item.result)) c.loop-entity.of_each.items c.push.new.self.items c.in_ok-places_of_entity.field-0 c.loop-entity.invariant (subst Q (ap entity c.entity-item.is) c.in_ok-places_of_entity.ensures) c.in_ok-push.ensures.items)
+    (each-next (map entity (take k xs)) (entity (get_or xs k c.entity-item.result)) c.loop-entity.of_each.items c.push.new.self.items
+    c.in_ok-places_of_entity.field-0 c.loop-entity.invariant (subst Q (ap entity c.entity-item.is) c.in_ok-places_of_entity.ensures)
+    c.in_ok-push.ensures.items)
 
 pub returns : goal.returns
 returns c =

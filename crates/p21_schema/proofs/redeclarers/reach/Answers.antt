@@ -7,7 +7,8 @@ pub loop-alloc-init : goal.loop-alloc-init
 loop-alloc-init g c = λ k. refl
 
 pub loop-alloc-preserved : goal.loop-alloc-preserved
-loop-alloc-preserved g c = λ k. ap (λ lists. items_at lists k) c.in_ok-push.ensures.items ∙ items-more c.loop-alloc.lists.items c.new.result c.new.ensures.items k ∙ c.loop-alloc.invariant k
+loop-alloc-preserved g c = λ k. ap (λ lists. items_at lists k) c.in_ok-push.ensures.items
+    ∙ items-more c.loop-alloc.lists.items c.new.result c.new.ensures.items k ∙ c.loop-alloc.invariant k
 
 pub returns-clause-same : goal.returns-clause-same
 returns-clause-same g c = c.loop-alloc.invariant

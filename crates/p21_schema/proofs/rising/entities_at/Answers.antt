@@ -19,5 +19,6 @@ loop-rank-preserved c =
     ap numbers c.in_ok-push.ensures.items
     ∙ map_push (λ e. e.0) c.loop-rank.found.items entity
     ∙ ap (λ xs. xs ++ entity.0 ∷ []) c.loop-rank.invariant
-    ∙ ap (λ x. map entity_of (take k c.args.ranks.now) ++ x ∷ []) (sym (get_or-map (λ e. e.0) c.args.rising.now rank record { 0 = 0 } 0 below))
+    ∙ ap (λ x. map entity_of (take k c.args.ranks.now) ++ x ∷ [])
+    (sym (get_or-map (λ e. e.0) c.args.rising.now rank record { 0 = 0 } 0 below))
     ∙ sym (map_more entity_of c.args.ranks.now k 0 c.loop-rank-test.true)

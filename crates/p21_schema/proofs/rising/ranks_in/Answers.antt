@@ -7,7 +7,8 @@ use Rattle.p21_express_graph.proofs.Lookups.{numbers-more}
 use Rattle.p21_schema.proofs.rising.ranks_in.Goals as goal
 
 pub bounds-ranks-entity : goal.bounds-ranks-entity
-bounds-ranks-entity c = c.requires _ (numbered-at (λ e. e.0) c.args.entities.now c.loop-entity.entity-index record { 0 = 0 } c.loop-entity-test.true)
+bounds-ranks-entity c = c.requires _ (numbered-at (λ e. e.0) c.args.entities.now c.loop-entity.entity-index record { 0 = 0 }
+    c.loop-entity-test.true)
 
 pub loop-entity-preserved : goal.loop-entity-preserved
 loop-entity-preserved c =

@@ -31,4 +31,5 @@ returns-clause-rising c s is =
     let (_, other, within) = c.requires in
     let ranked = looked-up _ _ _ _ _ c.deref.ensures.value refl c.in_ok-found.ensures in
     let entities = looked-up _ _ _ _ _ (ap numbers c.deref-2.ensures.value) c.deref-3.ensures.value c.in_ok-entities.ensures in
-    ranked-rising s _ _ is _ _ _ (λ e among. let below = within e among in omega (arith, below, other.size, is.size)) ranked c.rising_numbers-ranks.ensures _ entities
+    ranked-rising s _ _ is _ _ _ (λ e among. let below = within e among in omega (arith, below, other.size, is.size)) ranked
+    c.rising_numbers-ranks.ensures _ entities

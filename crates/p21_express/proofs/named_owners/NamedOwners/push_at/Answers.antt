@@ -10,4 +10,6 @@ pub returns-clause-owners : goal.returns-clause-owners
 returns-clause-owners c =
     map-set (λ v. numbers v.items) c.args.self.now.owners.items c.args.at c.push.new.self
     ∙ ap (slice_set (number_lists c.args.self.now.owners.items) c.args.at)
-    (ap numbers c.in_ok-push.ensures.items ∙ map-append (λ e. e.0) c.index_mut.result.now.items (c.args.owner ∷ []) ∙ ap (λ ks. ks ++ c.args.owner.0 ∷ []) (sym (nexts_at (λ v. numbers v.items) c.args.self.now.owners.items c.args.at c.index_mut.result.now (numbers c.index_mut.result.now.items) c.requires c.index_mut.ensures.value refl)))
+    (ap numbers c.in_ok-push.ensures.items ∙ map-append (λ e. e.0) c.index_mut.result.now.items (c.args.owner ∷ [])
+    ∙ ap (λ ks. ks ++ c.args.owner.0 ∷ []) (sym (nexts_at (λ v. numbers v.items) c.args.self.now.owners.items c.args.at
+    c.index_mut.result.now (numbers c.index_mut.result.now.items) c.requires c.index_mut.ensures.value refl)))

@@ -22,9 +22,12 @@ pub loop-at-preserved : goal.loop-at-preserved
 loop-at-preserved c =
     let ps : List Numbered = c.args.places.now in
     let k : ℕ = c.loop-at.at in
-    let long : k ≡ length (map place (take k ps)) = sym (mapped-length place (take k ps) ∙ length-take-le k ps (omega (arith, c.loop-at-test.true))) in
+    let long : k ≡ length (map place (take k ps)) = sym
+    (mapped-length place (take k ps) ∙ length-take-le k ps (omega (arith, c.loop-at-test.true))) in
     let P : List Place → Type 0 = λ qs. FindsPlaces c.insert.new.self qs in
-    subst P (sym (numbers-more place ps k first c.loop-at-test.true)) (places-more c.loop-at.found c.insert.new.self (map place (take k ps)) (place (get_or ps k first)) k long c.loop-at.invariant c.in-Ok.ensures.updates)
+    subst P (sym (numbers-more place ps k first c.loop-at-test.true))
+    (places-more c.loop-at.found c.insert.new.self (map place (take k ps)) (place (get_or ps k first)) k long c.loop-at.invariant
+    c.in-Ok.ensures.updates)
 
 pub returns : goal.returns
 returns c =

@@ -21,7 +21,8 @@ loop-place-preserved c =
     let k : ℕ = c.loop-place.place-index in
     let P : List Place → Type 0 = λ qs. AddsRedeclarer c.args.entity.0 qs c.args.self.now c.add.new.self in
     subst P (sym (numbers-more place ps k first c.loop-place-test.true))
-    (adds-both c.args.entity.0 (map place (take k ps)) (place (get_or ps k first) ∷ []) c.args.self.now c.loop-place.self c.add.new.self c.loop-place.invariant c.in_ok-add.ensures)
+    (adds-both c.args.entity.0 (map place (take k ps)) (place (get_or ps k first) ∷ []) c.args.self.now c.loop-place.self c.add.new.self
+    c.loop-place.invariant c.in_ok-add.ensures)
 
 pub returns : goal.returns
 returns c =

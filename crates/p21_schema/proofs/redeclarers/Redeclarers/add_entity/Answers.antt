@@ -13,5 +13,7 @@ returns c =
     let x = entity c.args.entity.now in
     let P : List Place → Type 0 = λ ps. AddsRedeclarer e ps c.args.self.now c.add_all.new.self in
     let Q : List Place → Type 0 = λ ps. AddsRedeclarer e ps c.add_all.new.self c.add_all-2.new.self in
-    let explicit = ap (map place) c.deref-2.ensures.value ∙ c.in_ok-redeclared.ensures ∙ ap (λ rs. map (λ r. r.place) (map redeclared rs)) c.deref.ensures.value in
-    adds-both e (explicit_places x) x.derived c.args.self.now c.add_all.new.self c.add_all-2.new.self (subst P explicit c.in_ok-add_all.ensures) (subst Q (ap (map place) c.deref-3.ensures.value) c.in_ok-add_all-2.ensures)
+    let explicit = ap (map place) c.deref-2.ensures.value ∙ c.in_ok-redeclared.ensures
+    ∙ ap (λ rs. map (λ r. r.place) (map redeclared rs)) c.deref.ensures.value in
+    adds-both e (explicit_places x) x.derived c.args.self.now c.add_all.new.self c.add_all-2.new.self
+    (subst P explicit c.in_ok-add_all.ensures) (subst Q (ap (map place) c.deref-3.ensures.value) c.in_ok-add_all-2.ensures)

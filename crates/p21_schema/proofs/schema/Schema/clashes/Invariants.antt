@@ -4,4 +4,5 @@ use Rattle.p21_schema.specs.OneOf.{ClashesWith}
 use Rattle.p21_schema.proofs.schema.Schema.clashes.Given as goal
 
 abbrev pub invariant-loop-entity : goal.invariant-loop-entity
-invariant-loop-entity l = (k : ℕ) → k < l.entity-index → ClashesWith l.self (numbers l.entities) (slice_index_or l.entities k record { 0 = 0 }).0 → ⊥
+invariant-loop-entity l = (k : ℕ) → k < l.entity-index
+    → ClashesWith l.self (numbers l.entities) (slice_index_or l.entities k record { 0 = 0 }).0 → ⊥

@@ -11,8 +11,10 @@ pub returns-then-is_empty : goal.returns-then-is_empty
 returns-then-is_empty c =
     let s = c.args.self.now in
     let p = place c.args.place in
-    let none = no-redeclarer s p c.redeclarers_of.result.now (eqb-true (length c.redeclarers_of.result.now) 0 (sym c.is_empty.ensures ∙ c.if-is_empty.true)) c.redeclarers_of.ensures.all in
+    let none = no-redeclarer s p c.redeclarers_of.result.now
+    (eqb-true (length c.redeclarers_of.result.now) 0 (sym c.is_empty.ensures ∙ c.if-is_empty.true)) c.redeclarers_of.ensures.all in
     (none-derives s p none (numbers c.args.entities.now), none-redeclares s p none (numbers c.args.entities.now))
 
 pub returns : goal.returns
-returns c = c.decision_among.ensures (numbers c.args.entities.now) (members-all c.args.self.now (numbers c.args.entities.now) (place c.args.place))
+returns c = c.decision_among.ensures (numbers c.args.entities.now)
+    (members-all c.args.self.now (numbers c.args.entities.now) (place c.args.place))

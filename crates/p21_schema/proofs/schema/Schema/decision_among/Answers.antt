@@ -12,10 +12,14 @@ returns-then-is_derived_in c set are =
 
 pub returns-in-Some : goal.returns-in-Some
 returns-in-Some c set are =
-    c.decision_by.ensures set are (λ derived. let t : true ≡ false = sym (c.is_derived_in.ensures.1 (derived-of c.args.self.now (numbers c.args.entities.now) c.args.own (place c.args.place) set are derived)) ∙ c.if-is_derived_in.false in cc)
+    c.decision_by.ensures set are (λ derived. let t : true ≡ false =
+    sym (c.is_derived_in.ensures.1 (derived-of c.args.self.now (numbers c.args.entities.now) c.args.own (place c.args.place) set are
+    derived)) ∙ c.if-is_derived_in.false in cc)
 
 pub returns-in-None : goal.returns-in-None
 returns-in-None c set are = (
-  λ derived. (let t : true ≡ false = sym (c.is_derived_in.ensures.1 (derived-of c.args.self.now (numbers c.args.entities.now) c.args.own (place c.args.place) set are derived)) ∙ c.if-is_derived_in.false in cc),
+  λ derived. (let t : true ≡ false = sym (c.is_derived_in.ensures.1
+      (derived-of c.args.self.now (numbers c.args.entities.now) c.args.own (place c.args.place) set are derived))
+      ∙ c.if-is_derived_in.false in cc),
   none-redeclared c.args.self.now (numbers c.args.entities.now) c.args.own (place c.args.place) set are c.in-None.ensures,
 )

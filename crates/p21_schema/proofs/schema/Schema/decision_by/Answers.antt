@@ -6,8 +6,16 @@ use Rattle.p21_schema.proofs.Decisions.{none-decides, lowest-decides}
 
 pub returns-then-not-is_below : goal.returns-then-not-is_below
 returns-then-not-is_below c set are stored =
-    none-decides c.args.self.now (numbers c.args.entities.now) c.args.own (place c.args.place) set are c.args.lowest.0 c.requires.lowest stored (λ below. let t : true ≡ false = sym (c.is_below.ensures.1 below) ∙ c.if-not-is_below.true in cc)
+    none-decides c.args.self.now (numbers c.args.entities.now) c.args.own (place c.args.place) set are c.args.lowest.0 c.requires.lowest
+    stored (λ below. let t : true ≡ false = sym (c.is_below.ensures.1 below) ∙ c.if-not-is_below.true in cc)
 
 pub returns : goal.returns
-returns c set are stored = let (r, stands, is) = c.in-Some.ensures in
-    (stored, (r, stands, lowest-decides c.args.self.now (numbers c.args.entities.now) c.args.own (place c.args.place) set are c.args.lowest.0 c.requires.lowest (c.is_below.ensures.0 c.if-not-is_below.false) c.in-Some.at r stands is))
+returns c set are stored = let (r, stands, is) = c.in-Some.ensures in (
+  stored,
+  (
+    r,
+    stands,
+    lowest-decides c.args.self.now (numbers c.args.entities.now) c.args.own (place c.args.place) set are
+        c.args.lowest.0 c.requires.lowest (c.is_below.ensures.0 c.if-not-is_below.false) c.in-Some.at r stands is,
+  ),
+)

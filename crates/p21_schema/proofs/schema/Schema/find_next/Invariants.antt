@@ -6,4 +6,6 @@ use Rattle.p21_schema.proofs.schema.Schema.find_next.Given as goal
 
 -- those of the entities so far are found
 abbrev pub invariant-loop-entity : goal.invariant-loop-entity
-invariant-loop-entity l = AscendsFurther l.fn.ascent l.ascent × ((f : ℕ) → Contains l.ascent.above.items f ↔ (Contains l.fn.ascent.above.items f ⊎ HasBelow l.self (numbers (take l.entity-index l.entities)) f))
+invariant-loop-entity l = AscendsFurther l.fn.ascent l.ascent
+    × ((f : ℕ) → Contains l.ascent.above.items f ↔ (Contains l.fn.ascent.above.items f
+    ⊎ HasBelow l.self (numbers (take l.entity-index l.entities)) f))

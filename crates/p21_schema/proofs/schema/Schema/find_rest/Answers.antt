@@ -13,14 +13,16 @@ pub returns-then-at-len-clause-kept : goal.returns-then-at-len-clause-kept
 returns-then-at-len-clause-kept c = found-kept c.args.ascent.now c.loop-at.ascent c.loop-at.invariant.0
 
 pub returns-then-at-len-clause-closed : goal.returns-then-at-len-clause-closed
-returns-then-at-len-clause-closed c = up-all c.args.self.now c.args.ascent.now.above.items c.loop-at.ascent.above.items c.loop-at.at c.loop-at.invariant.1 (omega (arith, c.if-at-len.true, c.len.ensures, c.loop-at.ascent.above.ok.0))
+returns-then-at-len-clause-closed c = up-all c.args.self.now c.args.ascent.now.above.items c.loop-at.ascent.above.items c.loop-at.at
+    c.loop-at.invariant.1 (omega (arith, c.if-at-len.true, c.len.ensures, c.loop-at.ascent.above.ok.0))
 
 pub supertypes-requires : goal.supertypes-requires
 supertypes-requires c =
     let now = c.loop-at.ascent in
     let e : ℕ = c.index.result.now in
     let low : c.loop-at.at < length now.above.items = omega (arith, c.if-at-len.false, c.len.ensures, now.above.ok.0) in
-    let at : slice_get now.above.items c.loop-at.at ≡ Some e = slice_get_read now.above.items (length now.above.items) c.loop-at.at e refl low c.index.ensures in
+    let at : slice_get now.above.items c.loop-at.at ≡ Some e =
+    slice_get_read now.above.items (length now.above.items) c.loop-at.at e refl low c.index.ensures in
     let below = found-within now c.loop-at.invariant.0.ascends e (Contains-found now.above.items c.loop-at.at e at) in
     omega (arith, below, c.loop-at.invariant.0.size, c.requires.size)
 
@@ -37,10 +39,12 @@ loop-at-preserved c =
     let new = c.add.new.self in
     let e : ℕ = c.index.result.now in
     let low : c.loop-at.at < length now.above.items = omega (arith, c.if-at-len.false, c.len.ensures, now.above.ok.0) in
-    let at : slice_get now.above.items c.loop-at.at ≡ Some e = slice_get_read now.above.items (length now.above.items) c.loop-at.at e refl low c.index.ensures in
+    let at : slice_get now.above.items c.loop-at.at ≡ Some e =
+    slice_get_read now.above.items (length now.above.items) c.loop-at.at e refl low c.index.ensures in
     let P : List ℕ → Type 0 = λ fs. (f : ℕ) → Contains new.above.items f ↔ (Contains now.above.items f ⊎ Contains fs f) in (
       goes-on old now new c.loop-at.invariant.0 c.in_ok-add.ensures.goes_on,
-      up-more c.args.self.now old.above.items now.above.items new.above.items c.in_ok-add.ensures.goes_on.begins.0 c.loop-at.at e c.loop-at.invariant.1 at c.in_ok-add.ensures.goes_on.begins.1 (subst P c.supertypes.ensures c.in_ok-add.ensures.found),
+      up-more c.args.self.now old.above.items now.above.items new.above.items c.in_ok-add.ensures.goes_on.begins.0 c.loop-at.at e
+          c.loop-at.invariant.1 at c.in_ok-add.ensures.goes_on.begins.1 (subst P c.supertypes.ensures c.in_ok-add.ensures.found),
     )
 
 pub returns-clause-kept : goal.returns-clause-kept
@@ -49,4 +53,5 @@ returns-clause-kept c = found-kept c.args.ascent.now c.loop-at.ascent c.loop-at.
 pub returns-clause-closed : goal.returns-clause-closed
 returns-clause-closed c =
     let many = found-many c.loop-at.ascent c.loop-at.invariant.0.ascends in
-    up-all c.args.self.now c.args.ascent.now.above.items c.loop-at.ascent.above.items c.loop-at.at c.loop-at.invariant.1 (omega (arith, many, c.loop-at.invariant.0.size, c.requires.size, c.loop-at-test.false, c.entities-at-end.ensures))
+    up-all c.args.self.now c.args.ascent.now.above.items c.loop-at.ascent.above.items c.loop-at.at c.loop-at.invariant.1
+    (omega (arith, many, c.loop-at.invariant.0.size, c.requires.size, c.loop-at-test.false, c.entities-at-end.ensures))

@@ -15,5 +15,6 @@ returns-in-Two c =
 pub returns-in_default : goal.returns-in_default
 returns-in_default c = (
   λ no. let t : false ≡ true = no in cc,
-  λ open_. absurd (c.in_default.not-Two (two-only c.args.self.now (order c.args.self.now c.args.entity.0) (place c.args.place) c.own_decision.result c.own_decision.ensures open_)),
+  λ open_. absurd (c.in_default.not-Two (two-only c.args.self.now (order c.args.self.now c.args.entity.0) (place c.args.place)
+      c.own_decision.result c.own_decision.ensures open_)),
 )

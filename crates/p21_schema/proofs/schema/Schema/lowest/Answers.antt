@@ -15,7 +15,8 @@ pub loop-entity-init : goal.loop-entity-init
 loop-entity-init c f among redeclares = Contains-none f among
 
 pub redeclares_below-requires-clause-entity : goal.redeclares_below-requires-clause-entity
-redeclares_below-requires-clause-entity c = c.requires.entities (get_or c.args.entities.now c.loop-entity.entity-index record { 0 = 0 }).0 (numbered-at (λ e. e.0) c.args.entities.now c.loop-entity.entity-index record { 0 = 0 } c.loop-entity-test.true)
+redeclares_below-requires-clause-entity c = c.requires.entities (get_or c.args.entities.now c.loop-entity.entity-index record { 0 = 0 }).0
+    (numbered-at (λ e. e.0) c.args.entities.now c.loop-entity.entity-index record { 0 = 0 } c.loop-entity-test.true)
 
 pub loop-entity-preserved : goal.loop-entity-preserved
 loop-entity-preserved c =
@@ -28,15 +29,21 @@ loop-entity-preserved c =
     let among = numbered-at (λ x. x.0) c.args.entities.now k record { 0 = 0 } c.loop-entity-test.true in
     let P : List ℕ → Type 0 = λ xs. IsLowestSeen s es own (place c.args.place) xs c.if-redeclares_below.lowest in
     let Q : Option EntityId → Type 0 = λ o. IsLowestSeen s es own (place c.args.place) (seen ++ e.0 ∷ []) o in
-    subst P (sym (numbers-more (λ x. x.0) c.args.entities.now k record { 0 = 0 } c.loop-entity-test.true)) (elim c.if-redeclares_below.branch [
+    subst P (sym (numbers-more (λ x. x.0) c.args.entities.now k record { 0 = 0 } c.loop-entity-test.true))
+    (elim c.if-redeclares_below.branch [
       | then-redeclares_below w ↦
           let (redeclares, below) = c.redeclares_below.ensures.0 w.if-redeclares_below.true in
-          subst Q (sym w.lowest-is) (lower-seen s es own (place c.args.place) seen e among c.holds_together.ensures c.loop-entity.lowest c.loop-entity.invariant redeclares below)
+          subst Q (sym w.lowest-is) (lower-seen s es own (place c.args.place) seen e among c.holds_together.ensures c.loop-entity.lowest
+          c.loop-entity.invariant redeclares below)
       | else-redeclares_below w ↦
-          subst Q (sym w.lowest-is) (other-seen s es own (place c.args.place) seen e among c.loop-entity.lowest c.loop-entity.invariant (λ redeclares below. let t : true ≡ false = sym (c.redeclares_below.ensures.1 (redeclares, below)) ∙ w.if-redeclares_below.false in cc))
+          subst Q (sym w.lowest-is) (other-seen s es own (place c.args.place) seen e among c.loop-entity.lowest c.loop-entity.invariant
+          (λ redeclares below. let t : true ≡ false = sym (c.redeclares_below.ensures.1 (redeclares, below))
+          ∙ w.if-redeclares_below.false in cc))
     ])
 
 pub returns : goal.returns
 returns c =
-    let P : List EntityId → Type 0 = λ xs. IsLowestSeen c.args.self.now (numbers c.args.entities.now) c.args.own (place c.args.place) (numbers xs) c.loop-entity.lowest in
-    seen-all c.args.self.now (numbers c.args.entities.now) c.args.own (place c.args.place) c.loop-entity.lowest (subst P (take_all c.loop-entity.entity-index c.args.entities.now c.loop-entity-test.false) c.loop-entity.invariant)
+    let P : List EntityId → Type 0 = λ xs. IsLowestSeen c.args.self.now (numbers c.args.entities.now) c.args.own (place c.args.place)
+    (numbers xs) c.loop-entity.lowest in
+    seen-all c.args.self.now (numbers c.args.entities.now) c.args.own (place c.args.place) c.loop-entity.lowest
+    (subst P (take_all c.loop-entity.entity-index c.args.entities.now c.loop-entity-test.false) c.loop-entity.invariant)

@@ -16,7 +16,9 @@ returns-then-has_other c seen held =
     let lists = c.lists_with-number-items.result.now in
     let k : ℕ = get_or lists c.loop-number.number-index 0 in
     let (other, is, differ) = c.if-has_other.ensures in
-    clash-found c.args.self.now seen c.args.entity.0 lists c.lists_with-number-items.ensures.each (get nat_cmp c.args.holders.now) held k other (take c.loop-number.number-index lists) (get nat_cmp c.loop-number.holders) c.loop-number.invariant.0 (Contains-get_or lists c.loop-number.number-index 0 c.loop-number-test.true) is differ
+    clash-found c.args.self.now seen c.args.entity.0 lists c.lists_with-number-items.ensures.each (get nat_cmp c.args.holders.now) held k
+    other (take c.loop-number.number-index lists) (get nat_cmp c.loop-number.holders) c.loop-number.invariant.0
+    (Contains-get_or lists c.loop-number.number-index 0 c.loop-number-test.true) is differ
 
 pub loop-number-preserved : goal.loop-number-preserved
 loop-number-preserved c =
@@ -28,8 +30,10 @@ loop-number-preserved c =
     let P : List ℕ → Type 0 = λ ls. IsNoted e ls old (get nat_cmp c.insert.new.self) in
     let Q : List ℕ → Type 0 = λ ls. (j : ℕ) → Contains ls j → (other : ℕ) → old j ≡ Some other → other ≡ e in
     let next = sym (take_more lists i 0 c.loop-number-test.true) in (
-      subst P next (noted-next e (take i lists) k old c.loop-number.holders c.insert.new.self c.loop-number.invariant.0 c.in-Ok.ensures.updates),
-      subst Q next (none-more e (take i lists) k old (get nat_cmp c.loop-number.holders) c.loop-number.invariant.0 c.if-has_other.ensures c.loop-number.invariant.1),
+      subst P next (noted-next e (take i lists) k old c.loop-number.holders c.insert.new.self c.loop-number.invariant.0
+          c.in-Ok.ensures.updates),
+      subst Q next (none-more e (take i lists) k old (get nat_cmp c.loop-number.holders) c.loop-number.invariant.0 c.if-has_other.ensures
+          c.loop-number.invariant.1),
     )
 
 pub returns : goal.returns
@@ -40,4 +44,5 @@ returns c seen held =
     let whole = take_all c.loop-number.number-index lists c.loop-number-test.false in
     let P : List ℕ → Type 0 = λ ls. IsNoted e ls old (get nat_cmp c.loop-number.holders) in
     let Q : List ℕ → Type 0 = λ ls. (j : ℕ) → Contains ls j → (other : ℕ) → old j ≡ Some other → other ≡ e in
-    noted_more c.args.self.now seen e lists c.lists_with-number-items.ensures.each old held (get nat_cmp c.loop-number.holders) (subst P whole c.loop-number.invariant.0) (subst Q whole c.loop-number.invariant.1)
+    noted_more c.args.self.now seen e lists c.lists_with-number-items.ensures.each old held (get nat_cmp c.loop-number.holders)
+    (subst P whole c.loop-number.invariant.0) (subst Q whole c.loop-number.invariant.1)

@@ -3,8 +3,8 @@ use Rattle.std.proofs.Common.{arith, ap, sym, subst, ◌∙◌}
 use Rattle.std.proofs.lemmas.List.{length-append}
 use Rattle.p21_spec_schema.specs.OneOf.{Clashes}
 use Rattle.p21_spec_schema.specs.Order.{order}
-use Rattle.p21_schema.specs.OwnSets.{AreOwnClashes}
-use Rattle.p21_schema.proofs.schema.Schema.all_own_clashes.Goals as goal
+use Rattle.p21_schema.specs.OwnSets.{EachClashes}
+use Rattle.p21_schema.proofs.hierarchy.Hierarchy.all_own_clashes.Goals as goal
 use Rattle.p21_schema.proofs.HeldLists.{none-next}
 use Rattle.p21_schema.proofs.Numbered.{each-more}
 
@@ -21,7 +21,8 @@ loop-number-preserved c =
     let one_more = length-append clashes (clash ∷ []) in
     let size = so_far.0 in (
       omega (arith, long, one_more, size),
-      subst (AreOwnClashes s) (sym c.in_ok-push.ensures.items) (each-more Is clashes clash so_far.1 next),
+      subst (EachClashes s) (sym c.in_ok-push.ensures.items) (each-more Is clashes clash so_far.1 next),
       c.find_own_clash.ensures.noted.size ∙ so_far.2,
-      none-next c.loop-number.number c.loop-number.holders.of_lists.items c.find_own_clash.new.holders.of_lists.items c.find_own_clash.ensures.noted so_far.3,
+      none-next c.loop-number.number c.loop-number.holders.of_lists.items c.find_own_clash.new.holders.of_lists.items
+          c.find_own_clash.ensures.noted so_far.3,
     )

@@ -8,7 +8,7 @@ use Rattle.p21_express_graph.specs.Orders.{number_lists, numbers}
 use Rattle.p21_express_graph.specs.SchemaContents.{entity}
 use Rattle.p21_express_graph.specs.SettledOrder.{nexts_of}
 use Rattle.p21_express_graph.proofs.Gatherings.{mapped-length}
-use Rattle.p21_schema.proofs.tables.order_tables.Goals as goal
+use Rattle.p21_schema.proofs.hierarchy.entity_tables.Goals as goal
 
 pub indexes_of-requires-clause-below : goal.indexes_of-requires-clause-below
 indexes_of-requires-clause-below c r e among =
@@ -22,8 +22,15 @@ indexes_of-requires-clause-within c k above at =
     let has = c.in_ok-above.ensures.each k above (subst P c.deref-2.ensures.value at) in
     omega (arith, has.within.0, mapped-length (λ x. numbers x.items) c.in_ok-orders.orders.runs.items, ap length c.deref.ensures.value)
 
-pub returns-clause-indexes : goal.returns-clause-indexes
-returns-clause-indexes c =
-    let P : List (Vec EntityId Global) → Type 0 = λ runs. AreIndexes (number_lists runs) c.deref-2.result.now c.in_ok-indexes.indexes.items in
+pub returns : goal.returns
+returns c =
+    let P : List (Vec EntityId Global) → Type 0 = λ runs. AreIndexes (number_lists runs) c.deref-2.result.now
+    c.in_ok-indexes.indexes.items in
     let Q : List Above → Type 0 = λ all. AreIndexes (number_lists c.in_ok-orders.orders.runs.items) all c.in_ok-indexes.indexes.items in
-    subst Q c.deref-2.ensures.value (subst P c.deref.ensures.value c.in_ok-indexes.ensures)
+    record {
+      prefixes_are = c.in_ok-orders.ensures.prefixes;
+      orders_are = c.in_ok-orders.ensures.orders;
+      above_are = c.in_ok-above.ensures;
+      indexes_are = subst Q c.deref-2.ensures.value (subst P c.deref.ensures.value c.in_ok-indexes.ensures);
+      listed_are = c.in_ok-listed_in.ensures;
+    }
