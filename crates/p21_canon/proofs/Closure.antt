@@ -20,7 +20,8 @@ taken-length : {X : Type 0} (x : X) (ys rest : List X) → Taken x ys rest → l
 taken-length x ys rest (taken_first y _ same) = refl
 taken-length x ys rest (taken_later y more rest_ taken) = ap suc (taken-length x more rest_ taken)
 
-within-taken : {X : Type 0} (x : X) (xs ys rest : List X) → Taken x ys rest → NoneTwice (x ∷ xs) → AreMembers (x ∷ xs) ys → AreMembers xs rest
+within-taken : {X : Type 0} (x : X) (xs ys rest : List X) → Taken x ys rest → NoneTwice (x ∷ xs) → AreMembers (x ∷ xs) ys
+    → AreMembers xs rest
 within-taken {X} x xs ys rest taken none within z among = elim (Taken-other x ys rest taken z (within z (Contains-later x xs z among))) [
   | inl same ↦ absurd (none.0 (let P : X → Type 0 = λ w. Contains xs w in subst P (sym same) among))
   | inr more ↦ more
@@ -42,7 +43,8 @@ within-all {X} (x ∷ xs) ys none within short y among =
     let (rest, taken) = Contains-taken ys x (within x (Contains-first x xs)) in
     elim (Taken-other x ys rest taken y among) [
       | inl same ↦ (0, omega arith, same)
-      | inr more ↦ Contains-later x xs y (within-all xs rest none.1 (within-taken x xs ys rest taken none within) (omega (arith, short, taken-length x ys rest taken)) y more)
+      | inr more ↦ Contains-later x xs y (within-all xs rest none.1 (within-taken x xs ys rest taken none within)
+          (omega (arith, short, taken-length x ys rest taken)) y more)
     ]
 
 -- ---- the order has none twice
@@ -51,7 +53,8 @@ filtered-passes : (test : ℕ → Bool) (xs : List ℕ) (y : ℕ) → Contains (
 filtered-passes test [] y among = absurd (Contains-none y among)
 filtered-passes test (x ∷ xs) y among = by_test (test x) refl (λ h. filtered-passes test xs y h) among
   where
-    by_test : (b : Bool) → test x ≡ b → (Contains (filter test xs) y → test y ≡ true) → Contains (cond b (x ∷ filter test xs) (filter test xs)) y → test y ≡ true
+    by_test : (b : Bool) → test x ≡ b → (Contains (filter test xs) y → test y ≡ true)
+        → Contains (cond b (x ∷ filter test xs) (filter test xs)) y → test y ≡ true
     by_test true is rest found = elim (Contains-cases x (filter test xs) y found) [ inl h ↦ sym (ap test h) ∙ is | inr h ↦ rest h ]
     by_test false is rest found = rest found
 
@@ -74,25 +77,32 @@ firsts-none_twice (x ∷ xs) = (
 )
 
 order-none_twice : (s : Schema) → IsWellFormed s → (e : ℕ) → NoneTwice (order s e)
-order-none_twice s formed e = subst NoneTwice (sym (order-is s formed.supertypes_are formed.supertypes_end e)) (firsts-none_twice (flat_map (order s) (supertypes_of s e) ++ e ∷ []))
+order-none_twice s formed e = subst NoneTwice (sym (order-is s formed.supertypes_are formed.supertypes_end e))
+    (firsts-none_twice (flat_map (order s) (supertypes_of s e) ++ e ∷ []))
 
 -- ---- the closure of an entity by its order
 
 order-within : (s : Schema) → (entities : List ℕ) → IsClosedSet s entities → (e : ℕ) → Contains entities e → AreMembers (order s e) entities
 order-within s entities set e among f found = set.closed f (e, among, order_within-only s (length s.entities) e f found)
 
-pub long-closure : (s : Schema) → IsWellFormed s → (entities : List ℕ) → IsClosedSet s entities → (e : ℕ) → Contains entities e → length (order s e) ≡ length entities → IsClosureOf s entities e
+pub long-closure : (s : Schema) → IsWellFormed s → (entities : List ℕ) → IsClosedSet s entities → (e : ℕ) → Contains entities e
+    → length (order s e) ≡ length entities → IsClosureOf s entities e
 long-closure s formed entities set e among long f = (
-  λ found. order_within-only s (length s.entities) e f (within-all (order s e) entities (order-none_twice s formed e) (order-within s entities set e among) (omega (arith, long)) f found),
+  λ found. order_within-only s (length s.entities) e f
+      (within-all (order s e) entities (order-none_twice s formed e) (order-within s entities set e among) (omega (arith, long)) f found),
   λ is. set.closed f (e, among, is),
 )
 
-pub closure-long : (s : Schema) → IsWellFormed s → (entities : List ℕ) → IsClosedSet s entities → (e : ℕ) → Contains entities e → IsClosureOf s entities e → length (order s e) ≡ length entities
+pub closure-long : (s : Schema) → IsWellFormed s → (entities : List ℕ) → IsClosedSet s entities → (e : ℕ) → Contains entities e
+    → IsClosureOf s entities e → length (order s e) ≡ length entities
 closure-long s formed entities set e among closure =
     let short = within-length (order s e) entities (order-none_twice s formed e) (order-within s entities set e among) in
-    let long = within-length entities (order s e) (distinct-none_twice entities set.distinct) (λ f found. order-has s formed.supertypes_are formed.supertypes_end e f ((closure f).0 found)) in
+    let long = within-length entities (order s e) (distinct-none_twice entities set.distinct)
+    (λ f found. order-has s formed.supertypes_are formed.supertypes_end e f ((closure f).0 found)) in
     omega (arith, short, long)
 
 -- a set of which none has an order as long has no leaf or several
-pub no_order-no_leaf : (s : Schema) → IsWellFormed s → (entities : List ℕ) → IsClosedSet s entities → ((e : ℕ) → Contains entities e → length (order s e) ≢ length entities) → ¬ HasOneLeaf s entities
-no_order-no_leaf s formed entities set none leaf = none leaf.0 leaf.1.0 (closure-long s formed entities set leaf.0 leaf.1.0 (leaf-closure s formed entities set.closed leaf))
+pub no_order-no_leaf : (s : Schema) → IsWellFormed s → (entities : List ℕ) → IsClosedSet s entities
+    → ((e : ℕ) → Contains entities e → length (order s e) ≢ length entities) → ¬ HasOneLeaf s entities
+no_order-no_leaf s formed entities set none leaf =
+    none leaf.0 leaf.1.0 (closure-long s formed entities set leaf.0 leaf.1.0 (leaf-closure s formed entities set.closed leaf))

@@ -16,7 +16,8 @@ more-push : (ps : List Param) (p : Param) → more_tokens (views (ps ++ p ∷ []
 more-push [] p = ap (λ (ts : List Token). comma ∷ ts) (append-nil (param_tokens (view p)))
 more-push (q ∷ ps) p =
     ap (λ (ts : List Token). comma ∷ (param_tokens (view q) ++ ts)) (more-push ps p)
-    ∙ ap (λ (ts : List Token). comma ∷ ts) (sym (append_assoc (param_tokens (view q)) (more_tokens (views ps)) (comma ∷ param_tokens (view p))))
+    ∙ ap (λ (ts : List Token). comma ∷ ts) (sym (append_assoc (param_tokens (view q)) (more_tokens (views ps))
+    (comma ∷ param_tokens (view p))))
 
 -- the texts with a comma between each two
 abbrev pub row_text : List Param → List ℕ
@@ -35,29 +36,36 @@ first_is : (i : ℕ) → (i == 0) ≡ true → i ≡ 0
 first_is i e = grind (arith, nat_tests)
 
 -- a parameter more
-pub more_written : (ps : List Param) (i : ℕ) (first : Bool) (p : Param) (old out separated new : List ℕ) → first ≡ (i == 0) → p ≡ get_or ps i p → i < length ps → out ≡ old ++ row_text (take i ps) → separated ≡ out ++ separator first
+pub more_written : (ps : List Param) (i : ℕ) (first : Bool) (p : Param) (old out separated new : List ℕ) → first ≡ (i == 0)
+    → p ≡ get_or ps i p → i < length ps → out ≡ old ++ row_text (take i ps) → separated ≡ out ++ separator first
     → new ≡ separated ++ param_text (view p) → new ≡ old ++ row_text (take (i + 1) ps)
 more_written [] i first p old out separated new z is low e f g = absurd (omega (arith, low))
 more_written (q ∷ ps) zero true p old out separated new z is low e f g =
-    g ∙ ap (λ (x : List ℕ). x ++ param_text (view p)) (f ∙ append-nil out ∙ e ∙ append-nil old) ∙ ap (λ (x : List ℕ). old ++ x) (sym (row-first p) ∙ ap (λ (x : Param). row_text (x ∷ [])) is)
+    g ∙ ap (λ (x : List ℕ). x ++ param_text (view p)) (f ∙ append-nil out ∙ e ∙ append-nil old)
+    ∙ ap (λ (x : List ℕ). old ++ x) (sym (row-first p) ∙ ap (λ (x : Param). row_text (x ∷ [])) is)
 more_written (q ∷ ps) zero false p old out separated new z is low e f g = cc
-more_written (q ∷ ps) (suc i) true p old out separated new z is low e f g = absurd (let none = first_is (suc i) (sym z) in omega (arith, none))
+more_written (q ∷ ps) (suc i) true p old out separated new z is low e f g =
+    absurd (let none = first_is (suc i) (sym z) in omega (arith, none))
 more_written (q ∷ ps) (suc i) false p old out separated new z is low e f g =
-    let more : take (suc i + 1) (q ∷ ps) ≡ q ∷ (take i ps ++ p ∷ []) = take_more (q ∷ ps) (suc i) p low ∙ ap (λ (x : Param). (q ∷ take i ps) ++ x ∷ []) (sym is) in
+    let more : take (suc i + 1) (q ∷ ps) ≡ q ∷ (take i ps ++ p ∷ []) = take_more (q ∷ ps) (suc i) p low
+    ∙ ap (λ (x : Param). (q ∷ take i ps) ++ x ∷ []) (sym is) in
     g ∙ ap (λ (x : List ℕ). x ++ param_text (view p)) (f ∙ ap (λ (x : List ℕ). x ++ 44 ∷ []) e)
     ∙ append_assoc (old ++ row_text (q ∷ take i ps)) (44 ∷ []) (param_text (view p))
     ∙ append_assoc old (row_text (q ∷ take i ps)) (44 ∷ param_text (view p))
     ∙ ap (λ (x : List ℕ). old ++ x) (sym (row-next q (take i ps) p) ∙ ap row_text (sym more))
 
 -- a part of it
-pub part_written : (old out separated new x y : List ℕ) → out ≡ (old ++ 40 ∷ []) ++ x → separated ≡ out ++ y → Continues separated new → Continues old new
+pub part_written : (old out separated new x y : List ℕ) → out ≡ (old ++ 40 ∷ []) ++ x → separated ≡ out ++ y → Continues separated new
+    → Continues old new
 part_written old out separated new x y e f c = (
   (40 ∷ x) ++ y ++ c.0,
-  c.1 ∙ ap (λ (z : List ℕ). z ++ c.0) (f ∙ ap (λ (z : List ℕ). z ++ y) (e ∙ append_assoc old (40 ∷ []) x) ∙ append_assoc old (40 ∷ x) y) ∙ append_assoc old ((40 ∷ x) ++ y) c.0,
+  c.1 ∙ ap (λ (z : List ℕ). z ++ c.0) (f ∙ ap (λ (z : List ℕ). z ++ y) (e ∙ append_assoc old (40 ∷ []) x) ∙ append_assoc old (40 ∷ x) y)
+      ∙ append_assoc old ((40 ∷ x) ++ y) c.0,
 )
 
 -- all between parentheses
-pub list_written : (ps : List Param) (i : ℕ) (old out new : List ℕ) → length ps ≤ i → out ≡ (old ++ 40 ∷ []) ++ row_text (take i ps) → new ≡ out ++ 41 ∷ [] → new ≡ old ++ param_text (list (views ps))
+pub list_written : (ps : List Param) (i : ℕ) (old out new : List ℕ) → length ps ≤ i → out ≡ (old ++ 40 ∷ []) ++ row_text (take i ps)
+    → new ≡ out ++ 41 ∷ [] → new ≡ old ++ param_text (list (views ps))
 list_written ps i old out new all e f =
     f ∙ ap (λ (x : List ℕ). x ++ 41 ∷ []) (e ∙ ap (λ (x : List Param). (old ++ 40 ∷ []) ++ row_text x) (take_all i ps all))
     ∙ append_assoc (old ++ 40 ∷ []) (row_text ps) (41 ∷ [])

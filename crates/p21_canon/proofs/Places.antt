@@ -34,7 +34,8 @@ place_at e i = record { entity = e; index = i }
 abbrev HasParam : Schema → EntitySets → Typed → Place → Type 0
 HasParam s kinds m place = (p : Param) × FitsPlace s kinds m place p
 
-found-param : (s : Schema) (kinds : EntitySets) (m : Typed) (ps : List Place) (xs : Params) (place : Place) → FitPlaces s kinds m ps xs → Contains ps place → HasParam s kinds m place
+found-param : (s : Schema) (kinds : EntitySets) (m : Typed) (ps : List Place) (xs : Params) (place : Place) → FitPlaces s kinds m ps xs
+    → Contains ps place → HasParam s kinds m place
 found-param s kinds m [] xs place fit among = absurd (Contains-none place among)
 found-param s kinds m (p ∷ ps) no_params place fit among = absurd fit
 found-param s kinds m (p ∷ ps) (param x xs) place fit among = elim (Contains-cases p ps place among) [
@@ -48,7 +49,8 @@ Contains-from e k (suc n) zero below = let same : k ≡ k + 0 = omega arith in (
 Contains-from e k (suc n) (suc i) below =
     let same : k + 1 + i ≡ k + suc i = omega arith in
     let P : ℕ → Type 0 = λ j. Contains (places_from e (k + 1) n) (place_at e j) in
-    Contains-later (place_at e k) (places_from e (k + 1) n) (place_at e (k + suc i)) (subst P same (Contains-from e (k + 1) n i (omega (arith, below))))
+    Contains-later (place_at e k) (places_from e (k + 1) n) (place_at e (k + suc i))
+    (subst P same (Contains-from e (k + 1) n i (omega (arith, below))))
 
 Contains-own : (s : Schema) (e i : ℕ) → i < length (attributes_of s e) → Contains (own_places s e) (place_at e i)
 Contains-own s e i below =
@@ -58,12 +60,16 @@ Contains-own s e i below =
     subst Q (own-places-are s e) (subst P same (Contains-from e 0 (length (attributes_of s e)) i below))
 
 -- at each place of the set, whatever the form of the record
-has-param : (s : Schema) → IsWellFormed s → (kinds : EntitySets) (r : Record) (m : Typed) → RecordMeans s kinds r m → (e i : ℕ) → Contains m.entities e → i < length (attributes_of s e) → HasParam s kinds m (place_at e i)
+has-param : (s : Schema) → IsWellFormed s → (kinds : EntitySets) (r : Record) (m : Typed) → RecordMeans s kinds r m → (e i : ℕ)
+    → Contains m.entities e → i < length (attributes_of s e) → HasParam s kinds m (place_at e i)
 has-param s formed kinds (simple part) m means e i among below =
-    let in_order : Contains (order s means.means.entity) e = order-has s formed.supertypes_are formed.supertypes_end means.means.entity e ((means.means.closure e).0 among) in
-    found-param s kinds m (places s means.means.entity) part.params (place_at e i) means.means.fit (Contains-flat_map (own_places s) (order s means.means.entity) e (place_at e i) in_order (Contains-own s e i below))
+    let in_order : Contains (order s means.means.entity) e =
+    order-has s formed.supertypes_are formed.supertypes_end means.means.entity e ((means.means.closure e).0 among) in
+    found-param s kinds m (places s means.means.entity) part.params (place_at e i) means.means.fit
+    (Contains-flat_map (own_places s) (order s means.means.entity) e (place_at e i) in_order (Contains-own s e i below))
 has-param s formed kinds (complex parts) m means e i among below =
-    let (part, at, part_means) = AllZip-second_member (PartMeans s kinds m) parts means.means.entities e means.means.parts_mean ((means.means.same_entities e).1 among) in
+    let (part, at, part_means) = AllZip-second_member (PartMeans s kinds m) parts means.means.entities e means.means.parts_mean
+    ((means.means.same_entities e).1 among) in
     found-param s kinds m (own_places s e) part.params (place_at e i) part_means.1 (Contains-own s e i below)
 
 -- ---- the parameters of a row
@@ -79,7 +85,8 @@ IsRest vs k ws = (i j : ℕ) → j ≡ k + i → value_at vs j ≡ value_at ws i
 rest-next : (vs : Values) (k : ℕ) (w : Value) (ws : Values) → IsRest vs k (value w ws) → IsRest vs (k + 1) ws
 rest-next vs k w ws rest i j is = rest (suc i) j (omega (arith, is))
 
-rest-stand : (s : Schema) (kinds : EntitySets) (m : Typed) → NoneTwice m.entities → (e k : ℕ) (vs ws : Values) (n : ℕ) → HasValues m e vs → IsRest vs k ws → count ws ≡ n → ((i : ℕ) → i < k + n → HasParam s kinds m (place_at e i))
+rest-stand : (s : Schema) (kinds : EntitySets) (m : Typed) → NoneTwice m.entities → (e k : ℕ) (vs ws : Values) (n : ℕ) → HasValues m e vs
+    → IsRest vs k ws → count ws ≡ n → ((i : ℕ) → i < k + n → HasParam s kinds m (place_at e i))
     → StandAt s kinds m (places_from e k n) (canonical_params s ws)
 rest-stand s kinds m none e k vs no_values zero has rest long each = (tt, tt)
 rest-stand s kinds m none e k vs no_values (suc n) has rest long each = absurd (omega (arith, long))
@@ -91,37 +98,43 @@ rest-stand s kinds m none e k vs (value w ws) (suc n) has rest long each =
     let same : v ≡ w = value-once m none place v w has_v has_w in
     let fit_w : FitsAt s kinds at x w = (let P : Value → Type 0 = λ u. FitsAt s kinds at x u in subst P same fit) in
     let there : HasValueAt (canonical_typed s m) place (canonical_value s w) = has-canonical_value s m place w has_w in
-    let more = rest-stand s kinds m none e (k + 1) vs ws n has (rest-next vs k w ws rest) (omega (arith, long)) (λ i below. each i (omega (arith, below))) in (
+    let more = rest-stand s kinds m none e (k + 1) vs ws n has (rest-next vs k w ws rest) (omega (arith, long))
+    (λ i below. each i (omega (arith, below))) in (
       ((at, canonical_value s w, type_at, at-fits s kinds at x w fit_w, there), more.0),
       ((canonical_value s w, there, canonical-is s w), more.1),
     )
 
 -- each entity that the meaning has beside these values
-pub row-stands : (s : Schema) → IsWellFormed s → (kinds : EntitySets) (r : Record) (m : Typed) → RecordMeans s kinds r m → (e : ℕ) (vs : Values) → Contains m.entities e → HasValues m e vs → StandAt s kinds m (own_places s e) (canonical_params s vs)
+pub row-stands : (s : Schema) → IsWellFormed s → (kinds : EntitySets) (r : Record) (m : Typed) → RecordMeans s kinds r m
+    → (e : ℕ) (vs : Values) → Contains m.entities e → HasValues m e vs → StandAt s kinds m (own_places s e) (canonical_params s vs)
 row-stands s formed kinds r m means e vs among has =
     let none = rising-none_twice s m.entities means.rising.0 means.rising.1 means.rising.2 in
     let long : count vs ≡ length (attributes_of s e) = AllZip-beside (HasOwnCount s) m.entities m.values e vs means.own_counts has in
     let P : List Place → Type 0 = λ ps. StandAt s kinds m ps (canonical_params s vs) in
     subst P (own-places-are s e)
-    (rest-stand s kinds m none e 0 vs vs (length (attributes_of s e)) has (λ i j is. (let same : j ≡ i = omega (arith, is) in ap (value_at vs) same)) long
+    (rest-stand s kinds m none e 0 vs vs (length (attributes_of s e)) has
+    (λ i j is. (let same : j ≡ i = omega (arith, is) in ap (value_at vs) same)) long
     (λ i below. has-param s formed kinds r m means e i among (omega (arith, below))))
 
 -- ---- rows one behind the other
 
-append-fit : (s : Schema) (kinds : EntitySets) (b : Typed) (ps qs : List Place) (xs ys : List Param) → FitPlaces s kinds b ps (params_of xs) → FitPlaces s kinds b qs (params_of ys) → FitPlaces s kinds b (ps ++ qs) (params_of (xs ++ ys))
+append-fit : (s : Schema) (kinds : EntitySets) (b : Typed) (ps qs : List Place) (xs ys : List Param) → FitPlaces s kinds b ps (params_of xs)
+    → FitPlaces s kinds b qs (params_of ys) → FitPlaces s kinds b (ps ++ qs) (params_of (xs ++ ys))
 append-fit s kinds b [] qs [] ys first second = second
 append-fit s kinds b [] qs (x ∷ xs) ys first second = absurd first
 append-fit s kinds b (p ∷ ps) qs [] ys first second = absurd first
 append-fit s kinds b (p ∷ ps) qs (x ∷ xs) ys first second = (first.0, append-fit s kinds b ps qs xs ys first.1 second)
 
-append-canonical : (b : Typed) (ps qs : List Place) (xs ys : List Param) → AreCanonicalAt b ps (params_of xs) → AreCanonicalAt b qs (params_of ys) → AreCanonicalAt b (ps ++ qs) (params_of (xs ++ ys))
+append-canonical : (b : Typed) (ps qs : List Place) (xs ys : List Param) → AreCanonicalAt b ps (params_of xs)
+    → AreCanonicalAt b qs (params_of ys) → AreCanonicalAt b (ps ++ qs) (params_of (xs ++ ys))
 append-canonical b [] qs [] ys first second = second
 append-canonical b [] qs (x ∷ xs) ys first second = absurd first
 append-canonical b (p ∷ ps) qs [] ys first second = absurd first
 append-canonical b (p ∷ ps) qs (x ∷ xs) ys first second = (first.0, append-canonical b ps qs xs ys first.1 second)
 
 -- the row of a member stands beside it
-pub row-has : (R : ℕ → Values → Type 0) (es : List ℕ) (rows : List Values) (e : ℕ) → AllZip R es rows → Contains es e → Contains (zip es rows) (e, row_among es rows e)
+pub row-has : (R : ℕ → Values → Type 0) (es : List ℕ) (rows : List Values) (e : ℕ) → AllZip R es rows → Contains es e
+    → Contains (zip es rows) (e, row_among es rows e)
 row-has R [] rows e all among = absurd (Contains-none e among)
 row-has R (f ∷ es) [] e all among = absurd all
 row-has R (f ∷ es) (vs ∷ rows) e all among = elim (cases_eq f e) [
@@ -138,12 +151,16 @@ row-has R (f ∷ es) (vs ∷ rows) e all among = elim (cases_eq f e) [
 abbrev pub rows_params : Schema → Typed → List ℕ → List Param
 rows_params s m es = flat_map (λ e. canonical_params s (row_of m e)) es
 
-pub rows-stand : (s : Schema) → IsWellFormed s → (kinds : EntitySets) (r : Record) (m : Typed) → RecordMeans s kinds r m → (es : List ℕ) → ((e : ℕ) → Contains es e → Contains m.entities e) → StandAt s kinds m (flat_map (own_places s) es) (rows_params s m es)
+pub rows-stand : (s : Schema) → IsWellFormed s → (kinds : EntitySets) (r : Record) (m : Typed) → RecordMeans s kinds r m → (es : List ℕ)
+    → ((e : ℕ) → Contains es e → Contains m.entities e) → StandAt s kinds m (flat_map (own_places s) es) (rows_params s m es)
 rows-stand s formed kinds r m means [] within = (tt, tt)
 rows-stand s formed kinds r m means (e ∷ es) within =
     let among : Contains m.entities e = within e (Contains-first e es) in
-    let first = row-stands s formed kinds r m means e (row_of m e) among (row-has (HasOwnCount s) m.entities m.values e means.own_counts among) in
+    let first = row-stands s formed kinds r m means e (row_of m e) among
+    (row-has (HasOwnCount s) m.entities m.values e means.own_counts among) in
     let more = rows-stand s formed kinds r m means es (λ f found. within f (Contains-later e es f found)) in (
-      append-fit s kinds (canonical_typed s m) (own_places s e) (flat_map (own_places s) es) (canonical_params s (row_of m e)) (rows_params s m es) first.0 more.0,
-      append-canonical (canonical_typed s m) (own_places s e) (flat_map (own_places s) es) (canonical_params s (row_of m e)) (rows_params s m es) first.1 more.1,
+      append-fit s kinds (canonical_typed s m) (own_places s e) (flat_map (own_places s) es) (canonical_params s (row_of m e))
+          (rows_params s m es) first.0 more.0,
+      append-canonical (canonical_typed s m) (own_places s e) (flat_map (own_places s) es) (canonical_params s (row_of m e))
+          (rows_params s m es) first.1 more.1,
     )

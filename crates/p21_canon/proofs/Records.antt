@@ -31,18 +31,27 @@ pub name-is : (s : Schema) (e : ℕ) (name : List ℕ) → EntityNamed s e name 
 name-is s e name (x, at, is) = ap (λ (o : Option Entity). elim o [ Some y ↦ y.name | None ↦ [] ]) at ∙ is
 
 names-entity : (s : Schema) (e : ℕ) (name : List ℕ) → EntityNamed s e name → NamesEntity s (key_of (entity_name s e)) e
-names-entity s e name named = (entity_name s e, (let P : List ℕ → Type 0 = λ n. EntityNamed s e n in subst P (sym (name-is s e name named)) named), refl)
+names-entity s e name named = (
+  entity_name s e,
+  (let P : List ℕ
+      → Type 0 = λ n. EntityNamed s e n in subst P (sym (name-is s e name named)) named),
+  refl,
+)
 
-member-named : (s : Schema) (kinds : EntitySets) (r : Record) (m : Typed) → RecordMeans s kinds r m → (e : ℕ) → Contains m.entities e → NamesEntity s (key_of (entity_name s e)) e
+member-named : (s : Schema) (kinds : EntitySets) (r : Record) (m : Typed) → RecordMeans s kinds r m → (e : ℕ) → Contains m.entities e
+    → NamesEntity s (key_of (entity_name s e)) e
 member-named s kinds r m means e among =
     let (name, at, named) = AllZip-member (EntityNamed s) m.entities means.rising.0 e means.rising.1 among in
     names-entity s e name named
 
 -- ---- the set
 
-subset-closed : (s : Schema) (kinds : EntitySets) (r : Record) (m : Typed) → RecordMeans s kinds r m → (f : ℕ) → InClosure s m.entities f → Contains m.entities f
-subset-closed s kinds (simple part) m means f (e, among, is) = (means.means.closure f).1 (IsA-transitive s means.means.entity e f ((means.means.closure e).0 among) is)
-subset-closed s kinds (complex parts) m means f (e, among, is) = (means.means.same_entities f).0 (means.means.closed f (e, (means.means.same_entities e).1 among, is))
+subset-closed : (s : Schema) (kinds : EntitySets) (r : Record) (m : Typed) → RecordMeans s kinds r m → (f : ℕ) → InClosure s m.entities f
+    → Contains m.entities f
+subset-closed s kinds (simple part) m means f (e, among, is) =
+    (means.means.closure f).1 (IsA-transitive s means.means.entity e f ((means.means.closure e).0 among) is)
+subset-closed s kinds (complex parts) m means f (e, among, is) =
+    (means.means.same_entities f).0 (means.means.closed f (e, (means.means.same_entities e).1 among, is))
 
 pub closed-set : (s : Schema) (kinds : EntitySets) (r : Record) (m : Typed) → RecordMeans s kinds r m → IsClosedSet s m.entities
 closed-set s kinds r m means = record {
@@ -61,13 +70,15 @@ some-entity s kinds (complex parts) m means =
 abbrev pub internal : Schema → Typed → ℕ → Record
 internal s m leaf = simple (record { key = key_of (entity_name s leaf); params = params_of (rows_params s m (order s leaf)) })
 
-order-within : (s : Schema) (m : Typed) (leaf : ℕ) → IsClosureOf s m.entities leaf → (e : ℕ) → Contains (order s leaf) e → Contains m.entities e
+order-within : (s : Schema) (m : Typed) (leaf : ℕ) → IsClosureOf s m.entities leaf → (e : ℕ) → Contains (order s leaf) e
+    → Contains m.entities e
 order-within s m leaf closure e among = (closure e).1 (order_within-only s (length s.entities) leaf e among)
 
 leaf-member : (s : Schema) (m : Typed) (leaf : ℕ) → IsClosureOf s m.entities leaf → Contains m.entities leaf
 leaf-member s m leaf closure = (closure leaf).1 (itself leaf)
 
-pub internal-means : (s : Schema) → IsWellFormed s → (kinds : EntitySets) (r : Record) (m : Typed) (leaf : ℕ) → RecordMeans s kinds r m → IsClosureOf s m.entities leaf → RecordMeans s kinds (internal s m leaf) (canonical_typed s m)
+pub internal-means : (s : Schema) → IsWellFormed s → (kinds : EntitySets) (r : Record) (m : Typed) (leaf : ℕ) → RecordMeans s kinds r m
+    → IsClosureOf s m.entities leaf → RecordMeans s kinds (internal s m leaf) (canonical_typed s m)
 internal-means s formed kinds r m leaf means closure = means-with s kinds r (internal s m leaf) m means (record {
   entity = leaf;
   named = member-named s kinds r m means leaf (leaf-member s m leaf closure);
@@ -75,10 +86,15 @@ internal-means s formed kinds r m leaf means closure = means-with s kinds r (int
   fit = (rows-stand s formed kinds r m means (order s leaf) (order-within s m leaf closure)).0;
 })
 
-pub internal-canonical : (s : Schema) → IsWellFormed s → (kinds : EntitySets) (r : Record) (m : Typed) (leaf : ℕ) → RecordMeans s kinds r m → IsClosureOf s m.entities leaf → IsCanonicalRecord s (internal s m leaf) (canonical_typed s m)
+pub internal-canonical : (s : Schema) → IsWellFormed s → (kinds : EntitySets) (r : Record) (m : Typed) (leaf : ℕ) → RecordMeans s kinds r m
+    → IsClosureOf s m.entities leaf → IsCanonicalRecord s (internal s m leaf) (canonical_typed s m)
 internal-canonical s formed kinds r m leaf means closure = record {
   form = closure-leaf s formed m.entities leaf closure;
-  params = (leaf, member-named s kinds r m means leaf (leaf-member s m leaf closure), (rows-stand s formed kinds r m means (order s leaf) (order-within s m leaf closure)).1);
+  params = (
+    leaf,
+    member-named s kinds r m means leaf (leaf-member s m leaf closure),
+    (rows-stand s formed kinds r m means (order s leaf) (order-within s m leaf closure)).1,
+  );
 }
 
 -- ---- in external mapping
@@ -95,14 +111,19 @@ abbrev pub external : Schema → Typed → Record
 external s m = complex (parts_for s m.entities m.values)
 
 -- what holds of each entity with its row
-each-part : (s : Schema) (R : ℕ → Values → Type 0) (P : Part → ℕ → Type 0) (es : List ℕ) (rows : List Values) → AllZip R es rows → ((e : ℕ) (vs : Values) → Contains (zip es rows) (e, vs) → P (part_for s e vs) e) → AllZip P (parts_for s es rows) es
+each-part : (s : Schema) (R : ℕ → Values → Type 0) (P : Part → ℕ → Type 0) (es : List ℕ) (rows : List Values) → AllZip R es rows
+    → ((e : ℕ) (vs : Values) → Contains (zip es rows) (e, vs) → P (part_for s e vs) e) → AllZip P (parts_for s es rows) es
 each-part s R P [] [] all each = tt
 each-part s R P [] (vs ∷ rows) all each = absurd all
 each-part s R P (e ∷ es) [] all each = absurd all
-each-part s R P (e ∷ es) (vs ∷ rows) all each =
-    (each e vs (Contains-first (e, vs) (zip es rows)), each-part s R P es rows all.1 (λ f ws among. each f ws (Contains-later (e, vs) (zip es rows) (f, ws) among)))
+each-part s R P (e ∷ es) (vs ∷ rows) all each = (
+  each e vs (Contains-first (e, vs) (zip es rows)),
+  each-part s R P es rows all.1
+      (λ f ws among. each f ws (Contains-later (e, vs) (zip es rows) (f, ws) among)),
+)
 
-each-first : (P : Part → Type 0) (Q : Part → ℕ → Type 0) (parts : List Part) (es : List ℕ) → ((part : Part) (e : ℕ) → Q part e → P part) → AllZip Q parts es → Each P parts
+each-first : (P : Part → Type 0) (Q : Part → ℕ → Type 0) (parts : List Part) (es : List ℕ) → ((part : Part) (e : ℕ) → Q part e → P part)
+    → AllZip Q parts es → Each P parts
 each-first P Q [] es weaker all = tt
 each-first P Q (part ∷ parts) [] weaker all = absurd all
 each-first P Q (part ∷ parts) (e ∷ es) weaker all = (weaker part e all.0, each-first P Q parts es weaker all.1)
@@ -115,17 +136,21 @@ zip-first (f ∷ es) (ws ∷ rows) e vs among = elim (Contains-cases (f, ws) (zi
   | inr h ↦ Contains-later f es e (zip-first es rows e vs h)
 ]
 
-some-parts : (s : Schema) (R : ℕ → Values → Type 0) (es : List ℕ) (rows : List Values) (e : ℕ) → AllZip R es rows → Contains es e → 0 < length (parts_for s es rows)
+some-parts : (s : Schema) (R : ℕ → Values → Type 0) (es : List ℕ) (rows : List Values) (e : ℕ) → AllZip R es rows → Contains es e
+    → 0 < length (parts_for s es rows)
 some-parts s R [] rows e all among = absurd (Contains-none e among)
 some-parts s R (f ∷ es) [] e all among = absurd all
 some-parts s R (f ∷ es) (vs ∷ rows) e all among = omega arith
 
-parts-mean : (s : Schema) → IsWellFormed s → (kinds : EntitySets) (r : Record) (m : Typed) → RecordMeans s kinds r m → AllZip (PartMeans s kinds (canonical_typed s m)) (parts_for s m.entities m.values) m.entities
-parts-mean s formed kinds r m means = each-part s (HasOwnCount s) (PartMeans s kinds (canonical_typed s m)) m.entities m.values means.own_counts (λ e vs has.
+parts-mean : (s : Schema) → IsWellFormed s → (kinds : EntitySets) (r : Record) (m : Typed) → RecordMeans s kinds r m
+    → AllZip (PartMeans s kinds (canonical_typed s m)) (parts_for s m.entities m.values) m.entities
+parts-mean s formed kinds r m means = each-part s (HasOwnCount s) (PartMeans s kinds (canonical_typed s m)) m.entities m.values
+    means.own_counts (λ e vs has.
     let among : Contains m.entities e = zip-first m.entities m.values e vs has in
     (member-named s kinds r m means e among, (row-stands s formed kinds r m means e vs among has).0))
 
-parts-canonical : (s : Schema) → IsWellFormed s → (kinds : EntitySets) (r : Record) (m : Typed) → RecordMeans s kinds r m → Each (IsCanonicalPart s (canonical_typed s m)) (parts_for s m.entities m.values)
+parts-canonical : (s : Schema) → IsWellFormed s → (kinds : EntitySets) (r : Record) (m : Typed) → RecordMeans s kinds r m
+    → Each (IsCanonicalPart s (canonical_typed s m)) (parts_for s m.entities m.values)
 parts-canonical s formed kinds r m means =
     let P : Part → ℕ → Type 0 = λ part e. IsCanonicalPart s (canonical_typed s m) part in
     each-first (IsCanonicalPart s (canonical_typed s m)) P (parts_for s m.entities m.values) m.entities (λ part e is. is)
@@ -133,7 +158,8 @@ parts-canonical s formed kinds r m means =
     let among : Contains m.entities e = zip-first m.entities m.values e vs has in
     (e, member-named s kinds r m means e among, (row-stands s formed kinds r m means e vs among has).1)))
 
-pub external-means : (s : Schema) → IsWellFormed s → (kinds : EntitySets) (r : Record) (m : Typed) → RecordMeans s kinds r m → RecordMeans s kinds (external s m) (canonical_typed s m)
+pub external-means : (s : Schema) → IsWellFormed s → (kinds : EntitySets) (r : Record) (m : Typed) → RecordMeans s kinds r m
+    → RecordMeans s kinds (external s m) (canonical_typed s m)
 external-means s formed kinds r m means =
     let (e, among) = some-entity s kinds r m means in
     let set = closed-set s kinds r m means in
@@ -146,15 +172,22 @@ external-means s formed kinds r m means =
       parts_mean = parts-mean s formed kinds r m means;
     })
 
-words-are : (s : Schema) (es : List ℕ) (rows : List Values) (names : List (List ℕ)) → AllZip (HasOwnCount s) es rows → AllZip (EntityNamed s) es names → words (parts_for s es rows) ≡ names
+words-are : (s : Schema) (es : List ℕ) (rows : List Values) (names : List (List ℕ)) → AllZip (HasOwnCount s) es rows
+    → AllZip (EntityNamed s) es names → words (parts_for s es rows) ≡ names
 words-are s [] rows [] all named = refl
 words-are s [] rows (n ∷ ns) all named = absurd named
 words-are s (e ∷ es) [] names all named = absurd all
 words-are s (e ∷ es) (vs ∷ rows) [] all named = absurd named
-words-are s (e ∷ es) (vs ∷ rows) (n ∷ ns) all named = ap (λ (w : List ℕ). w ∷ words (parts_for s es rows)) (name-is s e n named.0) ∙ ap (λ (ws : List (List ℕ)). n ∷ ws) (words-are s es rows ns all.1 named.1)
+words-are s (e ∷ es) (vs ∷ rows) (n ∷ ns) all named = ap (λ (w : List ℕ). w ∷ words (parts_for s es rows)) (name-is s e n named.0)
+    ∙ ap (λ (ws : List (List ℕ)). n ∷ ws) (words-are s es rows ns all.1 named.1)
 
-pub external-canonical : (s : Schema) → IsWellFormed s → (kinds : EntitySets) (r : Record) (m : Typed) → RecordMeans s kinds r m → ¬ HasOneLeaf s m.entities → IsCanonicalRecord s (external s m) (canonical_typed s m)
+pub external-canonical : (s : Schema) → IsWellFormed s → (kinds : EntitySets) (r : Record) (m : Typed) → RecordMeans s kinds r m
+    → ¬ HasOneLeaf s m.entities → IsCanonicalRecord s (external s m) (canonical_typed s m)
 external-canonical s formed kinds r m means none = record {
-  form = (none, subst AreTextsRising (sym (words-are s m.entities m.values means.rising.0 means.own_counts means.rising.1)) (strict-rises means.rising.0 means.rising.2));
+  form = (
+    none,
+    subst AreTextsRising (sym (words-are s m.entities m.values means.rising.0 means.own_counts means.rising.1))
+        (strict-rises means.rising.0 means.rising.2),
+  );
   params = parts-canonical s formed kinds r m means;
 }

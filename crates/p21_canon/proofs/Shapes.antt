@@ -60,8 +60,11 @@ by_shape v w = (shape-Same v w, Same-shape v w)
 
 -- the answer for two values of one kind
 pub same_by : (v w a b : Value) (r : Bool) → v ≡ a → w ≡ b → IsTrue r ↔ SameShape a b → IsTrue r ↔ Same v w
-same_by v w a b r e e_ h =
-    (λ yes. subst (λ z. Same z w) (sym e) (subst (Same a) (sym e_) (Same-shape a b (h.0 yes))), λ same. h.1 (shape-Same a b (subst (Same a) e_ (subst (λ z. Same z w) e same))))
+same_by v w a b r e e_ h = (
+  λ yes. subst (λ z. Same z w) (sym e) (subst (Same a) (sym e_) (Same-shape a b (h.0 yes))),
+  λ same. h.1
+      (shape-Same a b (subst (Same a) e_ (subst (λ z. Same z w) e same))),
+)
 
 -- the answer of the second test, where the first one held
 pub then_both : (P Q : Type 0) (r : Bool) → P → IsTrue r ↔ Q → IsTrue r ↔ (P × Q)

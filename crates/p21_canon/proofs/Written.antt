@@ -11,7 +11,8 @@ written-push [] p written is = (is, tt)
 written-push (q ∷ ps) p written is = (written.0, written-push ps p written.1 is)
 
 -- a parameter more
-pub written-more : (ps : List Param) (i : ℕ) (p : Param) → p ≡ get_or ps i p → i < length ps → AreWritten (views (take i ps)) → IsWritten (view p) → AreWritten (views (take (i + 1) ps))
+pub written-more : (ps : List Param) (i : ℕ) (p : Param) → p ≡ get_or ps i p → i < length ps → AreWritten (views (take i ps))
+    → IsWritten (view p) → AreWritten (views (take (i + 1) ps))
 written-more ps i p is low written last =
     let more : take (i + 1) ps ≡ take i ps ++ p ∷ [] = take_more ps i p low ∙ ap (λ (x : Param). take i ps ++ x ∷ []) (sym is) in
     subst (λ (qs : List Param). AreWritten (views qs)) (sym more) (written-push (take i ps) p written last)

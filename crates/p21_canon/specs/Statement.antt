@@ -17,7 +17,8 @@ pub record IsCanonicalStatement (s : Schema) (n : ℕ) (meaning : Typed) (text :
   pub canonical : Record
   pub canonical_meaning : Typed
   pub same : SameTyped canonical_meaning meaning
-  pub means : (kinds : EntitySets) (record_ : Record) → RecordMeans s kinds record_ meaning → RecordMeans s kinds canonical canonical_meaning
+  pub means : (kinds : EntitySets) (record_ : Record) → RecordMeans s kinds record_ meaning
+      → RecordMeans s kinds canonical canonical_meaning
   pub is_canonical : IsCanonicalRecord s canonical canonical_meaning
   pub text_is : text ≡ statement_text (instance n canonical)
   pub laid : Laid text (statement_tokens (instance n canonical))

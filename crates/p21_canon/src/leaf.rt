@@ -14,7 +14,8 @@ use p21_schema::Schema;
 pub(crate) fn only_leaf(schema: &Schema, entities: &[EntityId]) -> Option<EntityId>
     requires entities { AreEntities schema.now (numbers entities.now) }
     requires closed { IsClosedSet schema.now (numbers entities.now) }
-    ensures { MatchOption result (HasOneLeaf schema.now (numbers entities.now) → ⊥) (λ leaf. Contains (numbers entities.now) leaf.0 × IsClosureOf schema.now (numbers entities.now) leaf.0) }
+    ensures { MatchOption result (HasOneLeaf schema.now (numbers entities.now) → ⊥)
+        (λ leaf. Contains (numbers entities.now) leaf.0 × IsClosureOf schema.now (numbers entities.now) leaf.0) }
 {
     schema.well_formed();
     for entity in entities {

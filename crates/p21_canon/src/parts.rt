@@ -79,7 +79,8 @@ pub(crate) fn append_internal(
 ) -> Result<(), NoMemory>
     requires row { HasRows schema.now (typed_view typed.now) }
     requires closure { IsClosureOf schema.now (ids_view typed.now.parts) leaf.0 }
-    ensures ok { OnOk result (out.new.items ≡ out.old.items ++ (part_text schema.now leaf.0 (rows_texts schema.now (typed_view typed.now) (order schema.now leaf.0)) ++ codes ";")) }
+    ensures ok { OnOk result (out.new.items ≡ out.old.items
+        ++ (part_text schema.now leaf.0 (rows_texts schema.now (typed_view typed.now) (order schema.now leaf.0)) ++ codes ";")) }
     ensures keyword { OnOk result (IsSpelled (keyword (entity_name schema.now leaf.0))) }
     ensures spelled { OnOk result (Each (λ e. AreSpelled schema.now (row_of (typed_view typed.now) e)) (order schema.now leaf.0)) }
     ensures err { OnErr result (Continues out.old.items out.new.items) }
@@ -100,7 +101,8 @@ fn append_rows(
 ) -> Result<(), NoMemory>
     requires rows { HasRows schema.now (typed_view typed.now) }
     requires members { (e : ℕ) → Contains (numbers entities.now) e → Contains (ids_view typed.now.parts) e }
-    ensures ok { OnOk result (out.new.items ≡ out.old.items ++ with_commas_between (rows_texts schema.now (typed_view typed.now) (numbers entities.now))) }
+    ensures ok { OnOk result (out.new.items ≡ out.old.items
+        ++ with_commas_between (rows_texts schema.now (typed_view typed.now) (numbers entities.now))) }
     ensures spelled { OnOk result (Each (λ e. AreSpelled schema.now (row_of (typed_view typed.now) e)) (numbers entities.now)) }
     ensures err { OnErr result (Continues out.old.items out.new.items) }
 {
@@ -131,7 +133,8 @@ pub(crate) fn append_external(
     out: &mut Vec<u8>,
 ) -> Result<(), NoMemory>
     requires { HasRows schema.now (typed_view typed.now) }
-    ensures ok { OnOk result (out.new.items ≡ out.old.items ++ ((codes "(" ++ (parts_text schema.now (ids_view typed.now.parts) (rows_view typed.now.values) ++ codes ")")) ++ codes ";")) }
+    ensures ok { OnOk result (out.new.items ≡ out.old.items
+        ++ ((codes "(" ++ (parts_text schema.now (ids_view typed.now.parts) (rows_view typed.now.values) ++ codes ")")) ++ codes ";")) }
     ensures spelled { OnOk result (AreSpelledParts schema.now (ids_view typed.now.parts) (rows_view typed.now.values)) }
     ensures err { OnErr result (Continues out.old.items out.new.items) }
 {

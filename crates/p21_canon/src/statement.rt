@@ -26,7 +26,8 @@ pub fn write_record(
 ) -> Result<(), NoMemory>
     requires { IsMeant schema.now (typed_view typed.now) }
     ensures ok { OnOk result (AppendsStatement schema.now name (typed_view typed.now) out.old.items out.new.items) }
-    ensures only { OnOk result ((text : List ℕ) → IsCanonicalStatement schema.now name (typed_view typed.now) text → out.new.items ≡ out.old.items ++ text) }
+    ensures only { OnOk result ((text : List ℕ) → IsCanonicalStatement schema.now name (typed_view typed.now) text
+        → out.new.items ≡ out.old.items ++ text) }
     ensures err { OnErr result (out.new.items ≡ out.old.items) }
 {
     schema.well_formed();

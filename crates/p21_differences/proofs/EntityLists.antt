@@ -30,15 +30,18 @@ words-named s (part ∷ parts) es (e, more, named, later, is) =
     let P : List ℕ → Type 0 = λ xs. AllZip (EntityNamed s) xs (words (part ∷ parts)) in
     subst P (sym is) (word-named s part.key e named, words-named s parts more later)
 
-parts-once : (s : Schema) → HasDistinctEntities s → (kinds : EntitySets) (m : Typed) (parts : List Part) (es fs : List ℕ) → ArePartEntities s parts es → AllZip (PartMeans s kinds m) parts fs → es ≡ fs
+parts-once : (s : Schema) → HasDistinctEntities s → (kinds : EntitySets) (m : Typed) (parts : List Part) (es fs : List ℕ)
+    → ArePartEntities s parts es → AllZip (PartMeans s kinds m) parts fs → es ≡ fs
 parts-once s distinct kinds m [] es [] are all = are
 parts-once s distinct kinds m [] es (f ∷ fs) are all = absurd all
 parts-once s distinct kinds m (part ∷ parts) es [] are all = absurd all
 parts-once s distinct kinds m (part ∷ parts) es (f ∷ fs) (e, more, named, later, is) all =
-    is ∙ ap (λ (x : ℕ). x ∷ more) (NamesEntity-one s distinct part.key e f named all.0.0) ∙ ap (λ (xs : List ℕ). f ∷ xs) (parts-once s distinct kinds m parts more fs later all.1)
+    is ∙ ap (λ (x : ℕ). x ∷ more) (NamesEntity-one s distinct part.key e f named all.0.0)
+    ∙ ap (λ (xs : List ℕ). f ∷ xs) (parts-once s distinct kinds m parts more fs later all.1)
 
 -- entities of equal names are the same
-names-once : (s : Schema) → HasDistinctEntities s → (es fs : List ℕ) (ns ms : List (List ℕ)) → AllZip (EntityNamed s) es ns → AllZip (EntityNamed s) fs ms → ns ≡ ms → es ≡ fs
+names-once : (s : Schema) → HasDistinctEntities s → (es fs : List ℕ) (ns ms : List (List ℕ)) → AllZip (EntityNamed s) es ns
+    → AllZip (EntityNamed s) fs ms → ns ≡ ms → es ≡ fs
 names-once s distinct [] [] ns ms all all_ same = refl
 names-once s distinct [] (f ∷ fs) [] [] all all_ same = absurd all_
 names-once s distinct [] (f ∷ fs) [] (m ∷ ms) all all_ same = cc
@@ -50,9 +53,11 @@ names-once s distinct (e ∷ es) (f ∷ fs) (n ∷ ns) (m ∷ ms) all all_ same 
     let first : n ≡ m = cc in
     let rest : ns ≡ ms = cc in
     let P : List ℕ → Type 0 = λ x. EntityNamed s e x in
-    ap (λ (x : ℕ). x ∷ es) (distinct e f m (subst P first all.0) all_.0) ∙ ap (λ (xs : List ℕ). f ∷ xs) (names-once s distinct es fs ns ms all.1 all_.1 rest)
+    ap (λ (x : ℕ). x ∷ es) (distinct e f m (subst P first all.0) all_.0)
+    ∙ ap (λ (xs : List ℕ). f ∷ xs) (names-once s distinct es fs ns ms all.1 all_.1 rest)
 
-none_twice-named : (s : Schema) → HasDistinctEntities s → (es : List ℕ) (ns : List (List ℕ)) → AllZip (EntityNamed s) es ns → NoneTwice es → NoneTwice ns
+none_twice-named : (s : Schema) → HasDistinctEntities s → (es : List ℕ) (ns : List (List ℕ)) → AllZip (EntityNamed s) es ns → NoneTwice es
+    → NoneTwice ns
 none_twice-named s distinct [] [] all none = tt
 none_twice-named s distinct [] (n ∷ ns) all none = absurd all
 none_twice-named s distinct (e ∷ es) [] all none = absurd all
@@ -63,7 +68,8 @@ none_twice-named s distinct (e ∷ es) (n ∷ ns) all none = (
   none_twice-named s distinct es ns all.1 none.1,
 )
 
-members-named : (s : Schema) (es fs : List ℕ) (ns ms : List (List ℕ)) → AllZip (EntityNamed s) es ns → AllZip (EntityNamed s) fs ms → AreMembers es fs → AreMembers ns ms
+members-named : (s : Schema) (es fs : List ℕ) (ns ms : List (List ℕ)) → AllZip (EntityNamed s) es ns → AllZip (EntityNamed s) fs ms
+    → AreMembers es fs → AreMembers ns ms
 members-named s es fs ns ms all all_ onto n among =
     let (e, at, named) = AllZip-second_member (EntityNamed s) es ns n all among in
     let (m, at_, named_) = AllZip-member (EntityNamed s) fs ms e all_ (onto e at) in
@@ -72,13 +78,15 @@ members-named s es fs ns ms all all_ onto n among =
 
 -- ---- two canonical records
 
-leaf-is : (s : Schema) (entities : List ℕ) (e : ℕ) → ((f : ℕ) → Contains entities f ↔ IsA s e f) → (leaf : HasOneLeaf s entities) → leaf.0 ≡ e
+leaf-is : (s : Schema) (entities : List ℕ) (e : ℕ) → ((f : ℕ) → Contains entities f ↔ IsA s e f) → (leaf : HasOneLeaf s entities)
+    → leaf.0 ≡ e
 leaf-is s entities e closure leaf = sym (leaf.1.1 e ((closure e).1 (itself e)) ((closure leaf.0).0 leaf.1.0))
 
 -- under one schema, each for a meaning of its own
 module _ (s : Schema) (formed : IsWellFormed s) (holds : HoldsTogether s) (kinds others : EntitySets) (a b : Typed) where
   -- of one set of entities they have one list
-  pub lists-same : (r q : Record) → RecordMeans s kinds r a → RecordMeans s others q b → IsCanonicalForm s r a → IsCanonicalForm s q b → a.entities ≡ b.entities
+  pub lists-same : (r q : Record) → RecordMeans s kinds r a → RecordMeans s others q b → IsCanonicalForm s r a → IsCanonicalForm s q b
+      → a.entities ≡ b.entities
       → (es fs : List ℕ) → AreEntitiesOf s r es → AreEntitiesOf s q fs → es ≡ fs
   lists-same (simple p) (simple q) means means_ form form_ set es fs (e, named, is) (f, named_, is_) =
       let P : List ℕ → Type 0 = λ xs. HasOneLeaf s xs in
@@ -89,8 +97,10 @@ module _ (s : Schema) (formed : IsWellFormed s) (holds : HoldsTogether s) (kinds
       let e_is = NamesEntity-one s formed.entities_distinct p.key e means.means.entity named means.means.named in
       let f_is = NamesEntity-one s formed.entities_distinct q.key f means_.means.entity named_ means_.means.named in
       is ∙ ap (order s) (e_is ∙ sym first ∙ second ∙ sym f_is) ∙ sym is_
-  lists-same (simple p) (complex qs) means means_ form form_ set es fs are are_ = absurd (form_.0 (let P : List ℕ → Type 0 = λ xs. HasOneLeaf s xs in subst P set form))
-  lists-same (complex ps) (simple q) means means_ form form_ set es fs are are_ = absurd (form.0 (let P : List ℕ → Type 0 = λ xs. HasOneLeaf s xs in subst P (sym set) form_))
+  lists-same (simple p) (complex qs) means means_ form form_ set es fs are are_ =
+      absurd (form_.0 (let P : List ℕ → Type 0 = λ xs. HasOneLeaf s xs in subst P set form))
+  lists-same (complex ps) (simple q) means means_ form form_ set es fs are are_ =
+      absurd (form.0 (let P : List ℕ → Type 0 = λ xs. HasOneLeaf s xs in subst P (sym set) form_))
   lists-same (complex ps) (complex qs) means means_ form form_ set es fs are are_ =
       let own = parts-once s formed.entities_distinct kinds a ps es means.means.entities are means.means.parts_mean in
       let own_ = parts-once s formed.entities_distinct others b qs fs means_.means.entities are_ means_.means.parts_mean in
@@ -100,18 +110,22 @@ module _ (s : Schema) (formed : IsWellFormed s) (holds : HoldsTogether s) (kinds
       let once_ : NoneTwice fs = subst NoneTwice (sym own_) (distinct-none_twice means_.means.entities means_.means.distinct) in
       let Onto : List ℕ → List ℕ → Type 0 = λ xs ys. AreMembers xs ys in
       let onto : AreMembers means.means.entities means_.means.entities =
-      λ g among. (means_.means.same_entities g).1 (let P : List ℕ → Type 0 = λ xs. Contains xs g in subst P set ((means.means.same_entities g).0 among)) in
+      λ g among. (means_.means.same_entities g).1 (let P : List ℕ
+      → Type 0 = λ xs. Contains xs g in subst P set ((means.means.same_entities g).0 among)) in
       let back : AreMembers means_.means.entities means.means.entities =
-      λ g among. (means.means.same_entities g).1 (let P : List ℕ → Type 0 = λ xs. Contains xs g in subst P (sym set) ((means_.means.same_entities g).0 among)) in
+      λ g among. (means.means.same_entities g).1 (let P : List ℕ
+      → Type 0 = λ xs. Contains xs g in subst P (sym set) ((means_.means.same_entities g).0 among)) in
       let onto_ : AreMembers es fs = subst (λ (xs : List ℕ). Onto xs fs) (sym own) (subst (Onto means.means.entities) (sym own_) onto) in
       let back_ : AreMembers fs es = subst (λ (xs : List ℕ). Onto xs es) (sym own_) (subst (Onto means_.means.entities) (sym own) back) in
       let same : words ps ≡ words qs =
-      rising-members (words ps) (words qs) form.1 form_.1 (none_twice-named s formed.entities_distinct es (words ps) named once) (none_twice-named s formed.entities_distinct fs (words qs) named_ once_)
+      rising-members (words ps) (words qs) form.1 form_.1 (none_twice-named s formed.entities_distinct es (words ps) named once)
+      (none_twice-named s formed.entities_distinct fs (words qs) named_ once_)
       (members-named s es fs (words ps) (words qs) named named_ onto_) (members-named s fs es (words qs) (words ps) named_ named back_) in
       names-once s formed.entities_distinct es fs (words ps) (words qs) named named_ same
 
   -- and of one list they have one set
-  pub sets-same : (r q : Record) → RecordMeans s kinds r a → RecordMeans s others q b → (es fs : List ℕ) → ((f : ℕ) → Contains es f ↔ Contains a.entities f) → ((f : ℕ) → Contains fs f ↔ Contains b.entities f)
+  pub sets-same : (r q : Record) → RecordMeans s kinds r a → RecordMeans s others q b → (es fs : List ℕ)
+      → ((f : ℕ) → Contains es f ↔ Contains a.entities f) → ((f : ℕ) → Contains fs f ↔ Contains b.entities f)
       → es ≡ fs → a.entities ≡ b.entities
   sets-same r q means means_ es fs first second same =
       rising-one s a.entities b.entities means.rising.0 means_.rising.0 means.rising.1 means_.rising.1 means.rising.2 means_.rising.2

@@ -23,7 +23,8 @@ use Rattle.p21_spec_schema.specs.Schema.{Schema}
 use Rattle.p21_spec_schema.specs.WellFormed.{IsWellFormed}
 use Rattle.p21_stream_store.specs.StoredInstance.{StoredInstance, instance_names}
 
-module _ (s : Schema) (formed : IsWellFormed s) (bytes : List ℕ) (m : FileMeaning) (reads : Reads s bytes m) (kept : List StoredInstance) (are : AreKept s bytes kept) where
+module _ (s : Schema) (formed : IsWellFormed s) (bytes : List ℕ) (m : FileMeaning) (reads : Reads s bytes m) (kept : List StoredInstance)
+    (are : AreKept s bytes kept) where
   tree : are.structure ≡ reads.structure
   tree = (one-tree bytes are.structure reads.structure are.schema_text reads.schema_text are.in_grammar reads.in_grammar).0
 
@@ -35,15 +36,18 @@ module _ (s : Schema) (formed : IsWellFormed s) (bytes : List ℕ) (m : FileMean
       let P : List ℕ → Type 0 = λ ns. IsPermutation ns (instance_names kept) in
       subst P (ap (λ (t : Structure). map (λ (i : ℕ × Record). i.0) (instances_in t.sections)) tree ∙ sym same-names) are.names_are
 
-  line-of : (name : ℕ) (line : List ℕ) (meaning : Typed) → IsKeptLine kept name line → Contains m.instances (name, meaning) → IsLineOf s name line meaning
+  line-of : (name : ℕ) (line : List ℕ) (meaning : Typed) → IsKeptLine kept name line → Contains m.instances (name, meaning)
+      → IsLineOf s name line meaning
   line-of name line meaning (membership, among) at =
       let (record_, in_tree, stated) = are.texts_are (record { name = name; membership = membership; text = line }) among in
       let In : Structure → Type 0 = λ t. Contains (instances_in t.sections) (name, record_) in
-      let (other, at_, means) = AllZip-member (InstanceMeans s (entity_sets_of m.instances)) (instances_in reads.structure.sections) m.instances (name, record_) reads.means (subst In tree in_tree) in
+      let (other, at_, means) = AllZip-member (InstanceMeans s (entity_sets_of m.instances)) (instances_in reads.structure.sections)
+      m.instances (name, record_) reads.means (subst In tree in_tree) in
       let At : ℕ → Type 0 = λ n. Contains m.instances (n, other.1) in
       let once = distinct-none_twice (names m) (reads-whole s formed bytes m reads).0.names_differ in
       let is : other.1 ≡ meaning = one-meant m.instances once name other.1 meaning (subst At means.0 at_) at in
-      let own : stated.meaning ≡ other.1 = RecordMeans-one s formed stated.kinds (entity_sets_of m.instances) record_ stated.meaning other.1 stated.means means.1 in
+      let own : stated.meaning ≡ other.1 = RecordMeans-one s formed stated.kinds (entity_sets_of m.instances) record_ stated.meaning other.1
+      stated.means means.1 in
       record { record_ = record_; stated = stated; same = subst (SameTyped stated.canonical_meaning) (own ∙ is) stated.same }
 
   lines-of : AreLinesOf s m kept

@@ -22,19 +22,30 @@ pub record AreAhead (left others : Entities) (es fs : List ℕ) : Type 0 where
   pub back : es ≡ fs → more ≡ more_
 
 pub all-ahead : (left others : Entities) (es fs : List ℕ) → TellsEntities left es → TellsEntities others fs → AreAhead left others es fs
-all-ahead left others es fs tells tells_ = record { more = es; more_ = fs; tells = tells; tells_ = tells_; there = λ same. same; back = λ same. same }
+all-ahead left others es fs tells tells_ = record {
+  more = es;
+  more_ = fs;
+  tells = tells;
+  tells_ = tells_;
+  there = λ same. same;
+  back =
+      λ same. same;
+}
 
 -- the second ends first
 pub ahead-shorter : (left others after after_ : Entities) (es fs : List ℕ) (e : EntityId) → AreAhead left others es fs
-    → ((more : List ℕ) → TellsEntities left more → HandsOutEntity more (Some e) after) → ((more : List ℕ) → TellsEntities others more → HandsOutEntity more None after_) → es ≢ fs
-ahead-shorter left others after after_ es fs e ahead hands hands_ same = by ahead.more ahead.more_ (hands ahead.more ahead.tells) (hands_ ahead.more_ ahead.tells_) (ahead.back same)
+    → ((more : List ℕ) → TellsEntities left more → HandsOutEntity more (Some e) after)
+    → ((more : List ℕ) → TellsEntities others more → HandsOutEntity more None after_) → es ≢ fs
+ahead-shorter left others after after_ es fs e ahead hands hands_ same =
+    by ahead.more ahead.more_ (hands ahead.more ahead.tells) (hands_ ahead.more_ ahead.tells_) (ahead.back same)
   where
     by : (more more_ : List ℕ) → HandsOutEntity more (Some e) after → HandsOutEntity more_ None after_ → more ≡ more_ → ⊥
     by [] more_ handed handed_ is = handed
     by (x ∷ more) [] handed handed_ is = let none : x ∷ more ≡ [] = is in cc
     by (x ∷ more) (y ∷ more_) handed handed_ is = handed_
 
-module _ (left others after after_ : Entities) (es fs : List ℕ) (e f : EntityId) (ahead : AreAhead left others es fs) (hands : (more : List ℕ) → TellsEntities left more → HandsOutEntity more (Some e) after)
+module _ (left others after after_ : Entities) (es fs : List ℕ) (e f : EntityId) (ahead : AreAhead left others es fs)
+    (hands : (more : List ℕ) → TellsEntities left more → HandsOutEntity more (Some e) after)
     (hands_ : (more : List ℕ) → TellsEntities others more → HandsOutEntity more (Some f) after_) where
   -- another entity comes
   pub ahead-other : e.0 ≢ f.0 → es ≢ fs
@@ -49,7 +60,8 @@ module _ (left others after after_ : Entities) (es fs : List ℕ) (e f : EntityI
   pub ahead-next : e.0 ≡ f.0 → AreAhead after after_ es fs
   ahead-next same = by ahead.more ahead.more_ (hands ahead.more ahead.tells) (hands_ ahead.more_ ahead.tells_) ahead.there ahead.back
     where
-      by : (more more_ : List ℕ) → HandsOutEntity more (Some e) after → HandsOutEntity more_ (Some f) after_ → (more ≡ more_ → es ≡ fs) → (es ≡ fs → more ≡ more_) → AreAhead after after_ es fs
+      by : (more more_ : List ℕ) → HandsOutEntity more (Some e) after → HandsOutEntity more_ (Some f) after_ → (more ≡ more_ → es ≡ fs)
+          → (es ≡ fs → more ≡ more_) → AreAhead after after_ es fs
       by [] more_ handed handed_ there back = absurd handed
       by (x ∷ more) [] handed handed_ there back = absurd handed_
       by (x ∷ more) (y ∷ more_) handed handed_ there back =
@@ -65,8 +77,10 @@ module _ (left others after after_ : Entities) (es fs : List ℕ) (e f : EntityI
 
 -- both end
 pub ahead-ended : (left others after after_ : Entities) (es fs : List ℕ) → AreAhead left others es fs
-    → ((more : List ℕ) → TellsEntities left more → HandsOutEntity more None after) → ((more : List ℕ) → TellsEntities others more → HandsOutEntity more None after_) → es ≡ fs
-ahead-ended left others after after_ es fs ahead hands hands_ = by ahead.more ahead.more_ (hands ahead.more ahead.tells) (hands_ ahead.more_ ahead.tells_) ahead.there
+    → ((more : List ℕ) → TellsEntities left more → HandsOutEntity more None after)
+    → ((more : List ℕ) → TellsEntities others more → HandsOutEntity more None after_) → es ≡ fs
+ahead-ended left others after after_ es fs ahead hands hands_ =
+    by ahead.more ahead.more_ (hands ahead.more ahead.tells) (hands_ ahead.more_ ahead.tells_) ahead.there
   where
     by : (more more_ : List ℕ) → HandsOutEntity more None after → HandsOutEntity more_ None after_ → (more ≡ more_ → es ≡ fs) → es ≡ fs
     by [] [] handed handed_ there = there refl
@@ -75,8 +89,10 @@ ahead-ended left others after after_ es fs ahead hands hands_ = by ahead.more ah
 
 -- the first ends first
 pub ahead-longer : (left others after after_ : Entities) (es fs : List ℕ) (f : EntityId) → AreAhead left others es fs
-    → ((more : List ℕ) → TellsEntities left more → HandsOutEntity more None after) → ((more : List ℕ) → TellsEntities others more → HandsOutEntity more (Some f) after_) → es ≢ fs
-ahead-longer left others after after_ es fs f ahead hands hands_ same = by ahead.more ahead.more_ (hands ahead.more ahead.tells) (hands_ ahead.more_ ahead.tells_) (ahead.back same)
+    → ((more : List ℕ) → TellsEntities left more → HandsOutEntity more None after)
+    → ((more : List ℕ) → TellsEntities others more → HandsOutEntity more (Some f) after_) → es ≢ fs
+ahead-longer left others after after_ es fs f ahead hands hands_ same =
+    by ahead.more ahead.more_ (hands ahead.more ahead.tells) (hands_ ahead.more_ ahead.tells_) (ahead.back same)
   where
     by : (more more_ : List ℕ) → HandsOutEntity more None after → HandsOutEntity more_ (Some f) after_ → more ≡ more_ → ⊥
     by [] [] handed handed_ is = handed_
@@ -85,9 +101,11 @@ ahead-longer left others after after_ es fs f ahead hands hands_ same = by ahead
 
 -- ---- the answer
 
-module _ (s : Schema) (formed : IsWellFormed s) (holds : HoldsTogether s) (n m : ℕ) (r q : Record) (line text : List ℕ) (first : IsInstanceText s n r line) (second : IsInstanceText s m q text) where
+module _ (s : Schema) (formed : IsWellFormed s) (holds : HoldsTogether s) (n m : ℕ) (r q : Record) (line text : List ℕ)
+    (first : IsInstanceText s n r line) (second : IsInstanceText s m q text) where
   -- whether the lists are one tells whether the sets are
-  tell : (P : Type 0) → ((es fs : List ℕ) → AreEntitiesOf s first.canonical es → AreEntitiesOf s second.canonical fs → P ↔ (es ≡ fs)) → P ↔ (first.canonical_meaning.entities ≡ second.canonical_meaning.entities)
+  tell : (P : Type 0) → ((es fs : List ℕ) → AreEntitiesOf s first.canonical es → AreEntitiesOf s second.canonical fs → P ↔ (es ≡ fs)) → P
+      ↔ (first.canonical_meaning.entities ≡ second.canonical_meaning.entities)
   tell P lists =
       let own = has-set s holds first.kinds first.canonical first.canonical_meaning first.canonical_means.means in
       let own_ = has-set s holds second.kinds second.canonical second.canonical_meaning second.canonical_means.means in
@@ -95,8 +113,10 @@ module _ (s : Schema) (formed : IsWellFormed s) (holds : HoldsTogether s) (n m :
       let answer = lists own.set own_.set own.are own_.are in
       (λ p. sets.1 (answer.0 p), λ same. answer.1 (sets.0 same))
 
-  pub sets-one : ((es fs : List ℕ) → AreEntitiesOf s first.canonical es → AreEntitiesOf s second.canonical fs → es ≡ fs) → IsTrue true ↔ (first.canonical_meaning.entities ≡ second.canonical_meaning.entities)
+  pub sets-one : ((es fs : List ℕ) → AreEntitiesOf s first.canonical es → AreEntitiesOf s second.canonical fs → es ≡ fs) → IsTrue true
+      ↔ (first.canonical_meaning.entities ≡ second.canonical_meaning.entities)
   sets-one same = tell (IsTrue true) (λ es fs are are_. (λ yes. same es fs are are_, λ is. refl))
 
-  pub sets-other : ((es fs : List ℕ) → AreEntitiesOf s first.canonical es → AreEntitiesOf s second.canonical fs → es ≢ fs) → IsTrue false ↔ (first.canonical_meaning.entities ≡ second.canonical_meaning.entities)
+  pub sets-other : ((es fs : List ℕ) → AreEntitiesOf s first.canonical es → AreEntitiesOf s second.canonical fs → es ≢ fs) → IsTrue false
+      ↔ (first.canonical_meaning.entities ≡ second.canonical_meaning.entities)
   sets-other differ = tell (IsTrue false) (λ es fs are are_. (λ no. cc, λ is. absurd (differ es fs are are_ is)))

@@ -53,12 +53,14 @@ zip-places [] (x ∷ xs) many = absurd (omega (arith, many))
 zip-places (p ∷ ps) [] many = absurd (omega (arith, many))
 zip-places (p ∷ ps) (x ∷ xs) many = ap (λ (qs : List Place). p ∷ qs) (zip-places ps xs (omega (arith, many)))
 
-part-places : (s : Schema) → IsWellFormed s → (places_of : ℕ → List Place) (part : Part) (rows : List Row) (e : ℕ) → ArePartRows s places_of part rows → NamesEntity s part.key e → row_places rows ≡ places_of e
+part-places : (s : Schema) → IsWellFormed s → (places_of : ℕ → List Place) (part : Part) (rows : List Row) (e : ℕ)
+    → ArePartRows s places_of part rows → NamesEntity s part.key e → row_places rows ≡ places_of e
 part-places s formed places_of part rows e are named =
     ap row_places are.rows_are ∙ zip-places (places_of are.entity) (listed part.params) are.as_many
     ∙ ap places_of (NamesEntity-one s formed.entities_distinct part.key are.entity e are.named named)
 
-parts-places : (s : Schema) → IsWellFormed s → (parts : List Part) (rows : List Row) (es : List ℕ) → ArePartsRows s parts rows → ArePartEntities s parts es → row_places rows ≡ flat_map (own_places s) es
+parts-places : (s : Schema) → IsWellFormed s → (parts : List Part) (rows : List Row) (es : List ℕ) → ArePartsRows s parts rows
+    → ArePartEntities s parts es → row_places rows ≡ flat_map (own_places s) es
 parts-places s formed [] rows es are named = ap row_places are ∙ sym (ap (flat_map (own_places s)) named)
 parts-places s formed (part ∷ parts) rows es (own, more, first, later, is) (e, es_, named, named_, es_is) =
     ap row_places is ∙ map-append (λ (row : Row). row.0) own more
@@ -67,8 +69,10 @@ parts-places s formed (part ∷ parts) rows es (own, more, first, later, is) (e,
     ∙ sym (ap (flat_map (own_places s)) es_is)
 
 -- those of the entities of the record, in its order
-record-places : (s : Schema) → IsWellFormed s → (r : Record) (rows : List Row) (es : List ℕ) → AreRowsOf s r rows → AreEntitiesOf s r es → row_places rows ≡ flat_map (own_places s) es
-record-places s formed (simple part) rows es are (e, named, is) = part-places s formed (places s) part rows e are named ∙ sym (ap (flat_map (own_places s)) is)
+record-places : (s : Schema) → IsWellFormed s → (r : Record) (rows : List Row) (es : List ℕ) → AreRowsOf s r rows → AreEntitiesOf s r es
+    → row_places rows ≡ flat_map (own_places s) es
+record-places s formed (simple part) rows es are (e, named, is) = part-places s formed (places s) part rows e are named
+    ∙ sym (ap (flat_map (own_places s)) is)
 record-places s formed (complex parts) rows es are named = parts-places s formed parts rows es are named
 
 -- ---- what each row says
@@ -78,13 +82,16 @@ pub record IsGoodRow (s : Schema) (kinds : EntitySets) (m : Typed) (row : Row) :
   pub written : IsWritten row.1
   pub meant : (v : Value) × HasValueAt m row.0 v × IsCanonicalParam row.1 v
 
-good-zip : (s : Schema) (kinds : EntitySets) (m : Typed) (ps : List Place) (xs : Params) → FitPlaces s kinds m ps xs → AreCanonicalAt m ps xs → AreWritten xs → Each (IsGoodRow s kinds m) (zip ps (listed xs))
+good-zip : (s : Schema) (kinds : EntitySets) (m : Typed) (ps : List Place) (xs : Params) → FitPlaces s kinds m ps xs
+    → AreCanonicalAt m ps xs → AreWritten xs → Each (IsGoodRow s kinds m) (zip ps (listed xs))
 good-zip s kinds m [] no_params fit canonical written = tt
 good-zip s kinds m [] (param x xs) fit canonical written = absurd fit
 good-zip s kinds m (p ∷ ps) no_params fit canonical written = absurd fit
-good-zip s kinds m (p ∷ ps) (param x xs) fit canonical written = (record { fit = fit.0; written = written.0; meant = canonical.0 }, good-zip s kinds m ps xs fit.1 canonical.1 written.1)
+good-zip s kinds m (p ∷ ps) (param x xs) fit canonical written =
+    (record { fit = fit.0; written = written.0; meant = canonical.0 }, good-zip s kinds m ps xs fit.1 canonical.1 written.1)
 
-good-part : (s : Schema) → IsWellFormed s → (kinds : EntitySets) (m : Typed) (places_of : ℕ → List Place) (part : Part) (rows : List Row) (e f : ℕ) → ArePartRows s places_of part rows → NamesEntity s part.key e → FitPlaces s kinds m (places_of e) part.params
+good-part : (s : Schema) → IsWellFormed s → (kinds : EntitySets) (m : Typed) (places_of : ℕ → List Place) (part : Part) (rows : List Row)
+    (e f : ℕ) → ArePartRows s places_of part rows → NamesEntity s part.key e → FitPlaces s kinds m (places_of e) part.params
     → NamesEntity s part.key f → AreCanonicalAt m (places_of f) part.params → AreWritten part.params → Each (IsGoodRow s kinds m) rows
 good-part s formed kinds m places_of part rows e f are named fit named_ canonical written =
     let F : ℕ → Type 0 = λ g. FitPlaces s kinds m (places_of g) part.params in
@@ -92,21 +99,27 @@ good-part s formed kinds m places_of part rows e f are named fit named_ canonica
     let own = are.entity in
     let from : e ≡ own = NamesEntity-one s formed.entities_distinct part.key e own named are.named in
     let from_ : f ≡ own = NamesEntity-one s formed.entities_distinct part.key f own named_ are.named in
-    subst (Each (IsGoodRow s kinds m)) (sym are.rows_are) (good-zip s kinds m (places_of own) part.params (subst F from fit) (subst C from_ canonical) written)
+    subst (Each (IsGoodRow s kinds m)) (sym are.rows_are)
+    (good-zip s kinds m (places_of own) part.params (subst F from fit) (subst C from_ canonical) written)
 
-good-parts : (s : Schema) → IsWellFormed s → (kinds : EntitySets) (m : Typed) (parts : List Part) (rows : List Row) (es : List ℕ) → ArePartsRows s parts rows → AllZip (PartMeans s kinds m) parts es → Each (IsCanonicalPart s m) parts
+good-parts : (s : Schema) → IsWellFormed s → (kinds : EntitySets) (m : Typed) (parts : List Part) (rows : List Row) (es : List ℕ)
+    → ArePartsRows s parts rows → AllZip (PartMeans s kinds m) parts es → Each (IsCanonicalPart s m) parts
     → Each (λ (part : Part). AreWritten part.params) parts → Each (IsGoodRow s kinds m) rows
 good-parts s formed kinds m [] rows es are all canonical written = subst (Each (IsGoodRow s kinds m)) (sym are) tt
 good-parts s formed kinds m (part ∷ parts) rows [] are all canonical written = absurd all
 good-parts s formed kinds m (part ∷ parts) rows (e ∷ es) (own, more, first, later, is) all ((f, named, at), canonical) written =
     subst (Each (IsGoodRow s kinds m)) (sym is) (Each-append (IsGoodRow s kinds m) own more
-    (good-part s formed kinds m (own_places s) part own e f first all.0.0 all.0.1 named at written.0) (good-parts s formed kinds m parts more es later all.1 canonical written.1))
+    (good-part s formed kinds m (own_places s) part own e f first all.0.0 all.0.1 named at written.0)
+    (good-parts s formed kinds m parts more es later all.1 canonical written.1))
 
-good-rows : (s : Schema) → IsWellFormed s → (kinds : EntitySets) (m : Typed) (r : Record) (rows : List Row) → RecordMeans s kinds r m → IsCanonicalRecord s r m → Each IsSpelled (record_tokens r) → AreRowsOf s r rows → Each (IsGoodRow s kinds m) rows
+good-rows : (s : Schema) → IsWellFormed s → (kinds : EntitySets) (m : Typed) (r : Record) (rows : List Row) → RecordMeans s kinds r m
+    → IsCanonicalRecord s r m → Each IsSpelled (record_tokens r) → AreRowsOf s r rows → Each (IsGoodRow s kinds m) rows
 good-rows s formed kinds m (simple part) rows means canonical spelled are =
-    good-part s formed kinds m (places s) part rows means.means.entity canonical.params.0 are means.means.named means.means.fit canonical.params.1 canonical.params.2 (part-written part spelled)
+    good-part s formed kinds m (places s) part rows means.means.entity canonical.params.0 are means.means.named means.means.fit
+    canonical.params.1 canonical.params.2 (part-written part spelled)
 good-rows s formed kinds m (complex parts) rows means canonical spelled are =
-    good-parts s formed kinds m parts rows means.means.entities are means.means.parts_mean canonical.params (complex-written parts (right ∷ []) spelled.1)
+    good-parts s formed kinds m parts rows means.means.entities are means.means.parts_mean canonical.params
+    (complex-written parts (right ∷ []) spelled.1)
 
 -- ---- rows beside rows
 
@@ -128,7 +141,8 @@ record StandsBeside (xs ys : List Row) (place : Place) : Type 0 where
   q : Param
   among : Contains (zip xs ys) ((place, p), (place, q))
 
-beside-place : (xs ys : List Row) → row_places xs ≡ row_places ys → (place : Place) → Contains (row_places xs) place → StandsBeside xs ys place
+beside-place : (xs ys : List Row) → row_places xs ≡ row_places ys → (place : Place) → Contains (row_places xs) place
+    → StandsBeside xs ys place
 beside-place [] ys same place among = absurd (Contains-none place among)
 beside-place (x ∷ xs) [] same place among = absurd (let none : x.0 ∷ row_places xs ≡ [] = same in cc)
 beside-place (x ∷ xs) (y ∷ ys) same place among =
@@ -146,9 +160,11 @@ beside-place (x ∷ xs) (y ∷ ys) same place among =
 
 -- ---- the two records
 
-module _ (s : Schema) (formed : IsWellFormed s) (kinds others : EntitySets) (a b : Typed) (once : IsMeantBy s kinds a) (once_ : IsMeantBy s others b) (set : a.entities ≡ b.entities) where
+module _ (s : Schema) (formed : IsWellFormed s) (kinds others : EntitySets) (a b : Typed) (once : IsMeantBy s kinds a)
+    (once_ : IsMeantBy s others b) (set : a.entities ≡ b.entities) where
   -- the texts of good rows at one place tell whether the values are the same
-  texts-tell : (place : Place) (p q : Param) (v w : Value) → IsGoodRow s kinds a (place, p) → IsGoodRow s others b (place, q) → HasValueAt a place v → HasValueAt b place w → Same v w ↔ (param_text p ≡ param_text q)
+  texts-tell : (place : Place) (p q : Param) (v w : Value) → IsGoodRow s kinds a (place, p) → IsGoodRow s others b (place, q)
+      → HasValueAt a place v → HasValueAt b place w → Same v w ↔ (param_text p ≡ param_text q)
   texts-tell place p q v w good good_ has has_ = by good.fit good_.fit
     where
       none : NoneTwice a.entities
@@ -162,15 +178,18 @@ module _ (s : Schema) (formed : IsWellFormed s) (kinds others : EntitySets) (a b
           let v_is : x ≡ v = value-once a none place x v has_x has in
           let w_is : y ≡ w = value-once b none_ place y w has_y has_ in
           let T : List ℕ → Type 0 = λ es. TypeAt s es place at_ in
-          let one_type : at_ ≡ at = TypeAt-one s formed.supertypes_end formed.redeclares_once a.entities place at_ at (subst T (sym set) type_at_) type_at in
+          let one_type : at_ ≡ at = TypeAt-one s formed.supertypes_end formed.redeclares_once a.entities place at_ at
+          (subst T (sym set) type_at_) type_at in
           let F : Value → Type 0 = λ u. FitsAt s kinds at p u in
           let G : Value → Type 0 = λ u. FitsAt s others at q u in
           let H : PlaceType → Type 0 = λ t. FitsAt s others t q y in
           let fits_v : FitsAt s kinds at p v = subst F v_is fit in
           let fits_w : FitsAt s others at q w = subst G w_is (subst H one_type fit_) in
           let tell = same-exactly_texts_at s formed.types_distinct kinds others at p q v w fits_v fits_w good.written good_.written in
-          let p_is : param_text p ≡ value_text s v = canonical_at-text s kinds at p v fits_v (subst (IsCanonicalParam p) (value-once a none place good.meant.0 v good.meant.1 has) good.meant.2) in
-          let q_is : param_text q ≡ value_text s w = canonical_at-text s others at q w fits_w (subst (IsCanonicalParam q) (value-once b none_ place good_.meant.0 w good_.meant.1 has_) good_.meant.2) in
+          let p_is : param_text p ≡ value_text s v = canonical_at-text s kinds at p v fits_v
+          (subst (IsCanonicalParam p) (value-once a none place good.meant.0 v good.meant.1 has) good.meant.2) in
+          let q_is : param_text q ≡ value_text s w = canonical_at-text s others at q w fits_w
+          (subst (IsCanonicalParam q) (value-once b none_ place good_.meant.0 w good_.meant.1 has_) good_.meant.2) in
           (λ same. p_is ∙ tell.0 same ∙ sym q_is, λ same. tell.1 (sym p_is ∙ same ∙ q_is))
 
   pub rows-differ : (xs ys : List Row) → Each (IsGoodRow s kinds a) xs → Each (IsGoodRow s others b) ys → row_places xs ≡ row_places ys
@@ -201,36 +220,51 @@ module _ (s : Schema) (formed : IsWellFormed s) (kinds others : EntitySets) (a b
             found.p,
             found.q,
             found.among,
-            λ equal. differ ((texts-tell place found.p found.q v w (at-first found.p found.q found.among) (at-second found.p found.q found.among) has has_).1 equal),
+            λ equal. differ ((texts-tell place found.p found.q v w (at-first found.p found.q found.among)
+                (at-second found.p found.q found.among) has has_).1 equal),
           )
 
 -- ---- two lines
 
-abbrev meant-by : (s : Schema) (n : ℕ) (r : Record) (line : List ℕ) (stated : IsInstanceText s n r line) → IsMeantBy s stated.kinds stated.canonical_meaning
-meant-by s n r line stated = record { record_ = stated.canonical; means = stated.canonical_means; spelled = canonical-written s n r line stated }
+abbrev meant-by : (s : Schema) (n : ℕ) (r : Record) (line : List ℕ) (stated : IsInstanceText s n r line)
+    → IsMeantBy s stated.kinds stated.canonical_meaning
+meant-by s n r line stated = record {
+  record_ = stated.canonical;
+  means = stated.canonical_means;
+  spelled =
+      canonical-written s n r line stated;
+}
 
-module _ (s : Schema) (formed : IsWellFormed s) (holds : HoldsTogether s) (n m : ℕ) (r q : Record) (line text : List ℕ) (first : IsInstanceText s n r line) (second : IsInstanceText s m q text) where
-  one-list : (es fs : List ℕ) → AreEntitiesOf s first.canonical es → AreEntitiesOf s second.canonical fs → first.canonical_meaning.entities ≡ second.canonical_meaning.entities → es ≡ fs
+module _ (s : Schema) (formed : IsWellFormed s) (holds : HoldsTogether s) (n m : ℕ) (r q : Record) (line text : List ℕ)
+    (first : IsInstanceText s n r line) (second : IsInstanceText s m q text) where
+  one-list : (es fs : List ℕ) → AreEntitiesOf s first.canonical es → AreEntitiesOf s second.canonical fs
+      → first.canonical_meaning.entities ≡ second.canonical_meaning.entities → es ≡ fs
   one-list es fs are are_ set =
-      lists-same s formed holds first.kinds second.kinds first.canonical_meaning second.canonical_meaning first.canonical second.canonical first.canonical_means second.canonical_means first.is_canonical.form second.is_canonical.form set es fs are are_
+      lists-same s formed holds first.kinds second.kinds first.canonical_meaning second.canonical_meaning first.canonical second.canonical
+      first.canonical_means second.canonical_means first.is_canonical.form second.is_canonical.form set es fs are are_
 
   -- the lists of their entities tell whether the sets are one
   pub lists-tell : (es fs : List ℕ) → AreEntitiesOf s first.canonical es → AreEntitiesOf s second.canonical fs
-      → ((f : ℕ) → Contains es f ↔ Contains first.canonical_meaning.entities f) → ((f : ℕ) → Contains fs f ↔ Contains second.canonical_meaning.entities f)
+      → ((f : ℕ) → Contains es f ↔ Contains first.canonical_meaning.entities f)
+      → ((f : ℕ) → Contains fs f ↔ Contains second.canonical_meaning.entities f)
       → (first.canonical_meaning.entities ≡ second.canonical_meaning.entities) ↔ (es ≡ fs)
   lists-tell es fs are are_ same same_ = (
     one-list es fs are are_,
-    sets-same s formed holds first.kinds second.kinds first.canonical_meaning second.canonical_meaning first.canonical second.canonical first.canonical_means second.canonical_means es fs same same_,
+    sets-same s formed holds first.kinds second.kinds first.canonical_meaning second.canonical_meaning first.canonical second.canonical
+        first.canonical_means second.canonical_means es fs same same_,
   )
 
-  pub places-same : (xs ys : List Row) → AreRowsOf s first.canonical xs → AreRowsOf s second.canonical ys → first.canonical_meaning.entities ≡ second.canonical_meaning.entities → row_places xs ≡ row_places ys
+  pub places-same : (xs ys : List Row) → AreRowsOf s first.canonical xs → AreRowsOf s second.canonical ys
+      → first.canonical_meaning.entities ≡ second.canonical_meaning.entities → row_places xs ≡ row_places ys
   places-same xs ys are are_ set =
       let own = has-set s holds first.kinds first.canonical first.canonical_meaning first.canonical_means.means in
       let own_ = has-set s holds second.kinds second.canonical second.canonical_meaning second.canonical_means.means in
-      record-places s formed first.canonical xs own.set are own.are ∙ ap (flat_map (own_places s)) (one-list own.set own_.set own.are own_.are set)
+      record-places s formed first.canonical xs own.set are own.are
+      ∙ ap (flat_map (own_places s)) (one-list own.set own_.set own.are own_.are set)
       ∙ sym (record-places s formed second.canonical ys own_.set are_ own_.are)
 
-  pub lines-differ : (xs ys : List Row) → AreRowsOf s first.canonical xs → AreRowsOf s second.canonical ys → first.canonical_meaning.entities ≡ second.canonical_meaning.entities
+  pub lines-differ : (xs ys : List Row) → AreRowsOf s first.canonical xs → AreRowsOf s second.canonical ys
+      → first.canonical_meaning.entities ≡ second.canonical_meaning.entities
       → (place : Place) → HaveOtherAt xs ys place ↔ HasOtherValue first.canonical_meaning second.canonical_meaning place
   lines-differ xs ys are are_ set =
       let own = has-set s holds first.kinds first.canonical first.canonical_meaning first.canonical_means.means in
@@ -240,15 +274,20 @@ module _ (s : Schema) (formed : IsWellFormed s) (holds : HoldsTogether s) (n m :
       let In : List Place → Place → Type 0 = λ ps place. Contains ps place in
       rows-differ s formed first.kinds second.kinds first.canonical_meaning second.canonical_meaning by by_ set xs ys
       (good-rows s formed first.kinds first.canonical_meaning first.canonical xs first.canonical_means first.is_canonical by.spelled are)
-      (good-rows s formed second.kinds second.canonical_meaning second.canonical ys second.canonical_means second.is_canonical by_.spelled are_)
+      (good-rows s formed second.kinds second.canonical_meaning second.canonical ys second.canonical_means second.is_canonical by_.spelled
+      are_)
       (places-same xs ys are are_ set)
       (λ place v has.
       let (among, at) = value-placed s first.kinds first.canonical_meaning by place v has in
-      subst (λ (ps : List Place). In ps place) (sym places_are) (Contains-flat_map (own_places s) own.set place.entity place ((own.same place.entity).1 among) at))
+      subst (λ (ps : List Place). In ps place) (sym places_are)
+      (Contains-flat_map (own_places s) own.set place.entity place ((own.same place.entity).1 among) at))
 
 -- what is told of two lines, by the attributes of both
-pub values-told : (s : Schema) → IsWellFormed s → HoldsTogether s → (n m : ℕ) (r q : Record) (line text : List ℕ) (first : IsInstanceText s n r line) (second : IsInstanceText s m q text) (values : OtherValues)
-    → ((rows : List Row) → AreRowsOf s first.canonical rows → TellsRows values.first rows) → ((rows : List Row) → AreRowsOf s second.canonical rows → TellsRows values.second rows)
+pub values-told : (s : Schema) → IsWellFormed s → HoldsTogether s
+    → (n m : ℕ) (r q : Record) (line text : List ℕ) (first : IsInstanceText s n r line) (second : IsInstanceText s m q text)
+    (values : OtherValues)
+    → ((rows : List Row) → AreRowsOf s first.canonical rows → TellsRows values.first rows)
+    → ((rows : List Row) → AreRowsOf s second.canonical rows → TellsRows values.second rows)
     → first.canonical_meaning.entities ≡ second.canonical_meaning.entities → TellsDifferences first second values
 values-told s formed holds n m r q line text first second values tells tells_ set =
     let own = told s n r line first in

@@ -73,4 +73,5 @@ TellsAbout s kept others name (Some (change.Went found first)) = (found ≡ name
 TellsAbout s kept others name (Some (change.Set found first second)) =
     (found ≡ name) × IsKeptLine kept name first.now × IsKeptLine others name second.now × LinesTell s name first.now second.now HaveOtherSet
 TellsAbout s kept others name (Some (change.Values found first second)) =
-    (found ≡ name) × IsKeptLine kept name first.now × IsKeptLine others name second.now × LinesTell s name first.now second.now HaveOtherValues
+    (found ≡ name) × IsKeptLine kept name first.now × IsKeptLine others name second.now
+    × LinesTell s name first.now second.now HaveOtherValues

@@ -18,8 +18,10 @@ pub record AreKept (s : Schema) (bytes : List ℕ) (kept : List StoredInstance) 
   pub schema_text : List ℕ
   pub in_grammar : InGrammar bytes structure schema_text
   pub names_are : IsPermutation (map (λ (i : ℕ × Record). i.0) (instances_in structure.sections)) (instance_names kept)
-  pub texts_are : (x : StoredInstance) → Contains kept x → (record_ : Record) × Contains (instances_in structure.sections) (x.name, record_) × IsInstanceText s x.name record_ x.text
+  pub texts_are : (x : StoredInstance) → Contains kept x
+      → (record_ : Record) × Contains (instances_in structure.sections) (x.name, record_) × IsInstanceText s x.name record_ x.text
 
 -- the lines of these tell what the file means
 abbrev pub LinesAreOfMeaning : Type 0
-LinesAreOfMeaning = (s : Schema) → IsWellFormed s → (bytes : List ℕ) (m : FileMeaning) → Reads s bytes m → (kept : List StoredInstance) → AreKept s bytes kept → AreLinesOf s m kept
+LinesAreOfMeaning = (s : Schema) → IsWellFormed s → (bytes : List ℕ) (m : FileMeaning) → Reads s bytes m → (kept : List StoredInstance)
+    → AreKept s bytes kept → AreLinesOf s m kept

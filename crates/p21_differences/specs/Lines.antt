@@ -19,4 +19,5 @@ pub record IsLineOf (s : Schema) (name : ℕ) (line : List ℕ) (meaning : Typed
 -- the lines that are kept are those of the instances of the file, which means this
 pub record AreLinesOf (s : Schema) (m : FileMeaning) (kept : List StoredInstance) : Type 0 where
   pub names_are : (name : ℕ) → Contains (names m) name ↔ Contains (instance_names kept) name
-  pub lines_are : (name : ℕ) (line : List ℕ) (meaning : Typed) → IsKeptLine kept name line → Contains m.instances (name, meaning) → IsLineOf s name line meaning
+  pub lines_are : (name : ℕ) (line : List ℕ) (meaning : Typed) → IsKeptLine kept name line → Contains m.instances (name, meaning)
+      → IsLineOf s name line meaning

@@ -29,7 +29,8 @@ values_size o = left_size o.first
 -- this place is handed out, with the values of both
 abbrev pub IsOther : Option OtherValue → Row → Row → Type 0
 IsOther None row other = ⊥
-IsOther (Some found) row other = (place_of found.place ≡ row.0) × IsTextOf found.before.text.now row.1 × IsTextOf found.after.text.now other.1
+IsOther (Some found) row other = (place_of found.place ≡ row.0) × IsTextOf found.before.text.now row.1
+    × IsTextOf found.after.text.now other.1
 
 -- the next parameters of other texts are handed out, and those behind them are left
 abbrev pub HandsOutOther : List Row → List Row → Option OtherValue → OtherValues → Type 0
@@ -51,7 +52,8 @@ HaveOnePlaces rows others = map (λ (row : Row). row.0) rows ≡ map (λ (row : 
 
 -- the attributes of both instances are left, beside each other at one place, and texts differ at a place exactly where the instances have
 -- different values there
-pub record TellsDifferences {s : Schema} {n m : ℕ} {record_ other : Record} {line text : List ℕ} (first : IsInstanceText s n record_ line) (second : IsInstanceText s m other text) (values : OtherValues) : Type 0 where
+pub record TellsDifferences {s : Schema} {n m : ℕ} {record_ other : Record} {line text : List ℕ} (first : IsInstanceText s n record_ line)
+    (second : IsInstanceText s m other text) (values : OtherValues) : Type 0 where
   pub rows : List Row
   pub others : List Row
   pub tells : TellsBoth values rows others

@@ -19,7 +19,8 @@ use Rattle.p21_mapping_values.specs.declared.value.Values.{Values as Stored}
 use Rattle.p21_mapping_values.specs.TypedView.{rows_view}
 use Rattle.p21_mapping_values.specs.View.{list_of, views}
 
-zip-at : {X Y : Type 0} (xs : List X) (ys : List Y) (k : ℕ) (x : X) (y : Y) → slice_get xs k ≡ Some x → slice_get ys k ≡ Some y → Contains (zip xs ys) (x, y)
+zip-at : {X Y : Type 0} (xs : List X) (ys : List Y) (k : ℕ) (x : X) (y : Y) → slice_get xs k ≡ Some x → slice_get ys k ≡ Some y
+    → Contains (zip xs ys) (x, y)
 zip-at [] ys k x y at at_ = cc
 zip-at (z ∷ xs) [] k x y at at_ = cc
 zip-at {X} {Y} (z ∷ xs) (w ∷ ys) zero x y at at_ =
@@ -38,11 +39,13 @@ set-other (y ∷ xs) (suc i) zero x differ = refl
 set-other (y ∷ xs) (suc i) (suc k) x differ = set-other xs i k x (λ same. differ (ap suc same))
 
 -- an element behind a front without a repeat is not in that front
-fresh : (es : List EntityId) (k : ℕ) (d : EntityId) → k < length es → NoneTwice (numbers es) → Contains (numbers (take k es)) (get_or es k d).0 → ⊥
+fresh : (es : List EntityId) (k : ℕ) (d : EntityId) → k < length es → NoneTwice (numbers es)
+    → Contains (numbers (take k es)) (get_or es k d).0 → ⊥
 fresh [] k d below none among = absurd (omega (arith, below))
 fresh (e ∷ es) zero d below none (n, low, is) = absurd (omega (arith, low))
 fresh (e ∷ es) (suc k) d below none among = elim (Contains-cases e.0 (numbers (take k es)) (get_or es k d).0 among) [
-  | inl h ↦ none.0 (let P : ℕ → Type 0 = λ x. Contains (numbers es) x in subst P (sym h) (Contains-found (numbers es) k (get_or es k d).0 (mapped-at (λ (x : EntityId). x.0) es k d (omega (arith, below)))))
+  | inl h ↦ none.0 (let P : ℕ → Type 0 = λ x. Contains (numbers es) x in
+      subst P (sym h) (Contains-found (numbers es) k (get_or es k d).0 (mapped-at (λ (x : EntityId). x.0) es k d (omega (arith, below)))))
   | inr h ↦ fresh es k d (omega (arith, below)) none.1 h
 ]
 
@@ -50,24 +53,41 @@ module _ (entities listed : List EntityId) (rows : List Stored) where
   pub arranged-begins : length rows ≡ length listed → ArrangedSoFar entities listed rows 0 rows []
   arranged-begins long = record { done = tt; left_are = λ k e at new. refl; long = long }
 
-  pub arranged-more : (i at : ℕ) (d : EntityId) (row empty e_ : Stored) (left after : List Stored) (all all_after : List Stored) → i < length entities → IsDistinct nat_eq (numbers entities) → slice_get (numbers listed) at ≡ Some (get_or entities i d).0 → at < length listed
-      → row ≡ get_or left at e_ → after ≡ slice_set left at empty → length after ≡ length left → all_after ≡ all ++ row ∷ [] → ArrangedSoFar entities listed rows i left all → ArrangedSoFar entities listed rows (i + 1) after all_after
+  pub arranged-more : (i at : ℕ) (d : EntityId) (row empty e_ : Stored) (left after : List Stored) (all all_after : List Stored)
+      → i < length entities → IsDistinct nat_eq (numbers entities) → slice_get (numbers listed) at ≡ Some (get_or entities i d).0
+      → at < length listed
+      → row ≡ get_or left at e_ → after ≡ slice_set left at empty → length after ≡ length left → all_after ≡ all ++ row ∷ []
+      → ArrangedSoFar entities listed rows i left all → ArrangedSoFar entities listed rows (i + 1) after all_after
   arranged-more i at d row empty e_ left after all all_after below differ there within row_is after_is same pushed so =
       let e : ℕ = (get_or entities i d).0 in
       let new : Contains (numbers (take i entities)) e → ⊥ = fresh entities i d below (distinct-none_twice (numbers entities) differ) in
       let v : Values = views (list_of row) in
-      let here : slice_get (rows_view left) at ≡ Some v = mapped-at (λ (x : Stored). views (list_of x)) left at e_ (omega (arith, within, so.long)) ∙ ap (λ (x : Stored). Some (views (list_of x))) (sym row_is) in
+      let here : slice_get (rows_view left) at ≡ Some v =
+      mapped-at (λ (x : Stored). views (list_of x)) left at e_ (omega (arith, within, so.long))
+      ∙ ap (λ (x : Stored). Some (views (list_of x))) (sym row_is) in
       let own : slice_get (rows_view rows) at ≡ Some v = sym (so.left_are at e there new) ∙ here in
       record {
-        done = AllZip-more (λ f vs. Contains (zip (numbers listed) (rows_view rows)) (f, vs)) (λ (x : EntityId). x.0) (λ (x : Stored). views (list_of x)) entities i d all all_after row below pushed so.done (zip-at (numbers listed) (rows_view rows) at e v there own);
+        done = AllZip-more (λ f vs. Contains (zip (numbers listed) (rows_view rows)) (f, vs)) (λ (x : EntityId). x.0)
+            (λ (x : Stored). views (list_of x)) entities i d all all_after row below pushed so.done
+            (zip-at (numbers listed) (rows_view rows) at e v there own);
         left_are = λ k f at_ none.
             let P : List ℕ → Type 0 = λ xs. Contains xs f in
-            let earlier : Contains (numbers (take i entities)) f → ⊥ = λ among. none (subst P (sym (numbers-more (λ (x : EntityId). x.0) entities i d below)) (Contains-append_left (numbers (take i entities)) (e ∷ []) f among)) in
-            let other : k ≢ at = λ is. none (let h : Some f ≡ Some e = sym at_ ∙ ap (slice_get (numbers listed)) is ∙ there in let same_ : f ≡ e = cc in
-            subst P (sym (numbers-more (λ (x : EntityId). x.0) entities i d below)) (let Q : ℕ → Type 0 = λ x. Contains (numbers (take i entities) ++ e ∷ []) x in subst Q (sym same_) (Contains-append_right (numbers (take i entities)) (e ∷ []) e (Contains-first e [])))) in
-            slice_get-map (λ (x : Stored). views (list_of x)) after k ∙ ap (option_map (λ (x : Stored). views (list_of x))) (ap (λ xs. slice_get xs k) after_is ∙ set-other left at k empty other) ∙ sym (slice_get-map (λ (x : Stored). views (list_of x)) left k) ∙ so.left_are k f at_ earlier;
+            let earlier : Contains (numbers (take i entities)) f
+            → ⊥ = λ among. none (subst P (sym (numbers-more (λ (x : EntityId). x.0) entities i d below))
+            (Contains-append_left (numbers (take i entities)) (e ∷ []) f among)) in
+            let other : k ≢ at = λ is. none (let h : Some f ≡ Some e = sym at_ ∙ ap (slice_get (numbers listed)) is
+            ∙ there in let same_ : f ≡ e = cc in
+            subst P (sym (numbers-more (λ (x : EntityId). x.0) entities i d below))
+            (let Q : ℕ → Type 0 = λ x. Contains (numbers (take i entities) ++ e ∷ []) x in
+            subst Q (sym same_) (Contains-append_right (numbers (take i entities)) (e ∷ []) e (Contains-first e [])))) in
+            slice_get-map (λ (x : Stored). views (list_of x)) after k
+            ∙ ap (option_map (λ (x : Stored). views (list_of x))) (ap (λ xs. slice_get xs k) after_is ∙ set-other left at k empty other)
+            ∙ sym (slice_get-map (λ (x : Stored). views (list_of x)) left k) ∙ so.left_are k f at_ earlier;
         long = same ∙ so.long;
       }
 
-  pub arranged-ends : (i : ℕ) (left all : List Stored) → length entities ≤ i → ArrangedSoFar entities listed rows i left all → AreArranged (numbers listed) (rows_view rows) (numbers entities) (rows_view all)
-  arranged-ends i left all past so = let P : List EntityId → Type 0 = λ es. AreArranged (numbers listed) (rows_view rows) (numbers es) (rows_view all) in subst P (take_all i entities past) so.done
+  pub arranged-ends : (i : ℕ) (left all : List Stored) → length entities ≤ i → ArrangedSoFar entities listed rows i left all
+      → AreArranged (numbers listed) (rows_view rows) (numbers entities) (rows_view all)
+  arranged-ends i left all past so = let P : List EntityId
+      → Type 0 = λ es. AreArranged (numbers listed) (rows_view rows) (numbers es) (rows_view all) in
+      subst P (take_all i entities past) so.done

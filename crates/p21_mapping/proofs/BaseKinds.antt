@@ -57,7 +57,8 @@ abbrev pub IsItem : Param → Type 0
 IsItem (parameter.item word) = Unit {0}
 IsItem other = ⊥
 
-takes-item : (s : Schema) (t : ℕ) (words : List (List ℕ)) (p : Param) → kind_of s t ≡ Some (items words) → TakesKind s (schema.defined t) p → IsItem p
+takes-item : (s : Schema) (t : ℕ) (words : List (List ℕ)) (p : Param) → kind_of s t ≡ Some (items words) → TakesKind s (schema.defined t) p
+    → IsItem p
 takes-item s t words p is (takes_underlying _ under _ is_ _) = let h : Some (alias under) ≡ Some (items words) = sym is_ ∙ is in cc
 takes-item s t words p is (takes_item _ _ word _) = tt
 takes-item s t words p is (takes_chosen_instance _ e n offers) =
@@ -74,7 +75,8 @@ IsChosen s t (parameter.typed key p) = (u : ℕ) × (name : List ℕ) × (key �
 IsChosen s t other = ⊥
 
 takes-chosen : (s : Schema) (t : ℕ) (p : Param) → IsSelect s t → TakesKind s (schema.defined t) p → IsChosen s t p
-takes-chosen s t p (members, is) (takes_underlying _ under _ is_ _) = let h : Some (alias under) ≡ Some (choice members) = sym is_ ∙ is in cc
+takes-chosen s t p (members, is) (takes_underlying _ under _ is_ _) = let h : Some (alias under) ≡ Some (choice members) = sym is_
+    ∙ is in cc
 takes-chosen s t p (members, is) (takes_item _ words word is_) = let h : Some (items words) ≡ Some (choice members) = sym is_ ∙ is in cc
 takes-chosen s t p select (takes_chosen_instance _ e n offers) = (e, offers)
 takes-chosen s t p select (takes_chosen_type _ u name q offers named) = (u, name, refl, offers, named)
@@ -102,15 +104,18 @@ real-nowhere code.Real d not_real not_number takes = not_real refl
 real-nowhere code.Number d not_real not_number takes = not_number refl
 real-nowhere other d not_real not_number takes = takes
 
-pub item-nowhere : (u : code.TypeUse) (word : List ℕ) → u ≢ code.Boolean → u ≢ code.Logical → TakesPlainly (type_use u) (parameter.item word) → ⊥
+pub item-nowhere : (u : code.TypeUse) (word : List ℕ) → u ≢ code.Boolean → u ≢ code.Logical
+    → TakesPlainly (type_use u) (parameter.item word) → ⊥
 item-nowhere code.Boolean word not_boolean not_logical takes = not_boolean refl
 item-nowhere code.Logical word not_boolean not_logical takes = not_logical refl
 item-nowhere other word not_boolean not_logical takes = takes
 
-pub text-nowhere : (u : code.TypeUse) (chars : List ℕ) → ((w : Option Width) → u ≢ code.Text w) → TakesPlainly (type_use u) (parameter.text chars) → ⊥
+pub text-nowhere : (u : code.TypeUse) (chars : List ℕ) → ((w : Option Width) → u ≢ code.Text w)
+    → TakesPlainly (type_use u) (parameter.text chars) → ⊥
 text-nowhere (code.Text w) chars not takes = not w refl
 text-nowhere other chars not takes = takes
 
-pub bits-nowhere : (u : code.TypeUse) (bs : List Bool) → ((w : Option Width) → u ≢ code.Bits w) → TakesPlainly (type_use u) (parameter.bits bs) → ⊥
+pub bits-nowhere : (u : code.TypeUse) (bs : List Bool) → ((w : Option Width) → u ≢ code.Bits w)
+    → TakesPlainly (type_use u) (parameter.bits bs) → ⊥
 bits-nowhere (code.Bits w) bs not takes = not w refl
 bits-nowhere other bs not takes = takes

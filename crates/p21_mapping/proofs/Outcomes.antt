@@ -30,13 +30,16 @@ use Rattle.p21_spec_schema.specs.Schema.{Schema, TypeUse, kind_of}
 
 -- ---- answers from answers
 
-pub answers-to : {V : Type 0} (F : V → List reference.Need → Type 0) (B C : ℕ → Type 0) → ((n : ℕ) → B n → C n) → (G : V → List reference.Need → Type 0) → ((v : V) (needs : List reference.Need) → F v needs → G v needs)
+pub answers-to : {V : Type 0} (F : V → List reference.Need → Type 0) (B C : ℕ → Type 0) → ((n : ℕ) → B n → C n)
+    → (G : V → List reference.Need → Type 0) → ((v : V) (needs : List reference.Need) → F v needs → G v needs)
     → (old : List Need) (result : Result V CheckFault) (new : List Need) → Answers F B old result new → Answers G C old result new
-answers-to F B C breaks G fits old (Ok found) new h = record { added = h.added; needs_are = h.needs_are; fits = fits found (needs_view h.added) h.fits }
+answers-to F B C breaks G fits old (Ok found) new h =
+    record { added = h.added; needs_are = h.needs_are; fits = fits found (needs_view h.added) h.fits }
 answers-to F B C breaks G fits old (Err fault) new h = λ other. breaks (fault_number fault) (h other)
 
 -- a value that means what fits
-pub value-means : (s : Schema) (type : TypeUse) (p : Param) (found : Value) (m : meant.Value) (needs : List reference.Need) → view found ≡ m → FitsWithNeeds s type p m needs → HasKnownTypes s m → OfType s type m → IsValueOf s type p found needs
+pub value-means : (s : Schema) (type : TypeUse) (p : Param) (found : Value) (m : meant.Value) (needs : List reference.Need) → view found ≡ m
+    → FitsWithNeeds s type p m needs → HasKnownTypes s m → OfType s type m → IsValueOf s type p found needs
 value-means s type p found m needs is fits known of = record {
   fits = subst (λ v. FitsWithNeeds s type p v needs) (sym is) fits;
   known = subst (HasKnownTypes s) (sym is) known;
@@ -44,7 +47,8 @@ value-means s type p found m needs is fits known of = record {
 }
 
 -- a value that needs nothing
-pub alone : (s : Schema) (type last : TypeUse) (p : Param) (found : Value) (m : meant.Value) (old : List Need) → type ≡ last → view found ≡ m → FitsWithNeeds s last p m [] → HasKnownTypes s m → OfType s last m → FitsOrBreaks s type p old (Ok found) old
+pub alone : (s : Schema) (type last : TypeUse) (p : Param) (found : Value) (m : meant.Value) (old : List Need) → type ≡ last
+    → view found ≡ m → FitsWithNeeds s last p m [] → HasKnownTypes s m → OfType s last m → FitsOrBreaks s type p old (Ok found) old
 alone s type last p found m old same is fits known of = record {
   added = [];
   needs_are = sym (append-nil old);
@@ -52,21 +56,27 @@ alone s type last p found m old same is fits known of = record {
 }
 
 -- a rule that is broken
-pub broken : (s : Schema) (type : TypeUse) (p : Param) (old new : List Need) (fault : CheckFault) → BreaksAt s type p (fault_number fault) → FitsOrBreaks s type p old (Err fault) new
+pub broken : (s : Schema) (type : TypeUse) (p : Param) (old new : List Need) (fault : CheckFault) → BreaksAt s type p (fault_number fault)
+    → FitsOrBreaks s type p old (Err fault) new
 broken s type p old new fault breaks = λ other. itself type p breaks
 
 -- a scalar or a name, of which the type takes none
-pub other_kind_broken : (s : Schema) (type : TypeUse) (base : Base) (p : Param) (old new : List Need) (fault : CheckFault) → IsKindFault base fault → IsBase s type base → p ≢ parameter.dollar → p ≢ parameter.star → (TakesAt s base p → ⊥) → FitsOrBreaks s type p old (Err fault) new
-other_kind_broken s type base p old new fault is_fault is some no_star nowhere = broken s type p old new fault (is_fault s type p is (some, no_star, λ takes. nowhere (base-takes s type base p is takes)))
+pub other_kind_broken : (s : Schema) (type : TypeUse) (base : Base) (p : Param) (old new : List Need) (fault : CheckFault)
+    → IsKindFault base fault → IsBase s type base → p ≢ parameter.dollar → p ≢ parameter.star → (TakesAt s base p → ⊥)
+    → FitsOrBreaks s type p old (Err fault) new
+other_kind_broken s type base p old new fault is_fault is some no_star nowhere =
+    broken s type p old new fault (is_fault s type p is (some, no_star, λ takes. nowhere (base-takes s type base p is takes)))
 
 plain-no_choice : (s : Schema) (type : TypeUse) → IsPlain type → UsesSelect s type → ⊥
 plain-no_choice s (schema.defined t) plain choice = plain
 plain-no_choice s other plain choice = choice
 
-pub plain_wrong : (s : Schema) (type : TypeUse) (b : Bor code.TypeUse) (p : Param) → IsBase s type (Plain b) → IsOfWrongKind s type p → BreaksAt s type p 49
+pub plain_wrong : (s : Schema) (type : TypeUse) (b : Bor code.TypeUse) (p : Param) → IsBase s type (Plain b) → IsOfWrongKind s type p
+    → BreaksAt s type p 49
 plain_wrong s type b p (is, plain) not = wrong_kind type p not (plain-no_choice s type plain)
 
-items-no_choice : (s : Schema) (type : TypeUse) (t : ℕ) (words : List (List ℕ)) → type ≡ schema.defined t → kind_of s t ≡ Option.Some (schema.items words) → UsesSelect s type → ⊥
+items-no_choice : (s : Schema) (type : TypeUse) (t : ℕ) (words : List (List ℕ)) → type ≡ schema.defined t
+    → kind_of s t ≡ Option.Some (schema.items words) → UsesSelect s type → ⊥
 items-no_choice s type t words same is choice =
     let (members, is_) = subst (UsesSelect s) same choice in
     let h : Option.Some (schema.choice members) ≡ Option.Some (schema.items words) = sym is_ ∙ is in cc
@@ -81,8 +91,10 @@ pub kind_fault-select : (t : TypeId) → IsKindFault (Select t) fault.SelectType
 kind_fault-select t s type p (same, select) not = select_type type p not (subst (UsesSelect s) (sym same) select)
 
 -- at whatever type comes to the base
-pub elsewhere : (base : Base) (p : Param) (fault : CheckFault) → IsKindFault base fault → p ≢ parameter.dollar → p ≢ parameter.star → ((s : Schema) → TakesAt s base p → ⊥) → FitsAlone base p (Err fault)
-elsewhere base p fault is_fault some no_star nowhere s type old is = other_kind_broken s type base p old old fault is_fault is some no_star (nowhere s)
+pub elsewhere : (base : Base) (p : Param) (fault : CheckFault) → IsKindFault base fault → p ≢ parameter.dollar → p ≢ parameter.star
+    → ((s : Schema) → TakesAt s base p → ⊥) → FitsAlone base p (Err fault)
+elsewhere base p fault is_fault some no_star nowhere s type old is =
+    other_kind_broken s type base p old old fault is_fault is some no_star (nowhere s)
 
 -- a kind of parameter that no enumeration and no select takes
 abbrev pub IsOfNoDeclared : Param → Type 0
@@ -114,24 +126,36 @@ declared-some p of is = subst IsOfNoDeclared is of
 declared-no_star : (p : Param) → IsOfNoDeclared p → p ≢ parameter.star
 declared-no_star p of is = subst IsOfNoDeclared is of
 
-pub at_declared : (base : Base) (p : Param) (fault : CheckFault) → IsKindFault base fault → IsOfNoDeclared p → ((b : Bor code.TypeUse) → base ≢ Plain b) → FitsAlone base p (Err fault)
-at_declared base p fault is_fault of not = elsewhere base p fault is_fault (declared-some p of) (declared-no_star p of) (λ s takes. takes-plain s base p of not takes)
+pub at_declared : (base : Base) (p : Param) (fault : CheckFault) → IsKindFault base fault → IsOfNoDeclared p
+    → ((b : Bor code.TypeUse) → base ≢ Plain b) → FitsAlone base p (Err fault)
+at_declared base p fault is_fault of not = elsewhere base p fault is_fault (declared-some p of) (declared-no_star p of)
+    (λ s takes. takes-plain s base p of not takes)
 
 -- at a type that is no declared one, and takes none of its kind
-pub at_other : (base : Base) (b : Bor code.TypeUse) (p : Param) → base ≡ Plain b → p ≢ parameter.dollar → p ≢ parameter.star → (TakesPlainly (type_use b.now) p → ⊥) → FitsAlone base p (Err fault.WrongKind)
-at_other base b p same some no_star nowhere = subst (λ x. FitsAlone x p (Err fault.WrongKind)) (sym same) (elsewhere (Plain b) p fault.WrongKind (kind_fault-plain b) some no_star (λ s takes. nowhere takes))
+pub at_other : (base : Base) (b : Bor code.TypeUse) (p : Param) → base ≡ Plain b → p ≢ parameter.dollar → p ≢ parameter.star
+    → (TakesPlainly (type_use b.now) p → ⊥) → FitsAlone base p (Err fault.WrongKind)
+at_other base b p same some no_star nowhere = subst (λ x. FitsAlone x p (Err fault.WrongKind)) (sym same)
+    (elsewhere (Plain b) p fault.WrongKind (kind_fault-plain b) some no_star (λ s takes. nowhere takes))
 
 -- ---- items
 
-pub refuses-plain : (base : Base) (b : Bor code.TypeUse) (word : List ℕ) → base ≡ Plain b → (TakesPlainly (type_use b.now) (parameter.item word) → ⊥) → RefusesItem base word fault.WrongKind
+pub refuses-plain : (base : Base) (b : Bor code.TypeUse) (word : List ℕ) → base ≡ Plain b
+    → (TakesPlainly (type_use b.now) (parameter.item word) → ⊥) → RefusesItem base word fault.WrongKind
 refuses-plain base b word same nowhere s type is =
     let at = subst (IsBase s type) same is in
-    plain_wrong s type b (parameter.item word) at ((λ e. cc), (λ e. cc), λ takes. nowhere (base-takes s type (Plain b) (parameter.item word) at takes))
+    plain_wrong s type b (parameter.item word) at (
+      (λ e. cc),
+      (λ e. cc),
+      λ takes. nowhere
+          (base-takes s type (Plain b) (parameter.item word) at takes),
+    )
 
 pub refuses-select : (base : Base) (t : TypeId) (word : List ℕ) → base ≡ Select t → RefusesItem base word fault.SelectType
 refuses-select base t word same s type is =
     let at = subst (IsBase s type) same is in
-    kind_fault-select t s type (parameter.item word) at ((λ e. cc), (λ e. cc), λ takes. base-takes s type (Select t) (parameter.item word) at takes)
+    kind_fault-select t s type (parameter.item word) at
+    ((λ e. cc), (λ e. cc), λ takes. base-takes s type (Select t) (parameter.item word) at takes)
 
-pub item_refused : (base : Base) (word : List ℕ) (fault : CheckFault) → RefusesItem base word fault → FitsAlone base (parameter.item word) (Err fault)
+pub item_refused : (base : Base) (word : List ℕ) (fault : CheckFault) → RefusesItem base word fault
+    → FitsAlone base (parameter.item word) (Err fault)
 item_refused base word fault refuses s type old is = broken s type (parameter.item word) old old fault (refuses s type is)

@@ -30,7 +30,8 @@ place-within s e place among =
     subst P same below
 
 -- where redeclarations don't leave a place open, it is decided what may stand there
-stored-in : (s : Schema) → HoldsTogether s → (entities : List ℕ) (place : Place) (at : PlaceType) → TypeAt s entities place at → (TypeAt s entities place two_redeclarations → ⊥) → IsStoredIn s at
+stored-in : (s : Schema) → HoldsTogether s → (entities : List ℕ) (place : Place) (at : PlaceType) → TypeAt s entities place at
+    → (TypeAt s entities place two_redeclarations → ⊥) → IsStoredIn s at
 stored-in s holds entities place derived_place type_at decided = tt
 stored-in s holds entities place (stored_place optional type) type_at decided = stored-is s holds entities place optional type type_at
 stored-in s holds entities place two_redeclarations type_at decided = decided type_at
@@ -42,10 +43,12 @@ same-length R (x ∷ xs) [] all = absurd all
 same-length R (x ∷ xs) (y ∷ ys) all = ap suc (same-length R xs ys all.1)
 
 -- it is decided at each place what may stand there
-pub types-stored : (s : Schema) → HoldsTogether s → (e : ℕ) (types : List PlaceType) → PassesOwnSet s e → AreOwnTypes s e types → Each (IsStoredIn s) types
+pub types-stored : (s : Schema) → HoldsTogether s → (e : ℕ) (types : List PlaceType) → PassesOwnSet s e → AreOwnTypes s e types
+    → Each (IsStoredIn s) types
 types-stored s holds e types passes are = each (places s e) types are (λ place among. among)
   where
-    each : (ps : List Place) (ts : List PlaceType) → AllZip (TypeAt s (order s e)) ps ts → ((place : Place) → Contains ps place → Contains (places s e) place) → Each (IsStoredIn s) ts
+    each : (ps : List Place) (ts : List PlaceType) → AllZip (TypeAt s (order s e)) ps ts
+        → ((place : Place) → Contains ps place → Contains (places s e) place) → Each (IsStoredIn s) ts
     each [] [] all within = tt
     each [] (t ∷ ts) all within = absurd all
     each (p ∷ ps) [] all within = absurd all
@@ -55,7 +58,8 @@ types-stored s holds e types passes are = each (places s e) types are (λ place 
     )
 
 -- what stands at one place of two lists stands beside each other
-zip-at : {X Y : Type 0} (xs : List X) (ys : List Y) (k : ℕ) (x : X) (y : Y) → slice_get xs k ≡ Some x → slice_get ys k ≡ Some y → Contains (zip xs ys) (x, y)
+zip-at : {X Y : Type 0} (xs : List X) (ys : List Y) (k : ℕ) (x : X) (y : Y) → slice_get xs k ≡ Some x → slice_get ys k ≡ Some y
+    → Contains (zip xs ys) (x, y)
 zip-at [] ys k x y at at_ = cc
 zip-at (z ∷ xs) [] k x y at at_ = cc
 zip-at {X} {Y} (z ∷ xs) (w ∷ ys) zero x y at at_ =
@@ -67,11 +71,13 @@ zip-at {X} {Y} (z ∷ xs) (w ∷ ys) zero x y at at_ =
 zip-at (z ∷ xs) (w ∷ ys) (suc k) x y at at_ = Contains-later (z, w) (zip xs ys) (x, y) (zip-at xs ys k x y at at_)
 
 -- what a list that was read has there
-pub mapped-is : {X Y : Type 0} (f : X → Y) (xs : List X) (k : ℕ) (x : X) → k < length xs → x ≡ get_or xs k x → slice_get (map f xs) k ≡ Some (f x)
+pub mapped-is : {X Y : Type 0} (f : X → Y) (xs : List X) (k : ℕ) (x : X) → k < length xs → x ≡ get_or xs k x
+    → slice_get (map f xs) k ≡ Some (f x)
 mapped-is f xs k x below is = mapped-at f xs k x below ∙ ap (λ y. Some (f y)) (sym is)
 
 -- the parameter at one of the places breaks the rule
-pub broken-at : (s : Schema) (types : List PlaceType) (params : List Param) (k number : ℕ) (at same_at : PlaceType) (p same_p : Param) → slice_get types k ≡ Some at → slice_get params k ≡ Some p → same_at ≡ at → same_p ≡ p → BreaksAtPlace s same_at same_p number
+pub broken-at : (s : Schema) (types : List PlaceType) (params : List Param) (k number : ℕ) (at same_at : PlaceType) (p same_p : Param)
+    → slice_get types k ≡ Some at → slice_get params k ≡ Some p → same_at ≡ at → same_p ≡ p → BreaksAtPlace s same_at same_p number
     → BreaksParams s types params number
 broken-at s types params k number at same_at p same_p at_is p_is same same_ breaks =
     let P : PlaceType → Type 0 = λ x. BreaksAtPlace s x p number in
@@ -79,7 +85,8 @@ broken-at s types params k number at same_at p same_p at_is p_is same same_ brea
     (at, p, zip-at types params k at p at_is p_is, subst P same (subst Q same_ breaks))
 
 -- what stands beside an element of one list stands beside one of another, place by place
-zip-back : {X Y Z : Type 0} (R : X → Y → Type 0) (xs : List X) (ys : List Y) (zs : List Z) → AllZip R xs ys → (y : Y) (z : Z) → Contains (zip ys zs) (y, z) → (x : X) × Contains (zip xs zs) (x, z) × R x y
+zip-back : {X Y Z : Type 0} (R : X → Y → Type 0) (xs : List X) (ys : List Y) (zs : List Z) → AllZip R xs ys → (y : Y) (z : Z)
+    → Contains (zip ys zs) (y, z) → (x : X) × Contains (zip xs zs) (x, z) × R x y
 zip-back R [] [] zs all y z among = absurd (Contains-none (y, z) among)
 zip-back R [] (w ∷ ys) zs all y z among = absurd all
 zip-back R (x ∷ xs) [] zs all y z among = absurd all
@@ -95,10 +102,21 @@ zip-back {X} {Y} {Z} R (x ∷ xs) (w ∷ ys) (u ∷ us) all y z among = elim (Co
 module _ (s : Schema) (part : Part) (e : ℕ) (named : NamesEntity s part.key e) (types : List PlaceType) (are : AreOwnTypes s e types) where
   -- a record with another number of parameters than places breaks the rule on that
   pub types-miscount : length types ≢ length (listed part.params) → Breaks s (simple part) 45
-  types-miscount differ = simple-miscount s part e named (λ count. differ (sym (same-length (TypeAt s (order s e)) (places s e) types are) ∙ sym count))
+  types-miscount differ = simple-miscount s part e named
+      (λ count. differ (sym (same-length (TypeAt s (order s e)) (places s e) types are) ∙ sym count))
 
   -- a record breaks the rule that one of its parameters breaks
   pub params-break : HoldsTogether s → (number : ℕ) → BreaksParams s types (listed part.params) number → Breaks s (simple part) number
   params-break holds number (at, p, among, breaks) =
       let (place, stands, type_at) = zip-back (TypeAt s (order s e)) (places s e) types (listed part.params) are at p among in
-      at_place number (order s e, place, at, p, simple-set s holds holds.entities_distinct part e (order s e) named (same-itself (order s e)), type_at, (part, e, (Contains-first part [], named), stands), breaks)
+      at_place number (
+        order s e,
+        place,
+        at,
+        p,
+        simple-set s holds holds.entities_distinct part e (order s e) named
+            (same-itself (order s e)),
+        type_at,
+        (part, e, (Contains-first part [], named), stands),
+        breaks,
+      )

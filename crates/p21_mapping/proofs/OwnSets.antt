@@ -32,26 +32,38 @@ pub same-turned : (es fs : List ℕ) → HaveSame es fs → HaveSame fs es
 same-turned es fs same f = ((same f).1, (same f).0)
 
 clashes-same : (s : Schema) (es fs : List ℕ) → HaveSame es fs → Clashes s es → Clashes s fs
-clashes-same s es fs same (listed, is, (e, f, e_listed, f_listed, differ, e_among, f_among)) = (listed, is, (e, f, e_listed, f_listed, differ, (same e).0 e_among, (same f).0 f_among))
+clashes-same s es fs same (listed, is, (e, f, e_listed, f_listed, differ, e_among, f_among)) =
+    (listed, is, (e, f, e_listed, f_listed, differ, (same e).0 e_among, (same f).0 f_among))
 
 -- the type at a place depends on the members alone
-pub type-same : (s : Schema) (es fs : List ℕ) → HaveSame es fs → (place : Place) (at : PlaceType) → TypeAt s es place at → TypeAt s fs place at
+pub type-same : (s : Schema) (es fs : List ℕ) → HaveSame es fs → (place : Place) (at : PlaceType) → TypeAt s es place at
+    → TypeAt s fs place at
 type-same s es fs same place at is = type-there s es fs place (λ e redeclares. same e) at is
 
 module _ (s : Schema) (e : ℕ) where
   open-place : LeavesOpen s e → HasOpenPlace s (order s e)
-  open-place (place, (among, two)) = let (f, in_order, own) = Contains-one_of (own_places s) (order s e) place among in (f, in_order, (place, own, two))
+  open-place (place, (among, two)) = let (f, in_order, own) = Contains-one_of (own_places s) (order s e) place among in
+      (f, in_order, (place, own, two))
 
   -- the closure of an entity passes as a set
   pub own-passes : (entities : List ℕ) → HaveSame (order s e) entities → PassesOwnSet s e → PassesSet s entities
   own-passes entities same (_, no_clash, no_open) = (
     λ clashes. no_clash (clashes-same s entities (order s e) (same-turned (order s e) entities same) clashes),
-    Each-of_members (HasPlaceTypes s entities) entities (λ f among. Each-of_members (λ place. ¬ TypeAt s entities place two_redeclarations) (own_places s f) (λ place own two.
-        no_open (place, (Contains-flat_map (own_places s) (order s e) f place ((same f).1 among) own, type-same s entities (order s e) (same-turned (order s e) entities same) place two_redeclarations two)))),
+    Each-of_members (HasPlaceTypes s entities) entities
+        (λ f among. Each-of_members (λ place. ¬ TypeAt s entities place two_redeclarations) (own_places s f) (λ place own two.
+        no_open (
+          place,
+          (
+            Contains-flat_map (own_places s) (order s e) f place ((same f).1 among) own,
+            type-same s entities (order s e)
+                (same-turned (order s e) entities same) place two_redeclarations two,
+          ),
+        ))),
   )
 
   -- what is wrong with the closure of an entity is wrong with a record of internal form that names it
-  pub own-refuses : HoldsTogether s → HasDistinctEntities s → (part : Part) → NamesEntity s part.key e → (fault : CheckFault) → RefusesOwnSet s e fault → Refuses s (simple part) fault
+  pub own-refuses : HoldsTogether s → HasDistinctEntities s → (part : Part) → NamesEntity s part.key e → (fault : CheckFault)
+      → RefusesOwnSet s e fault → Refuses s (simple part) fault
   own-refuses holds distinct part named fault refuses = by fault refuses
     where
       set_is : IsEntitySetOf s (simple part) (order s e)

@@ -26,30 +26,47 @@ pub listed-within : (s : Schema) (r : Record) (es entities : List ℕ) → HasSh
 listed-within s r es entities shape e among = rising-known s entities shape.rising e ((shape.same e).0 among)
 
 pub listed-decided : (s : Schema) (r : Record) (es entities : List ℕ) → HasShape s r es entities → Each (HasPlaceTypes s entities) es
-listed-decided s r es entities shape = Each-of_members (HasPlaceTypes s entities) es (λ e among. Each-member (HasPlaceTypes s entities) entities e shape.place_types ((shape.same e).0 among))
+listed-decided s r es entities shape = Each-of_members (HasPlaceTypes s entities) es
+    (λ e among. Each-member (HasPlaceTypes s entities) entities e shape.place_types ((shape.same e).0 among))
 
-pub simple-long : (s : Schema) (part : Part) (es entities : List ℕ) → HasShape s (simple part) es entities → length (listed part.params) ≡ length (flat_map (own_places s) es)
-simple-long s part es entities shape = let (e, named, is) = shape.listed_are in shape.counts part e (Contains-first part [], named) ∙ ap (λ xs. length (flat_map (own_places s) xs)) (sym is)
+pub simple-long : (s : Schema) (part : Part) (es entities : List ℕ) → HasShape s (simple part) es entities
+    → length (listed part.params) ≡ length (flat_map (own_places s) es)
+simple-long s part es entities shape = let (e, named, is) = shape.listed_are in shape.counts part e (Contains-first part [], named)
+    ∙ ap (λ xs. length (flat_map (own_places s) xs)) (sym is)
 
 -- what is broken at a place the record breaks
-broken : (s : Schema) (r : Record) (es entities : List ℕ) → HasShape s r es entities → (pairs : List (Place × Param)) → ((place : Place) (p : Param) → Contains pairs (place, p) → HasParamAt s r place p) → (number : ℕ) → BreaksAmong s entities pairs number → Breaks s r number
-broken s r es entities shape pairs stands number (place, p, among, (at, type_at, breaks)) = at_place number (entities, place, at, p, shape.set_is, type_at, stands place p among, breaks)
+broken : (s : Schema) (r : Record) (es entities : List ℕ) → HasShape s r es entities → (pairs : List (Place × Param))
+    → ((place : Place) (p : Param) → Contains pairs (place, p) → HasParamAt s r place p) → (number : ℕ)
+    → BreaksAmong s entities pairs number → Breaks s r number
+broken s r es entities shape pairs stands number (place, p, among, (at, type_at, breaks)) =
+    at_place number (entities, place, at, p, shape.set_is, type_at, stands place p among, breaks)
 
-pub simple-refused : (s : Schema) (part : Part) (es entities : List ℕ) → HasShape s (simple part) es entities → (number : ℕ) → BreaksAmong s entities (zip (flat_map (own_places s) es) (listed part.params)) number → Breaks s (simple part) number
+pub simple-refused : (s : Schema) (part : Part) (es entities : List ℕ) → HasShape s (simple part) es entities → (number : ℕ)
+    → BreaksAmong s entities (zip (flat_map (own_places s) es) (listed part.params)) number → Breaks s (simple part) number
 simple-refused s part es entities shape number breaks =
     let (e, named, is) = shape.listed_are in
     broken s (simple part) es entities shape (zip (flat_map (own_places s) es) (listed part.params))
-    (λ place p among. (part, e, (Contains-first part [], named), let P : List ℕ → Type 0 = λ xs. Contains (zip (flat_map (own_places s) xs) (listed part.params)) (place, p) in subst P is among)) number breaks
+    (λ place p among. (
+      part,
+      e,
+      (Contains-first part [], named),
+      let P : List ℕ
+          → Type 0 = λ xs. Contains (zip (flat_map (own_places s) xs) (listed part.params)) (place, p) in subst P is among,
+    )) number breaks
 
-pub complex-refused : (s : Schema) (parts : List Part) (es entities : List ℕ) → HasShape s (complex parts) es entities → (fault : CheckFault) → RefusesPart s entities parts fault → Refuses s (complex parts) fault
+pub complex-refused : (s : Schema) (parts : List Part) (es entities : List ℕ) → HasShape s (complex parts) es entities
+    → (fault : CheckFault) → RefusesPart s entities parts fault → Refuses s (complex parts) fault
 complex-refused s parts es entities shape fault refuses other =
     let (part, e, has, breaks) = refuses other in
-    broken s (complex parts) es entities shape (zip (own_places s e) (listed part.params)) (λ place p among. (part, e, has, among)) (fault_number fault) breaks
+    broken s (complex parts) es entities shape (zip (own_places s e) (listed part.params)) (λ place p among. (part, e, has, among))
+    (fault_number fault) breaks
 
 -- ---- rows
 
-pub simple-rows : (s : Schema) (part : Part) (es entities : List ℕ) (params : List Param) (old new : List Need) (result : Result (Vec Stored Global) CheckFault) → HasShape s (simple part) es entities → params ≡ listed part.params
-    → MatchResult result (λ rows. TakesRows s entities es params [] (rows_view rows.items) old new) (RefusesAmong s entities (zip (flat_map (own_places s) es) params))
+pub simple-rows : (s : Schema) (part : Part) (es entities : List ℕ) (params : List Param) (old new : List Need)
+    (result : Result (Vec Stored Global) CheckFault) → HasShape s (simple part) es entities → params ≡ listed part.params
+    → MatchResult result (λ rows. TakesRows s entities es params [] (rows_view rows.items) old new)
+    (RefusesAmong s entities (zip (flat_map (own_places s) es) params))
     → MatchResult result (λ rows. HasRows s (simple part) es entities (rows_view rows.items) old new) (Refuses s (simple part))
 simple-rows s part es entities params old new (Ok rows) shape are takes = record {
   params = takes.params;
@@ -62,7 +79,8 @@ simple-rows s part es entities params old new (Err fault) shape are refuses = λ
     let P : List Param → Type 0 = λ ps. BreaksAmong s entities (zip (flat_map (own_places s) es) ps) (fault_number fault) in
     simple-refused s part es entities shape (fault_number fault) (subst P are (refuses other))
 
-pub complex-rows : (s : Schema) (parts : List Part) (es entities : List ℕ) (old new : List Need) (result : Result (Vec Stored Global) CheckFault) → HasShape s (complex parts) es entities → 0 < length parts
+pub complex-rows : (s : Schema) (parts : List Part) (es entities : List ℕ) (old new : List Need)
+    (result : Result (Vec Stored Global) CheckFault) → HasShape s (complex parts) es entities → 0 < length parts
     → MatchResult result (λ rows. TakesParts s entities es parts [] (rows_view rows.items) old new) (RefusesPart s entities parts)
     → MatchResult result (λ rows. HasRows s (complex parts) es entities (rows_view rows.items) old new) (Refuses s (complex parts))
 complex-rows s parts es entities old new (Ok rows) shape some takes = record {

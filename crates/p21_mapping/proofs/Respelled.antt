@@ -25,16 +25,19 @@ same_bits bytes value copy e s = bits_once bytes copy value s (subst (λ (b : Li
 
 -- ---- nothing but want of memory refuses it
 
-pub whole_memory : (bytes : List ℕ) (z : ℤ) (fault : ValueFault) → bytes ≡ whole_spelling z → RefusesAs BadNumber (SpellsWhole bytes) fault → fault ≡ NoMemory
+pub whole_memory : (bytes : List ℕ) (z : ℤ) (fault : ValueFault) → bytes ≡ whole_spelling z → RefusesAs BadNumber (SpellsWhole bytes) fault
+    → fault ≡ NoMemory
 whole_memory bytes z NoMemory e refused = refl
 whole_memory bytes z fault e refused = absurd (refused.1 z (subst (λ (b : List ℕ). SpellsWhole b z) (sym e) (whole_spells z)))
 
-pub real_memory : (bytes : List ℕ) (d : Decimal) (fault : ValueFault) → IsDecimal d → bytes ≡ real_spelling d → ReadsReal bytes (Err fault) → fault ≡ NoMemory
+pub real_memory : (bytes : List ℕ) (d : Decimal) (fault : ValueFault) → IsDecimal d → bytes ≡ real_spelling d → ReadsReal bytes (Err fault)
+    → fault ≡ NoMemory
 real_memory bytes d NoMemory is e refused = refl
 real_memory bytes d BadNumber is e refused = absurd (refused (spelled bytes d is e).form)
 real_memory bytes d NumberRange is e refused = absurd (refused.1 d (spelled bytes d is e))
 real_memory bytes d fault is e refused = absurd refused
 
-pub bits_memory : (bytes : List ℕ) (value : List Bool) (fault : ValueFault) → bytes ≡ bits_spelling value → RefusesAs BadBinary (SpellsBits bytes) fault → fault ≡ NoMemory
+pub bits_memory : (bytes : List ℕ) (value : List Bool) (fault : ValueFault) → bytes ≡ bits_spelling value
+    → RefusesAs BadBinary (SpellsBits bytes) fault → fault ≡ NoMemory
 bits_memory bytes value NoMemory e refused = refl
 bits_memory bytes value fault e refused = absurd (refused.1 value (subst (λ (b : List ℕ). SpellsBits b value) (sym e) (bits_spell value)))

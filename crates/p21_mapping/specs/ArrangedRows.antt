@@ -36,5 +36,6 @@ pub record HasRows (s : Schema) (record_ : Record) (es entities : List ℕ) (vss
 -- the first entities of a set have their rows, and the rows of the others are left
 pub record ArrangedSoFar (entities es : List EntityId) (rows : List Stored) (index : ℕ) (left all : List Stored) : Type 0 where
   pub done : AreArranged (numbers es) (rows_view rows) (numbers (take index entities)) (rows_view all)
-  pub left_are : (k e : ℕ) → slice_get (numbers es) k ≡ Some e → ¬ Contains (numbers (take index entities)) e → slice_get (rows_view left) k ≡ slice_get (rows_view rows) k
+  pub left_are : (k e : ℕ) → slice_get (numbers es) k ≡ Some e → ¬ Contains (numbers (take index entities)) e
+      → slice_get (rows_view left) k ≡ slice_get (rows_view rows) k
   pub long : length left ≡ length es

@@ -63,7 +63,8 @@ abbrev pub IsTypedAt : Schema → Bool → TypeUse → meant.Value → Type 0
 IsTypedAt s optional type v = ((optional ≡ true) × (v ≡ meant.missing)) ⊎ OfType s type v
 
 -- the value of a parameter where a value of the type may be, or an empty place
-pub record IsElementOf (s : Schema) (optional : Bool) (type : TypeUse) (p : Param) (found : Value) (needs : List reference.Need) : Type 0 where
+pub record IsElementOf (s : Schema) (optional : Bool) (type : TypeUse) (p : Param) (found : Value) (needs : List reference.Need) : Type
+    0 where
   pub fits : FitsAtWithNeeds s (stored_place optional type) p (view found) needs
   pub known : HasKnownTypes s (view found)
   pub typed : IsTypedAt s optional type (view found)
@@ -72,7 +73,8 @@ abbrev pub ElementOrBreaks : Schema → Bool → TypeUse → Param → List Need
 ElementOrBreaks s optional type p = Answers (IsElementOf s optional type p) (BreaksAtPlace s (stored_place optional type) p)
 
 -- the values of parameters in a row
-pub record AreElementsOf (s : Schema) (optional : Bool) (type : TypeUse) (ps : Params) (found : Vec Value Global) (needs : List reference.Need) : Type 0 where
+pub record AreElementsOf (s : Schema) (optional : Bool) (type : TypeUse) (ps : Params) (found : Vec Value Global)
+    (needs : List reference.Need) : Type 0 where
   pub fits : FitEachWithNeeds s optional type ps (views found.items) needs
   pub known : HaveKnownTypes s (views found.items)
   pub typed : EachOf s optional type (views found.items)
@@ -94,15 +96,18 @@ FitsAlone base p result = (s : Schema) (type : TypeUse) (old : List Need) → Is
 
 -- there a parameter of a kind that the type does not take breaks the rule of this fault
 abbrev pub IsKindFault : Base → CheckFault → Type 0
-IsKindFault base fault = (s : Schema) (type : TypeUse) (p : Param) → IsBase s type base → IsOfWrongKind s type p → BreaksAt s type p (fault_number fault)
+IsKindFault base fault = (s : Schema) (type : TypeUse) (p : Param) → IsBase s type base → IsOfWrongKind s type p
+    → BreaksAt s type p (fault_number fault)
 
 -- there it is decided whether the word is one of the items
 abbrev pub DecidesItem : Base → List ℕ → Bool → Type 0
-DecidesItem base word is_one = (s : Schema) (type : TypeUse) → IsBase s type base → (words : List (List ℕ)) × HasItems s type words × (IsTrue is_one ↔ Contains words word)
+DecidesItem base word is_one = (s : Schema) (type : TypeUse) → IsBase s type base
+    → (words : List (List ℕ)) × HasItems s type words × (IsTrue is_one ↔ Contains words word)
 
 -- there an item breaks the rule of this fault
 abbrev pub RefusesItem : Base → List ℕ → CheckFault → Type 0
-RefusesItem base word fault = (s : Schema) (type : TypeUse) → IsBase s type base → BreaksAt s type (parameter.item word) (fault_number fault)
+RefusesItem base word fault = (s : Schema) (type : TypeUse) → IsBase s type base
+    → BreaksAt s type (parameter.item word) (fault_number fault)
 
 -- a parameter at any type that comes to this base, of one schema
 abbrev pub FitsFrom : Schema → Base → Param → List Need → Result Value CheckFault → List Need → Type 0

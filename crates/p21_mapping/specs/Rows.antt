@@ -28,10 +28,12 @@ pub record FittedParam : Type 0 where
   pub needs : List Need
 
 abbrev pub IsFitted : Schema → List ℕ → FittedParam → Type 0
-IsFitted s entities f = (at : PlaceType) × TypeAt s entities f.place at × FitsAtWithNeeds s at f.param f.value f.needs × HasKnownTypes s f.value
+IsFitted s entities f = (at : PlaceType) × TypeAt s entities f.place at × FitsAtWithNeeds s at f.param f.value f.needs
+    × HasKnownTypes s f.value
 
 -- parameters at places one by one
-pub record FitsRow (s : Schema) (entities : List ℕ) (places : List Place) (ps : List Param) (vs : List Value) (needs : List Need) : Type 0 where
+pub record FitsRow (s : Schema) (entities : List ℕ) (places : List Place) (ps : List Param) (vs : List Value) (needs : List Need) : Type
+    0 where
   pub fitted : List FittedParam
   pub each : Each (IsFitted s entities) fitted
   pub places_are : map (λ (f : FittedParam). f.place) fitted ≡ places
@@ -68,7 +70,8 @@ left_views left = param_views (reverse left)
 
 -- a parameter fits at the place, and adds its needs
 abbrev pub FitsHere : Schema → List ℕ → Place → Param → Value → List Need → List Need → Type 0
-FitsHere s entities place p v old new = (added : List Need) × (new ≡ old ++ added) × IsFitted s entities (record { place = place; param = p; value = v; needs = added })
+FitsHere s entities place p v old new = (added : List Need) × (new ≡ old ++ added)
+    × IsFitted s entities (record { place = place; param = p; value = v; needs = added })
 
 -- or it breaks the rule of the number
 abbrev pub BreaksHere : Schema → List ℕ → Place → Param → ℕ → Type 0
@@ -78,7 +81,8 @@ abbrev pub RefusesHere : Schema → List ℕ → Place → Param → CheckFault 
 RefusesHere s entities place p fault = fault ≢ NoMemory → BreaksHere s entities place p (fault_number fault)
 
 -- the first places of an entity, from the front of parameters
-pub record RowSoFar (s : Schema) (entities : List ℕ) (owner index : ℕ) (before after : List Param) (values : List Value) (old new : List Need) : Type 0 where
+pub record RowSoFar (s : Schema) (entities : List ℕ) (owner index : ℕ) (before after : List Param) (values : List Value)
+    (old new : List Need) : Type 0 where
   pub params : List Param
   pub added : List Need
   pub taken : before ≡ params ++ after
@@ -86,7 +90,8 @@ pub record RowSoFar (s : Schema) (entities : List ℕ) (owner index : ℕ) (befo
   pub fits : FitsRow s entities (places_from owner 0 index) params values added
 
 -- a row is taken from the front of parameters
-pub record TakesRow (s : Schema) (entities : List ℕ) (owner : ℕ) (before after : List Param) (values : List Value) (old new : List Need) : Type 0 where
+pub record TakesRow (s : Schema) (entities : List ℕ) (owner : ℕ) (before after : List Param) (values : List Value)
+    (old new : List Need) : Type 0 where
   pub params : List Param
   pub added : List Need
   pub taken : before ≡ params ++ after
@@ -105,7 +110,8 @@ abbrev pub RefusesRow : Schema → List ℕ → ℕ → List Param → CheckFaul
 RefusesRow s entities owner params = RefusesAmong s entities (zip (own_places s owner) params)
 
 -- rows of the first entities, from the front of parameters
-pub record TakesRows (s : Schema) (entities owners : List ℕ) (before after : List Param) (rows : List Values) (old new : List Need) : Type 0 where
+pub record TakesRows (s : Schema) (entities owners : List ℕ) (before after : List Param) (rows : List Values) (old new : List Need) : Type
+    0 where
   pub params : List (List Param)
   pub added : List Need
   pub taken : before ≡ flat_map (λ (ps : List Param). ps) params ++ after
@@ -113,7 +119,8 @@ pub record TakesRows (s : Schema) (entities owners : List ℕ) (before after : L
   pub fits : FitsRows s entities owners params rows added
 
 -- rows of the first simple records
-pub record TakesParts (s : Schema) (entities owners : List ℕ) (before after : List Part) (rows : List Values) (old new : List Need) : Type 0 where
+pub record TakesParts (s : Schema) (entities owners : List ℕ) (before after : List Part) (rows : List Values) (old new : List Need) : Type
+    0 where
   pub parts : List Part
   pub added : List Need
   pub taken : before ≡ parts ++ after
@@ -122,4 +129,6 @@ pub record TakesParts (s : Schema) (entities owners : List ℕ) (before after : 
 
 -- a parameter of a simple record breaks a rule
 abbrev pub RefusesPart : Schema → List ℕ → List Part → CheckFault → Type 0
-RefusesPart s entities parts fault = fault ≢ NoMemory → ((part : Part) × (e : ℕ) × HasPart s (complex parts) part e × BreaksAmong s entities (zip (own_places s e) (listed part.params)) (fault_number fault))
+RefusesPart s entities parts fault = fault ≢ NoMemory
+    → ((part : Part) × (e : ℕ) × HasPart s (complex parts) part e
+    × BreaksAmong s entities (zip (own_places s e) (listed part.params)) (fault_number fault))

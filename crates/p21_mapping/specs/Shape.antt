@@ -144,4 +144,5 @@ pub record HasShape (s : Schema) (record_ : Record) (es entities : List ℕ) : T
 
 -- the entities of the record are found, and its set is the closure of its entity, where that is known
 abbrev pub IsShape : Schema → Record → Shape → Type 0
-IsShape s record_ shape = HasShape s record_ (listed_in s shape.listed) (numbers shape.entities) × IsOwnClosure s (own_of shape.listed) (numbers shape.entities)
+IsShape s record_ shape = HasShape s record_ (listed_in s shape.listed) (numbers shape.entities)
+    × IsOwnClosure s (own_of shape.listed) (numbers shape.entities)

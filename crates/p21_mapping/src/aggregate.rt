@@ -10,7 +10,8 @@ use p21_mapping_values::{Value, Values};
 
 /// Of an aggregate whether places may be empty, and the type of its elements (ISO 10303-11, Aggregation data types).
 pub(crate) fn element(of: &TypeUse) -> Option<(bool, &TypeUse)>
-    ensures { MatchOption result (element_type (type_use of.now) ≡ None) (λ parts. element_type (type_use of.now) ≡ Some (parts.0, type_use parts.1.now)) }
+    ensures { MatchOption result (element_type (type_use of.now) ≡ None)
+        (λ parts. element_type (type_use of.now) ≡ Some (parts.0, type_use parts.1.now)) }
 {
     match of {
         TypeUse::Array {

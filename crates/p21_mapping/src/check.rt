@@ -123,7 +123,8 @@ fn rows_of(
     requires formed { IsWellFormed set.now.schema.now }
     requires own { IsOwnClosure set.now.schema.now set.now.own set.now.entities }
     requires shape { HasShape set.now.schema.now (record_view of) (numbers listed.now) set.now.entities }
-    ensures { MatchResult result (λ rows. HasRows set.now.schema.now (record_view of) (numbers listed.now) set.now.entities (rows_view rows.items) (needs_view needs.old.items) (needs_view needs.new.items)) (Refuses set.now.schema.now (record_view of)) }
+    ensures { MatchResult result (λ rows. HasRows set.now.schema.now (record_view of) (numbers listed.now) set.now.entities
+        (rows_view rows.items) (needs_view needs.old.items) (needs_view needs.new.items)) (Refuses set.now.schema.now (record_view of)) }
 {
     match of {
         Record::Simple(part) => {

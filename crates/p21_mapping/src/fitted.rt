@@ -66,7 +66,9 @@ fn fit_here(
     requires entities { AreEntities set.now.schema.now set.now.entities }
     requires place { IsPlace set.now.schema.now (place_of place) }
     requires decided { TypeAt set.now.schema.now set.now.entities (place_of place) two_redeclarations → ⊥ }
-    ensures { MatchResult result (λ found. FitsHere set.now.schema.now set.now.entities (place_of place) (tree param) (view found) (needs_view needs.old.items) (needs_view needs.new.items)) (RefusesHere set.now.schema.now set.now.entities (place_of place) (tree param)) }
+    ensures { MatchResult result (λ found. FitsHere set.now.schema.now set.now.entities (place_of place) (tree param) (view found)
+        (needs_view needs.old.items) (needs_view needs.new.items))
+        (RefusesHere set.now.schema.now set.now.entities (place_of place) (tree param)) }
 {
     set.schema.holds_together();
     let at = type_here(alloc, set, place)?;
@@ -89,7 +91,9 @@ pub(crate) fn fit_row(
     requires owner { IsEntity set.now.schema.now owner.0 }
     requires decided { HasPlaceTypes set.now.schema.now set.now.entities owner.0 }
     requires enough { length (attributes_of set.now.schema.now owner.0) ≤ length (reverse params.old.items) }
-    ensures { MatchResult result (λ values. TakesRow set.now.schema.now set.now.entities owner.0 (left_views params.old.items) (left_views params.new.items) (map view (list_of values)) (needs_view needs.old.items) (needs_view needs.new.items)) (RefusesRow set.now.schema.now set.now.entities owner.0 (left_views params.old.items)) }
+    ensures { MatchResult result (λ values. TakesRow set.now.schema.now set.now.entities owner.0 (left_views params.old.items)
+        (left_views params.new.items) (map view (list_of values)) (needs_view needs.old.items) (needs_view needs.new.items))
+        (RefusesRow set.now.schema.now set.now.entities owner.0 (left_views params.old.items)) }
 {
     let count = set.schema.attribute_count(owner);
     let mut values = Vec::with_capacity(alloc, count as usize)?;
@@ -126,7 +130,10 @@ pub(crate) fn simple_rows(
     requires listed { AreEntities set.now.schema.now (numbers listed.now) }
     requires decided { Each (HasPlaceTypes set.now.schema.now set.now.entities) (numbers listed.now) }
     requires each { length params.items ≡ length (flat_map (own_places set.now.schema.now) (numbers listed.now)) }
-    ensures { MatchResult result (λ rows. TakesRows set.now.schema.now set.now.entities (numbers listed.now) (param_views params.items) [] (rows_view rows.items) (needs_view needs.old.items) (needs_view needs.new.items)) (RefusesAmong set.now.schema.now set.now.entities (zip (flat_map (own_places set.now.schema.now) (numbers listed.now)) (param_views params.items))) }
+    ensures { MatchResult result (λ rows. TakesRows set.now.schema.now set.now.entities (numbers listed.now) (param_views params.items) []
+        (rows_view rows.items) (needs_view needs.old.items) (needs_view needs.new.items))
+        (RefusesAmong set.now.schema.now set.now.entities (zip (flat_map (own_places set.now.schema.now) (numbers listed.now))
+        (param_views params.items))) }
 {
     let count = params.len();
     let mut left = params;
@@ -158,7 +165,9 @@ pub(crate) fn complex_rows(
     requires decided { Each (HasPlaceTypes set.now.schema.now set.now.entities) (numbers listed.now) }
     requires named { AreNamed set.now.schema.now (part_views parts.items) (numbers listed.now) }
     requires counts { HasCounts set.now.schema.now (complex (part_views parts.items)) }
-    ensures { MatchResult result (λ rows. TakesParts set.now.schema.now set.now.entities (numbers listed.now) (part_views parts.items) [] (rows_view rows.items) (needs_view needs.old.items) (needs_view needs.new.items)) (RefusesPart set.now.schema.now set.now.entities (part_views parts.items)) }
+    ensures { MatchResult result (λ rows. TakesParts set.now.schema.now set.now.entities (numbers listed.now) (part_views parts.items) []
+        (rows_view rows.items) (needs_view needs.old.items) (needs_view needs.new.items))
+        (RefusesPart set.now.schema.now set.now.entities (part_views parts.items)) }
 {
     let mut left = parts.into_iter();
     let mut rows = Vec::with_capacity(alloc, listed.len())?;

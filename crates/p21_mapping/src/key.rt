@@ -12,7 +12,8 @@ use std::alloc::Global;
 
 /// The entity that a keyword names. A user-defined keyword names none.
 pub(crate) fn named(schema: &Schema, key: &Key) -> Option<EntityId>
-    ensures { MatchOption result ((e : ℕ) → NamesEntity schema.now (key_view key.now) e → ⊥) (λ entity. NamesEntity schema.now (key_view key.now) entity.0) }
+    ensures { MatchOption result ((e : ℕ) → NamesEntity schema.now (key_view key.now) e → ⊥)
+        (λ entity. NamesEntity schema.now (key_view key.now) entity.0) }
 {
     if key.user {
         return None;
@@ -26,7 +27,8 @@ pub(crate) fn named_entities(
     schema: &Schema,
     parts: &[Part],
 ) -> Result<Vec<EntityId>, CheckFault>
-    ensures { MatchResult result (λ listed. AreNamed schema.now (part_views parts.now) (numbers listed.items)) (Refuses schema.now (complex (part_views parts.now))) }
+    ensures { MatchResult result (λ listed. AreNamed schema.now (part_views parts.now) (numbers listed.items))
+        (Refuses schema.now (complex (part_views parts.now))) }
 {
     let mut listed = Vec::with_capacity(alloc, parts.len())?;
     for part in parts {

@@ -52,7 +52,8 @@ pub(crate) fn is_closed(schema: &Schema, positions: &Positions<'_>) -> bool
 
 /// Whether entities have all others.
 pub(crate) fn has_all(positions: &Positions<'_>, others: &[EntityId]) -> bool
-    ensures { MatchBool result ((f : ℕ) → Contains (numbers others.now) f → Contains positions.now f) ((f : ℕ) × Contains (numbers others.now) f × (Contains positions.now f → ⊥)) }
+    ensures { MatchBool result ((f : ℕ) → Contains (numbers others.now) f → Contains positions.now f)
+        ((f : ℕ) × Contains (numbers others.now) f × (Contains positions.now f → ⊥)) }
 {
     for other in others {
         if !positions.has(*other) {

@@ -45,7 +45,8 @@ fn has_open_place_of(
 ) -> Result<bool, NoMemory>
     requires set { AreEntities schema.now set.now }
     requires entity { IsEntity schema.now entity.0 }
-    ensures { IfOk result (λ found. MatchBool found (HasOpenPlaceOf schema.now set.now entity.0) (HasPlaceTypes schema.now set.now entity.0)) }
+    ensures { IfOk result (λ found. MatchBool found (HasOpenPlaceOf schema.now set.now entity.0)
+        (HasPlaceTypes schema.now set.now entity.0)) }
 {
     for index in 0..schema.attribute_count(entity) {
         let at = type_among(alloc, schema, set, Place { entity, index })?;
@@ -83,7 +84,8 @@ pub(crate) fn has_count(schema: &Schema, listed: &[EntityId], params: usize) -> 
 pub(crate) fn have_counts(schema: &Schema, listed: &[EntityId], parts: &[Part]) -> bool
     requires entities { AreEntities schema.now (numbers listed.now) }
     requires each { length parts.now ≡ length listed.now }
-    ensures { MatchBool result (AllZip (HasCount schema.now) (part_views parts.now) (numbers listed.now)) (HasOtherCount schema.now (part_views parts.now) (numbers listed.now)) }
+    ensures { MatchBool result (AllZip (HasCount schema.now) (part_views parts.now) (numbers listed.now))
+        (HasOtherCount schema.now (part_views parts.now) (numbers listed.now)) }
 {
     for at in 0..parts.len() {
         let part: &Part = &parts[at];

@@ -195,7 +195,8 @@ pub fn check_set(alloc: Global, schema: &Schema, entities: &[EntityId]) -> Resul
 /// `NoMemory`.
 pub fn has_abstract_leaf(schema: &Schema, entities: &[EntityId]) -> Result<bool, NoMemory>
     requires { AreEntities schema.now (numbers entities.now) }
-    ensures { IfOk result (λ found. MatchBool found (HasSomeAbstractLeaf schema.now (numbers entities.now)) (HasNoAbstractLeaf schema.now (numbers entities.now))) }
+    ensures { IfOk result (λ found. MatchBool found (HasSomeAbstractLeaf schema.now (numbers entities.now))
+        (HasNoAbstractLeaf schema.now (numbers entities.now))) }
 {
     let leaves = schema.leaves(entities)?;
     Ok(has_abstract(schema, &leaves))
@@ -204,7 +205,8 @@ pub fn has_abstract_leaf(schema: &Schema, entities: &[EntityId]) -> Result<bool,
 /// Whether one of the entities is abstract.
 fn has_abstract(schema: &Schema, entities: &[EntityId]) -> bool
     requires { AreEntities schema.now (numbers entities.now) }
-    ensures { MatchBool result ((e : ℕ) × Contains (numbers entities.now) e × IsAbstract schema.now e) ((e : ℕ) → Contains (numbers entities.now) e → IsAbstract schema.now e → ⊥) }
+    ensures { MatchBool result ((e : ℕ) × Contains (numbers entities.now) e × IsAbstract schema.now e)
+        ((e : ℕ) → Contains (numbers entities.now) e → IsAbstract schema.now e → ⊥) }
 {
     for entity in entities {
         if schema.is_abstract(*entity) {

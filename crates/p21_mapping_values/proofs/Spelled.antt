@@ -21,7 +21,8 @@ insert-written : (p : Param) (ps : List Param) → IsWritten p → AreWritten (p
 insert-written p [] first rest = (first, tt)
 insert-written p (q ∷ qs) first rest = by_test (is_below (param_text q) (param_text p)) (insert-written p qs first rest.1)
   where
-    by_test : (b : Bool) → AreWritten (params_of (insert_param p qs)) → AreWritten (params_of (if b then q ∷ insert_param p qs else p ∷ q ∷ qs))
+    by_test : (b : Bool) → AreWritten (params_of (insert_param p qs))
+        → AreWritten (params_of (if b then q ∷ insert_param p qs else p ∷ q ∷ qs))
     by_test true more = (rest.0, more)
     by_test false more = (first, rest)
 
@@ -42,9 +43,12 @@ mutual
   spelled-written s missing spelled = ((codes "$", refl), tt)
   spelled-written s (list vs) spelled = list-said (params_of (canonical_params s vs)) (all-written s vs spelled)
   spelled-written s (array vs) spelled = list-said (params_of (canonical_params s vs)) (all-written s vs spelled)
-  spelled-written s (set vs) spelled = list-said (params_of (sort_params (canonical_params s vs))) (sort-written (canonical_params s vs) (all-written s vs spelled))
-  spelled-written s (bag vs) spelled = list-said (params_of (sort_params (canonical_params s vs))) (sort-written (canonical_params s vs) (all-written s vs spelled))
-  spelled-written s (typed t v) spelled = typed-said (key_of (type_name s t)) (canonical_param s v) spelled.0 (spelled-written s v spelled.1)
+  spelled-written s (set vs) spelled = list-said (params_of (sort_params (canonical_params s vs)))
+      (sort-written (canonical_params s vs) (all-written s vs spelled))
+  spelled-written s (bag vs) spelled = list-said (params_of (sort_params (canonical_params s vs)))
+      (sort-written (canonical_params s vs) (all-written s vs spelled))
+  spelled-written s (typed t v) spelled = typed-said (key_of (type_name s t)) (canonical_param s v) spelled.0
+      (spelled-written s v spelled.1)
 
   pub all-written : (s : Schema) (vs : Values) → AreSpelled s vs → AreWritten (params_of (canonical_params s vs))
   all-written s no_values spelled = tt
@@ -52,12 +56,14 @@ mutual
 
 -- ---- values in a row
 
-spelled-push : (s : Schema) (xs : List stored.Value) (x : stored.Value) → AreSpelled s (views xs) → IsSpelledValue s (view x) → AreSpelled s (views (xs ++ x ∷ []))
+spelled-push : (s : Schema) (xs : List stored.Value) (x : stored.Value) → AreSpelled s (views xs) → IsSpelledValue s (view x)
+    → AreSpelled s (views (xs ++ x ∷ []))
 spelled-push s [] x spelled is = (is, tt)
 spelled-push s (y ∷ ys) x spelled is = (spelled.0, spelled-push s ys x spelled.1 is)
 
 -- a value more
-pub spelled-more : (s : Schema) (xs : List stored.Value) (i : ℕ) (x : stored.Value) → x ≡ get_or xs i x → i < length xs → AreSpelled s (views (take i xs)) → IsSpelledValue s (view x) → AreSpelled s (views (take (i + 1) xs))
+pub spelled-more : (s : Schema) (xs : List stored.Value) (i : ℕ) (x : stored.Value) → x ≡ get_or xs i x → i < length xs
+    → AreSpelled s (views (take i xs)) → IsSpelledValue s (view x) → AreSpelled s (views (take (i + 1) xs))
 spelled-more s xs i x is low spelled last =
     let more : take (i + 1) xs ≡ take i xs ++ x ∷ [] = take_more xs i x low ∙ ap (λ (y : stored.Value). take i xs ++ y ∷ []) (sym is) in
     subst (λ (ys : List stored.Value). AreSpelled s (views ys)) (sym more) (spelled-push s (take i xs) x spelled last)
@@ -72,8 +78,10 @@ pub spelled-by : {T E : Type 0} (s : Schema) (r : Result T E) (v w : Value) → 
 spelled-by s r v w is spelled = on_any r (IsSpelledValue s v) (subst (IsSpelledValue s) (sym is) spelled)
 
 -- a typed value by its pieces
-pub tagged-text : (s : Schema) (t : ℕ) (v inner : Value) (name old named opened valued closed : List ℕ) → v ≡ typed t inner → TypeNamed s t name → named ≡ old ++ name → opened ≡ named ++ 40 ∷ [] → valued ≡ opened ++ value_text s inner
+pub tagged-text : (s : Schema) (t : ℕ) (v inner : Value) (name old named opened valued closed : List ℕ) → v ≡ typed t inner
+    → TypeNamed s t name → named ≡ old ++ name → opened ≡ named ++ 40 ∷ [] → valued ≡ opened ++ value_text s inner
     → closed ≡ valued ++ 41 ∷ [] → closed ≡ old ++ value_text s v
 tagged-text s t v inner name old named opened valued closed is is_name e f g h =
-    let all : value_text s v ≡ name ++ (40 ∷ (value_text s inner ++ 41 ∷ [])) = ap (value_text s) is ∙ ap (λ (x : List ℕ). x ++ (40 ∷ (value_text s inner ++ 41 ∷ []))) (named-is s t name is_name) in
+    let all : value_text s v ≡ name ++ (40 ∷ (value_text s inner ++ 41 ∷ [])) = ap (value_text s) is
+    ∙ ap (λ (x : List ℕ). x ++ (40 ∷ (value_text s inner ++ 41 ∷ []))) (named-is s t name is_name) in
     rw (h, g, f, e, all) (simp append_assoc refl)

@@ -50,4 +50,19 @@ view-Bag vs = search (rules, value.the_lemmas)
 pub view-Tagged : (t : TypeId) (v : Box Value Global) → view (value.Tagged t v) ≡ meant.typed t.0 (view v.value)
 view-Tagged t v = search (rules, value.the_lemmas)
 
-pub ruleset view_equations = (view-Whole, view-Real, view-Number, view-Text, view-Bits, view-Item, view-Reference, view-Derived, view-Missing, view-List, view-Array, view-Set, view-Bag, view-Tagged)
+pub ruleset view_equations = (
+  view-Whole,
+  view-Real,
+  view-Number,
+  view-Text,
+  view-Bits,
+  view-Item,
+  view-Reference,
+  view-Derived,
+  view-Missing,
+  view-List,
+  view-Array,
+  view-Set,
+  view-Bag,
+  view-Tagged,
+)

@@ -28,10 +28,21 @@ pub scalar-said : {T E : Type 0} (r : Result T E) (p q : Param) → p ≡ q → 
 scalar-said r p q is written = on_any r (IsWritten p) (subst IsWritten (sym is) written)
 
 pub list-said : (ps : Params) → AreWritten ps → IsWritten (list ps)
-list-said ps written = ((codes "(", refl), Each-append IsSpelled (params_tokens ps) (token.right ∷ []) (written-tokens ps written) ((codes ")", refl), tt))
+list-said ps written = (
+  (codes "(", refl),
+  Each-append IsSpelled (params_tokens ps) (token.right ∷ []) (written-tokens ps written)
+      ((codes ")", refl), tt),
+)
 
 pub typed-said : (key : Key) (p : Param) → IsSpelled (key_token key) → IsWritten p → IsWritten (typed key p)
-typed-said key p spelled written = (spelled, ((codes "(", refl), Each-append IsSpelled (param_tokens p) (token.right ∷ []) written ((codes ")", refl), tt)))
+typed-said key p spelled written = (
+  spelled,
+  (
+    (codes "(", refl),
+    Each-append IsSpelled (param_tokens p) (token.right ∷ []) written
+        ((codes ")", refl), tt),
+  ),
+)
 
 pub key-said : (key : Key) → IsKeyword key.word → IsSpelled (key_token key)
 key-said key is = by_user key.user
@@ -42,4 +53,8 @@ key-said key is = by_user key.user
 
 -- a keyword, and parameters in parentheses
 pub header-said : (part : Part) → IsSpelled (key_token part.key) → IsWritten (list part.params) → IsWrittenStatement (header part)
-header-said part key written = (key, Each-append IsSpelled (param_tokens (list part.params)) (token.semicolon ∷ []) written ((codes ";", refl), tt))
+header-said part key written = (
+  key,
+  Each-append IsSpelled (param_tokens (list part.params)) (token.semicolon ∷ []) written
+      ((codes ";", refl), tt),
+)

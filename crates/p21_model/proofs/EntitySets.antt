@@ -38,11 +38,13 @@ parts-named s kinds meaning [] (e ∷ es) all = absurd all
 parts-named s kinds meaning (part ∷ parts) [] all = absurd all
 parts-named s kinds meaning (part ∷ parts) (e ∷ es) all = (e, es, all.0.0, parts-named s kinds meaning parts es all.1, refl)
 
-pub has-set : (s : Schema) → HoldsTogether s → (kinds : EntitySets) (record_ : Record) (meaning : Typed) → MeansByMapping s kinds record_ meaning → HasSet s record_ meaning
+pub has-set : (s : Schema) → HoldsTogether s → (kinds : EntitySets) (record_ : Record) (meaning : Typed)
+    → MeansByMapping s kinds record_ meaning → HasSet s record_ meaning
 has-set s holds kinds (simple part) meaning means = record {
   set = order s means.entity;
   are = (means.entity, means.named, refl);
-  same = λ f. let tells = order-tells s holds means.entity f in (λ h. (means.closure f).1 (tells.0 h), λ h. tells.1 ((means.closure f).0 h));
+  same = λ f. let tells = order-tells s holds means.entity f in
+      (λ h. (means.closure f).1 (tells.0 h), λ h. tells.1 ((means.closure f).0 h));
 }
 has-set s holds kinds (complex parts) meaning means = record
     { set = means.entities; are = parts-named s kinds meaning parts means.entities means.parts_mean; same = means.same_entities }
@@ -66,7 +68,8 @@ part-left s part parts end bytes rest owners later entities e o later_are rest_i
 }
 
 -- one entity among those of an order
-pub only-found : (s : Schema) (listed_ alone : List ℕ) (found e : ℕ) → listed_ ≡ order s found → (Contains listed_ found → alone ≡ found ∷ []) → found ≡ e → alone ≡ e ∷ []
+pub only-found : (s : Schema) (listed_ alone : List ℕ) (found e : ℕ) → listed_ ≡ order s found
+    → (Contains listed_ found → alone ≡ found ∷ []) → found ≡ e → alone ≡ e ∷ []
 only-found s listed_ alone found e is one same =
     let Has : List ℕ → Type 0 = λ xs. Contains xs found in
     one (subst Has (sym is) (order_within-self s (length s.entities) found)) ∙ ap (λ n. n ∷ []) same
@@ -110,7 +113,8 @@ pub ended : (ps : Params) (after bytes : List ℕ) → AreLeft ps after bytes �
 ended ps after bytes left at_end = values-end ps after bytes (none-left ps after bytes left at_end)
 
 -- one is handed out before the end
-pub none-more : (ps : Params) (after bytes rest : List ℕ) → AreLeft ps after bytes → is_at_end bytes ≡ false → HandsOut ps after None rest → ⊥
+pub none-more : (ps : Params) (after bytes rest : List ℕ) → AreLeft ps after bytes → is_at_end bytes ≡ false → HandsOut ps after None rest
+    → ⊥
 none-more no_params after bytes rest left more handed = let yes : is_at_end bytes ≡ true = ap is_at_end left.bytes_are in cc
 none-more (param p ps) after bytes rest left more handed = handed
 
@@ -124,7 +128,8 @@ behind-left s owners bytes entities behind result l none same no_part tells = by
     are : entities ≡ l.later
     are = l.entities_are ∙ ap (λ (xs : List ℕ). xs ++ l.later) none
 
-    no-found : (result : Option Entities) → IsNone result → entities ≡ [] → MatchOption result (entities ≡ []) (λ found. TellsEntities found entities)
+    no-found : (result : Option Entities) → IsNone result → entities ≡ []
+        → MatchOption result (entities ≡ []) (λ found. TellsEntities found entities)
     no-found None is e = e
     no-found (Some found) is e = absurd (true≢false is)
 
@@ -137,7 +142,8 @@ behind-left s owners bytes entities behind result l none same no_part tells = by
         → MatchOption result (entities ≡ []) (λ found. TellsEntities found entities)
     by_parts [] left later = no-found result (no_part (subst NoKeywordFirst (sym (same ∙ left.bytes_are)) left.ends)) (are ∙ later)
     by_parts (part ∷ parts) left later =
-        some-found result (tells part parts l.end entities (subst (AreLeftParts (part ∷ parts) l.end) (sym same) left) (subst (ArePartEntities s (part ∷ parts)) (sym are) later))
+        some-found result (tells part parts l.end entities (subst (AreLeftParts (part ∷ parts) l.end) (sym same) left)
+        (subst (ArePartEntities s (part ∷ parts)) (sym are) later))
 
 -- ---- the next entity
 
@@ -169,4 +175,5 @@ one-handed s owners bytes entities more found new l are tells =
 
 pub no-numbers : (owners : List EntityId) → true ≡ (length owners == 0) → numbers owners ≡ []
 no-numbers [] none = refl
-no-numbers (owner ∷ owners) none = let same : length (owner ∷ owners) ≡ 0 = eqb-true (length (owner ∷ owners)) 0 (sym none) in absurd (omega (arith, same))
+no-numbers (owner ∷ owners) none = let same : length (owner ∷ owners) ≡ 0 = eqb-true (length (owner ∷ owners)) 0 (sym none) in
+    absurd (omega (arith, same))

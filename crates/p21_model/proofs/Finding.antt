@@ -21,10 +21,20 @@ pub record IsFurther (attributes : Attributes) (place : CodePlace) (rows : List 
   pub elsewhere : (p : Param) → Contains passed (place_of place, p) → ⊥
   pub tells : TellsRows attributes left
 
-pub none-passed : (attributes : Attributes) (place : CodePlace) (rows : List Row) → TellsRows attributes rows → IsFurther attributes place rows
-none-passed attributes place rows tells = record { passed = []; left = rows; rows_are = refl; elsewhere = λ p among. Contains-none (place_of place, p) among; tells = tells }
+pub none-passed : (attributes : Attributes) (place : CodePlace) (rows : List Row) → TellsRows attributes rows
+    → IsFurther attributes place rows
+none-passed attributes place rows tells = record {
+  passed = [];
+  left = rows;
+  rows_are = refl;
+  elsewhere =
+      λ p among. Contains-none (place_of place, p) among;
+  tells = tells;
+}
 
-pub more-passed : (attributes next : Attributes) (place : CodePlace) (rows : List Row) (found : Attribute) → IsFurther attributes place rows → ((left : List Row) → TellsRows attributes left → HandsOutRow left (Some found) next) → (place_of found.place ≡ place_of place → ⊥) → IsFurther next place rows
+pub more-passed : (attributes next : Attributes) (place : CodePlace) (rows : List Row) (found : Attribute) → IsFurther attributes place rows
+    → ((left : List Row) → TellsRows attributes left → HandsOutRow left (Some found) next) → (place_of found.place ≡ place_of place → ⊥)
+    → IsFurther next place rows
 more-passed attributes next place rows found f hands other = by_left f.left f.rows_are (hands f.left f.tells)
   where
     by_left : (left : List Row) → rows ≡ f.passed ++ left → HandsOutRow left (Some found) next → IsFurther next place rows
@@ -43,20 +53,30 @@ more-passed attributes next place rows found f hands other = by_left f.left f.ro
       tells = handed.2;
     }
 
-pub found-last : (attributes next : Attributes) (place : CodePlace) (rows : List Row) (found : Attribute) → IsFurther attributes place rows → ((left : List Row) → TellsRows attributes left → HandsOutRow left (Some found) next) → place_of found.place ≡ place_of place → HasAt rows (place_of place) (Some found.value)
+pub found-last : (attributes next : Attributes) (place : CodePlace) (rows : List Row) (found : Attribute) → IsFurther attributes place rows
+    → ((left : List Row) → TellsRows attributes left → HandsOutRow left (Some found) next) → place_of found.place ≡ place_of place
+    → HasAt rows (place_of place) (Some found.value)
 found-last attributes next place rows found f hands same = by_left f.left f.rows_are (hands f.left f.tells)
   where
-    by_left : (left : List Row) → rows ≡ f.passed ++ left → HandsOutRow left (Some found) next → HasAt rows (place_of place) (Some found.value)
+    by_left : (left : List Row) → rows ≡ f.passed ++ left → HandsOutRow left (Some found) next
+        → HasAt rows (place_of place) (Some found.value)
     by_left [] are handed = absurd handed
     by_left (row ∷ others) are handed =
         let here : row ≡ (place_of place, row.1) = ap (λ (p : Place). (p, row.1)) (sym handed.0 ∙ same) in
         let Has : List Row → Type 0 = λ xs. Contains xs (place_of place, row.1) in
-        let Among : Row → Type 0 = λ r. Contains (row ∷ others) r in
-        (row.1, subst Has (sym are) (Contains-append_right f.passed (row ∷ others) (place_of place, row.1) (subst Among here (Contains-first row others))), handed.1)
+        let Among : Row → Type 0 = λ r. Contains (row ∷ others) r in (
+          row.1,
+          subst Has (sym are) (Contains-append_right f.passed (row ∷ others) (place_of place, row.1)
+              (subst Among here (Contains-first row others))),
+          handed.1,
+        )
 
-pub none-found : (attributes next : Attributes) (place : CodePlace) (rows : List Row) → IsFurther attributes place rows → ((left : List Row) → TellsRows attributes left → HandsOutRow left None next) → HasAt rows (place_of place) None
+pub none-found : (attributes next : Attributes) (place : CodePlace) (rows : List Row) → IsFurther attributes place rows
+    → ((left : List Row) → TellsRows attributes left → HandsOutRow left None next) → HasAt rows (place_of place) None
 none-found attributes next place rows f hands = by_left f.left f.rows_are (hands f.left f.tells)
   where
     by_left : (left : List Row) → rows ≡ f.passed ++ left → HandsOutRow left None next → HasAt rows (place_of place) None
     by_left (row ∷ others) are handed = absurd handed
-    by_left [] are handed = λ p among. elim (Contains-append_cases f.passed [] (place_of place, p) (subst (λ (xs : List Row). Contains xs (place_of place, p)) are among)) [ inl h ↦ f.elsewhere p h | inr h ↦ Contains-none (place_of place, p) h ]
+    by_left [] are handed = λ p among. elim (Contains-append_cases f.passed [] (place_of place, p)
+        (subst (λ (xs : List Row). Contains xs (place_of place, p)) are among))
+        [ inl h ↦ f.elsewhere p h | inr h ↦ Contains-none (place_of place, p) h ]

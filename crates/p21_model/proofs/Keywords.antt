@@ -13,9 +13,11 @@ left-no_byte (inl (inr h)) = omega (arith, h)
 left-no_byte (inr h) = omega (arith, h)
 
 -- no other keyword stands in front of a parenthesis
-pub keyword-found : (bytes word rest found behind : List ℕ) → IsKeyword word → bytes ≡ word ++ (40 ∷ rest) → IsTokenAt bytes (keyword found) behind → (found ≡ word) × (behind ≡ 40 ∷ rest)
+pub keyword-found : (bytes word rest found behind : List ℕ) → IsKeyword word → bytes ≡ word ++ (40 ∷ rest)
+    → IsTokenAt bytes (keyword found) behind → (found ≡ word) × (behind ≡ 40 ∷ rest)
 keyword-found bytes word rest found behind is_keyword is at =
-    keyword-once bytes found word behind (40 ∷ rest) at (record { bytes_are = is; spells = (refl, is_keyword); followed = (left-no_byte, λ e. omega (arith, e)) })
+    keyword-once bytes found word behind (40 ∷ rest) at
+    (record { bytes_are = is; spells = (refl, is_keyword); followed = (left-no_byte, λ e. omega (arith, e)) })
 
 pub none-some : (bytes : List ℕ) (byte : ℕ) (rest : List ℕ) → length bytes ≡ 0 → bytes ≡ byte ∷ rest → ⊥
 none-some [] byte rest none some = cc

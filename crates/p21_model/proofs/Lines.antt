@@ -30,7 +30,8 @@ digits-behind (digit ∷ digits) rest are =
     rw other (digits-behind digits rest are.1)
 
 pub name-behind : (n : ℕ) (line rest : List ℕ) → line ≡ name_spelling n ++ (61 ∷ rest) → behind_equals line ≡ rest
-name-behind n line rest is = ap behind_equals is ∙ digits-behind (plain_digits n) rest (plain_are_digits (plain_digits n) (plain_digits_are n).0)
+name-behind n line rest is = ap behind_equals is ∙ digits-behind (plain_digits n) rest
+    (plain_are_digits (plain_digits n) (plain_digits_are n).0)
 
 -- ---- the record
 
@@ -44,33 +45,39 @@ right-ends (inr h) = omega (arith, h)
 
 parts-are : (parts : List Part) → tokens_text (flat_map part_tokens parts) ≡ parts_text parts
 parts-are [] = refl
-parts-are (part ∷ parts) = tokens_text-append (part_tokens part) (flat_map part_tokens parts) ∙ ap (λ (xs : List ℕ). tokens_text (part_tokens part) ++ xs) (parts-are parts)
+parts-are (part ∷ parts) = tokens_text-append (part_tokens part) (flat_map part_tokens parts)
+    ∙ ap (λ (xs : List ℕ). tokens_text (part_tokens part) ++ xs) (parts-are parts)
 
 -- a record of external mapping has a simple record
 abbrev HasSomeParts : Record → Type 0
 HasSomeParts (simple part) = Unit {0}
 HasSomeParts (complex parts) = 0 < length parts
 
-some-parts : (s : Schema) (kinds : EntitySets) (record_ : Record) (meaning : Typed) → MeansByMapping s kinds record_ meaning → HasSomeParts record_
+some-parts : (s : Schema) (kinds : EntitySets) (record_ : Record) (meaning : Typed) → MeansByMapping s kinds record_ meaning
+    → HasSomeParts record_
 some-parts s kinds (simple part) meaning means = tt
 some-parts s kinds (complex parts) meaning means = means.some_parts
 
-record-text : (record_ : Record) → HasSomeParts record_ → Each IsSpelled (record_tokens record_ ++ (token.semicolon ∷ [])) → IsRecordText record_ (tokens_text (record_tokens record_ ++ (token.semicolon ∷ [])))
+record-text : (record_ : Record) → HasSomeParts record_ → Each IsSpelled (record_tokens record_ ++ (token.semicolon ∷ []))
+    → IsRecordText record_ (tokens_text (record_tokens record_ ++ (token.semicolon ∷ [])))
 record-text (simple part) some spelled = record {
   written = (Each-front IsSpelled (part_tokens part) (token.semicolon ∷ []) spelled, tt);
-  bytes_are = tokens_text-append (part_tokens part) (token.semicolon ∷ []) ∙ ap (λ (xs : List ℕ). xs ++ (59 ∷ [])) (sym (append-nil (tokens_text (part_tokens part))));
+  bytes_are = tokens_text-append (part_tokens part) (token.semicolon ∷ [])
+      ∙ ap (λ (xs : List ℕ). xs ++ (59 ∷ [])) (sym (append-nil (tokens_text (part_tokens part))));
   ends = semicolon-ends;
 }
 record-text (complex parts) some spelled =
     let inside = flat_map part_tokens parts in
-    let front : Each IsSpelled (inside ++ (token.right ∷ [])) = Each-front IsSpelled (inside ++ (token.right ∷ [])) (token.semicolon ∷ []) spelled.1 in (
+    let front : Each IsSpelled (inside ++ (token.right ∷ [])) =
+    Each-front IsSpelled (inside ++ (token.right ∷ [])) (token.semicolon ∷ []) spelled.1 in (
       tokens_text ((inside ++ (token.right ∷ [])) ++ (token.semicolon ∷ [])),
       refl,
       record {
         written = Each-apart IsSpelled part_tokens parts (Each-front IsSpelled inside (token.right ∷ []) front);
         bytes_are =
             tokens_text-append (inside ++ (token.right ∷ [])) (token.semicolon ∷ [])
-            ∙ ap (λ (xs : List ℕ). xs ++ (59 ∷ [])) (tokens_text-append inside (token.right ∷ []) ∙ ap (λ (xs : List ℕ). xs ++ (41 ∷ [])) (parts-are parts))
+            ∙ ap (λ (xs : List ℕ). xs ++ (59 ∷ [])) (tokens_text-append inside (token.right ∷ [])
+            ∙ ap (λ (xs : List ℕ). xs ++ (41 ∷ [])) (parts-are parts))
             ∙ append_assoc (parts_text parts) (41 ∷ []) (59 ∷ []);
         ends = right-ends;
       },
@@ -83,11 +90,14 @@ pub record IsCutAt (s : Schema) (n : ℕ) (record_ : Record) (text : List ℕ) :
   pub line_is : text ≡ name_spelling n ++ (61 ∷ rest)
   pub is_text : IsRecordText record_ rest
 
-pub line-cut : (s : Schema) (n : ℕ) (record_ : Record) (text : List ℕ) (stated : IsInstanceText s n record_ text) → IsCutAt s n stated.canonical text
+pub line-cut : (s : Schema) (n : ℕ) (record_ : Record) (text : List ℕ) (stated : IsInstanceText s n record_ text)
+    → IsCutAt s n stated.canonical text
 line-cut s n record_ text stated =
-    let spelled : Each IsSpelled (statement_tokens (instance n stated.canonical)) = laid-each_spelled text (statement_tokens (instance n stated.canonical)) stated.laid in
+    let spelled : Each IsSpelled (statement_tokens (instance n stated.canonical)) =
+    laid-each_spelled text (statement_tokens (instance n stated.canonical)) stated.laid in
     record {
       rest = tokens_text (record_tokens stated.canonical ++ (token.semicolon ∷ []));
       line_is = stated.text_is;
-      is_text = record-text stated.canonical (some-parts s stated.kinds stated.canonical stated.canonical_meaning stated.canonical_means.means) spelled.1.1;
+      is_text = record-text stated.canonical (some-parts s stated.kinds stated.canonical stated.canonical_meaning
+          stated.canonical_means.means) spelled.1.1;
     }

@@ -36,12 +36,14 @@ pub record IsOpened (s : Schema) (part : Part) (parts : List Part) (end bytes : 
   pub left : AreLeft part.params after rest
   pub behind : AreLeftParts parts end after
 
-pub opened : (s : Schema) (part : Part) (parts : List Part) (end bytes : List ℕ) (e : ℕ) → AreLeftParts (part ∷ parts) end bytes → NamesEntity s part.key e → IsOpened s part parts end bytes e
+pub opened : (s : Schema) (part : Part) (parts : List Part) (end bytes : List ℕ) (e : ℕ) → AreLeftParts (part ∷ parts) end bytes
+    → NamesEntity s part.key e → IsOpened s part parts end bytes e
 opened s part parts end bytes e left (name, named, is) =
     let params_text = tokens_text (params_tokens part.params) in
     let after = parts_text parts ++ end in
     let closed : List Token = params_tokens part.params ++ (token.right ∷ []) in
-    let spelled : Each IsSpelled (key_token (key_of name) ∷ token.left ∷ closed) = subst (λ (k : Key). Each IsSpelled (key_token k ∷ token.left ∷ closed)) is left.written.0 in
+    let spelled : Each IsSpelled (key_token (key_of name) ∷ token.left ∷ closed) =
+    subst (λ (k : Key). Each IsSpelled (key_token k ∷ token.left ∷ closed)) is left.written.0 in
     let written : bytes ≡ (tokens_text (key_token (key_of name) ∷ token.left ∷ closed) ++ parts_text parts) ++ end =
     left.bytes_are ∙ ap (λ (k : Key). (tokens_text (key_token k ∷ token.left ∷ closed) ++ parts_text parts) ++ end) is in
     let closing : tokens_text closed ≡ params_text ++ (41 ∷ []) = tokens_text-append (params_tokens part.params) (token.right ∷ []) in
@@ -56,7 +58,8 @@ opened s part parts end bytes e left (name, named, is) =
       behind = record { written = left.written.1; bytes_are = refl; ends = left.ends };
     }
   where
-    by_text : (word inside closed : List ℕ) → closed ≡ inside ++ (41 ∷ []) → ((word ++ (40 ∷ closed)) ++ parts_text parts) ++ end ≡ word ++ (40 ∷ (inside ++ (41 ∷ (parts_text parts ++ end))))
+    by_text : (word inside closed : List ℕ) → closed ≡ inside ++ (41 ∷ [])
+        → ((word ++ (40 ∷ closed)) ++ parts_text parts) ++ end ≡ word ++ (40 ∷ (inside ++ (41 ∷ (parts_text parts ++ end))))
     by_text word inside closed e =
         ap (λ (xs : List ℕ). ((word ++ (40 ∷ xs)) ++ parts_text parts) ++ end) e
         ∙ append_assoc (word ++ (40 ∷ (inside ++ (41 ∷ [])))) (parts_text parts) end
@@ -64,8 +67,10 @@ opened s part parts end bytes e left (name, named, is) =
         ∙ ap (λ (xs : List ℕ). word ++ (40 ∷ xs)) (append_assoc inside (41 ∷ []) (parts_text parts ++ end))
 
 -- the parameters of a simple record at the places of one entity, and those of the simple records behind it
-pub part-rows : (s : Schema) (part : Part) (parts : List Part) (end bytes rest : List ℕ) (places_of : ℕ → List Place) (own later rows : List Row) (rows_part : ArePartRows s places_of part own) → (o : IsOpened s part parts end bytes rows_part.entity)
-    → ArePartsRows s parts later → rows ≡ own ++ later → (found : List Place) → found ≡ places_of rows_part.entity → rest ≡ o.rest → AreLeftRows s found rest rows
+pub part-rows : (s : Schema) (part : Part) (parts : List Part) (end bytes rest : List ℕ) (places_of : ℕ → List Place)
+    (own later rows : List Row) (rows_part : ArePartRows s places_of part own) → (o : IsOpened s part parts end bytes rows_part.entity)
+    → ArePartsRows s parts later → rows ≡ own ++ later → (found : List Place) → found ≡ places_of rows_part.entity → rest ≡ o.rest
+    → AreLeftRows s found rest rows
 part-rows s part parts end bytes rest places_of own later rows rows_part o later_are rows_are found found_is rest_is = record {
   params = part.params;
   after = o.after;
@@ -76,7 +81,8 @@ part-rows s part parts end bytes rest places_of own later rows rows_part o later
   behind = o.behind;
   later = later;
   later_are = later_are;
-  rows_are = rows_are ∙ ap (λ (xs : List Row). xs ++ later) (rows_part.rows_are ∙ ap (λ (xs : List Place). zip xs (listed part.params)) (sym found_is));
+  rows_are = rows_are ∙ ap (λ (xs : List Row). xs ++ later)
+      (rows_part.rows_are ∙ ap (λ (xs : List Place). zip xs (listed part.params)) (sym found_is));
 }
 
 -- the places of one entity alone, and those of an order
@@ -87,16 +93,19 @@ pub order-places : (s : Schema) (es : List ℕ) → places_left s es 0 ≡ flat_
 order-places s [] = refl
 order-places s (e ∷ es) = refl
 
-pub alone-found : (s : Schema) (listed_ alone : List ℕ) (found e : ℕ) → listed_ ≡ order s found → (Contains listed_ found → alone ≡ found ∷ []) → found ≡ e → places_left s alone 0 ≡ own_places s e
+pub alone-found : (s : Schema) (listed_ alone : List ℕ) (found e : ℕ) → listed_ ≡ order s found
+    → (Contains listed_ found → alone ≡ found ∷ []) → found ≡ e → places_left s alone 0 ≡ own_places s e
 alone-found s listed_ alone found e is one same =
     let Has : List ℕ → Type 0 = λ xs. Contains xs found in
-    ap (λ (es : List ℕ). places_left s es 0) (one (subst Has (sym is) (order_within-self s (length s.entities) found))) ∙ alone-places s found ∙ ap (own_places s) same
+    ap (λ (es : List ℕ). places_left s es 0) (one (subst Has (sym is) (order_within-self s (length s.entities) found)))
+    ∙ alone-places s found ∙ ap (own_places s) same
 
 pub order-found : (s : Schema) (listed_ : List ℕ) (found e : ℕ) → listed_ ≡ order s found → found ≡ e → places_left s listed_ 0 ≡ places s e
 order-found s listed_ found e is same = order-places s listed_ ∙ ap (flat_map (own_places s)) is ∙ ap (places s) same
 
 -- a simple record begins with no parenthesis
-pub part-first : (s : Schema) (part : Part) (parts : List Part) (end bytes rest : List ℕ) (e : ℕ) → IsOpened s part parts end bytes e → bytes ≡ 40 ∷ rest → ⊥
+pub part-first : (s : Schema) (part : Part) (parts : List Part) (end bytes rest : List ℕ) (e : ℕ) → IsOpened s part parts end bytes e
+    → bytes ≡ 40 ∷ rest → ⊥
 part-first s part parts end bytes rest e o is = by_word o.word o.keyword (sym is ∙ o.bytes_are)
   where
     not-left : (byte : ℕ) → IsUpper byte → 40 ≡ byte → ⊥
@@ -118,11 +127,21 @@ pub record IsAtEnd (s : Schema) (bytes : List ℕ) (rows : List Row) : Type 0 wh
   pub behind : AreLeftParts parts end after
   pub rows_are : ArePartsRows s parts rows
 
-pub at-end : (s : Schema) (found : List Place) (bytes : List ℕ) (rows : List Row) → AreLeftRows s found bytes rows → is_at_end bytes ≡ true → IsAtEnd s bytes rows
+pub at-end : (s : Schema) (found : List Place) (bytes : List ℕ) (rows : List Row) → AreLeftRows s found bytes rows → is_at_end bytes ≡ true
+    → IsAtEnd s bytes rows
 at-end s found bytes rows l ends = by_params l.params found l.left l.as_many l.rows_are
   where
-    by_params : (ps : Params) (found : List Place) → AreLeft ps l.after bytes → length found ≡ length (listed ps) → rows ≡ zip found (listed ps) ++ l.later → IsAtEnd s bytes rows
-    by_params no_params [] left many are = record { after = l.after; bytes_are = left.bytes_are; parts = l.parts; end = l.end; behind = l.behind; rows_are = subst (ArePartsRows s l.parts) (sym are) l.later_are }
+    by_params : (ps : Params) (found : List Place) → AreLeft ps l.after bytes → length found ≡ length (listed ps)
+        → rows ≡ zip found (listed ps) ++ l.later → IsAtEnd s bytes rows
+    by_params no_params [] left many are = record {
+      after = l.after;
+      bytes_are = left.bytes_are;
+      parts = l.parts;
+      end = l.end;
+      behind =
+          l.behind;
+      rows_are = subst (ArePartsRows s l.parts) (sym are) l.later_are;
+    }
     by_params no_params (place ∷ more) left many are = absurd (omega (arith, many))
     by_params (param p ps) found left many are =
         let first = first-of bytes p ps l.after left in
@@ -143,10 +162,12 @@ pub record IsNextRow (s : Schema) (found : List Place) (bytes : List ℕ) (rows 
   pub rows_are : rows ≡ (place, p) ∷ others
   pub go_on : (rest : List ℕ) → AreLeft ps after rest → AreLeftRows s places rest others
 
-pub next-row : (s : Schema) (found : List Place) (bytes : List ℕ) (rows : List Row) → AreLeftRows s found bytes rows → is_at_end bytes ≡ false → IsNextRow s found bytes rows
+pub next-row : (s : Schema) (found : List Place) (bytes : List ℕ) (rows : List Row) → AreLeftRows s found bytes rows
+    → is_at_end bytes ≡ false → IsNextRow s found bytes rows
 next-row s found bytes rows l more = by_params l.params found l.left l.as_many l.rows_are
   where
-    by_params : (ps : Params) (found : List Place) → AreLeft ps l.after bytes → length found ≡ length (listed ps) → rows ≡ zip found (listed ps) ++ l.later → IsNextRow s found bytes rows
+    by_params : (ps : Params) (found : List Place) → AreLeft ps l.after bytes → length found ≡ length (listed ps)
+        → rows ≡ zip found (listed ps) ++ l.later → IsNextRow s found bytes rows
     by_params no_params found left many are = let yes : is_at_end bytes ≡ true = ap is_at_end left.bytes_are in cc
     by_params (param p ps) [] left many are = absurd (omega (arith, many))
     by_params (param p ps) (place ∷ places) left many are = record {
@@ -159,12 +180,25 @@ next-row s found bytes rows l more = by_params l.params found l.left l.as_many l
       places_are = refl;
       left = left;
       rows_are = are;
-      go_on = λ rest next. record { params = ps; after = l.after; left = next; as_many = omega (arith, many); parts = l.parts; end = l.end; behind = l.behind; later = l.later; later_are = l.later_are; rows_are = refl };
+      go_on = λ rest next. record {
+        params = ps;
+        after = l.after;
+        left = next;
+        as_many = omega (arith, many);
+        parts = l.parts;
+        end =
+            l.end;
+        behind = l.behind;
+        later = l.later;
+        later_are = l.later_are;
+        rows_are = refl;
+      };
     }
 
 -- ---- one entity among others
 
-pub among-later : (all rest behind : List EntityId) (first : EntityId) (e : ℕ) → (Contains (numbers all) e → Contains (numbers rest) e) → rest ≡ first ∷ behind → (first.0 ≡ e → ⊥) → Contains (numbers all) e → Contains (numbers behind) e
+pub among-later : (all rest behind : List EntityId) (first : EntityId) (e : ℕ) → (Contains (numbers all) e → Contains (numbers rest) e)
+    → rest ≡ first ∷ behind → (first.0 ≡ e → ⊥) → Contains (numbers all) e → Contains (numbers behind) e
 among-later all rest behind first e among is other has =
     let Has : List EntityId → Type 0 = λ xs. Contains (numbers xs) e in
     elim (Contains-cases first.0 (numbers behind) e (subst Has is (among has))) [ inl h ↦ absurd (other h) | inr h ↦ h ]

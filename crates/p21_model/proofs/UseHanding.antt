@@ -15,6 +15,8 @@ none_handed (u ∷ uses) new handed = absurd handed
 abbrev place_in : ℕ × ℕ × ℕ → Place
 place_in found = record { entity = found.1; index = found.2 }
 
-pub one_handed : (old new : List UseRow) (found : ℕ × ℕ × ℕ) (told : Use) → HandsOutRow old (Some found) new → told.user ≡ found.0 → place_of told.place ≡ place_in found → HandsOutUse old (Some told) new
+pub one_handed : (old new : List UseRow) (found : ℕ × ℕ × ℕ) (told : Use) → HandsOutRow old (Some found) new → told.user ≡ found.0
+    → place_of told.place ≡ place_in found → HandsOutUse old (Some told) new
 one_handed [] new found told handed user place = absurd handed
-one_handed (u ∷ uses) new found told handed user place = (user ∙ ap (λ (t : ℕ × ℕ × ℕ). t.0) handed.0, place ∙ ap place_in handed.0, handed.1)
+one_handed (u ∷ uses) new found told handed user place =
+    (user ∙ ap (λ (t : ℕ × ℕ × ℕ). t.0) handed.0, place ∙ ap place_in handed.0, handed.1)

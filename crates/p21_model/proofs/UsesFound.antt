@@ -37,15 +37,19 @@ pub record AreAdded (user : ℕ) (rows more : List UseRow) (attributes : Attribu
   pub tells : TellsRows attributes left
   pub together : more ++ uses_by user left ≡ rows ++ uses_by user all
 
-pub none-added : (user : ℕ) (rows : List UseRow) (attributes : Attributes) (all : List Row) → TellsRows attributes all → AreAdded user rows rows attributes all
+pub none-added : (user : ℕ) (rows : List UseRow) (attributes : Attributes) (all : List Row) → TellsRows attributes all
+    → AreAdded user rows rows attributes all
 none-added user rows attributes all tells = record { left = all; tells = tells; together = refl }
 
-pub one-added : (user : ℕ) (rows old more : List UseRow) (before after : Attributes) (all : List Row) (found : Attribute) → AreAdded user rows old before all
+pub one-added : (user : ℕ) (rows old more : List UseRow) (before after : Attributes) (all : List Row) (found : Attribute)
+    → AreAdded user rows old before all
     → ((left : List Row) → TellsRows before left → HandsOutRow left (Some found) after)
-    → ((p : Param) → IsTextOf found.value.text.now p → more ≡ old ++ uses_at user (place_of found.place, p)) → AreAdded user rows more after all
+    → ((p : Param) → IsTextOf found.value.text.now p → more ≡ old ++ uses_at user (place_of found.place, p))
+    → AreAdded user rows more after all
 one-added user rows old more before after all found a hands adds = by_left a.left a.together (hands a.left a.tells)
   where
-    by_left : (left : List Row) → old ++ uses_by user left ≡ rows ++ uses_by user all → HandsOutRow left (Some found) after → AreAdded user rows more after all
+    by_left : (left : List Row) → old ++ uses_by user left ≡ rows ++ uses_by user all → HandsOutRow left (Some found) after
+        → AreAdded user rows more after all
     by_left [] together handed = absurd handed
     by_left (row ∷ left) together handed =
         let At : Place → List UseRow = λ place. uses_at user (place, row.1) in
@@ -53,25 +57,31 @@ one-added user rows old more before after all found a hands adds = by_left a.lef
         record {
           left = left;
           tells = handed.2;
-          together = ap (λ (us : List UseRow). us ++ uses_by user left) added ∙ append_assoc old (uses_at user row) (uses_by user left) ∙ together;
+          together = ap (λ (us : List UseRow). us ++ uses_by user left) added ∙ append_assoc old (uses_at user row) (uses_by user left)
+              ∙ together;
         }
 
-pub all-added : (user : ℕ) (rows more : List UseRow) (attributes after : Attributes) (all : List Row) → AreAdded user rows more attributes all
+pub all-added : (user : ℕ) (rows more : List UseRow) (attributes after : Attributes) (all : List Row)
+    → AreAdded user rows more attributes all
     → ((left : List Row) → TellsRows attributes left → HandsOutRow left None after) → more ≡ rows ++ uses_by user all
 all-added user rows more attributes after all a hands = by_left a.left a.together (hands a.left a.tells)
   where
-    by_left : (left : List Row) → more ++ uses_by user left ≡ rows ++ uses_by user all → HandsOutRow left None after → more ≡ rows ++ uses_by user all
+    by_left : (left : List Row) → more ++ uses_by user left ≡ rows ++ uses_by user all → HandsOutRow left None after
+        → more ≡ rows ++ uses_by user all
     by_left [] together handed = sym (append-nil more) ∙ together
     by_left (row ∷ left) together handed = absurd handed
 
 -- ---- a use stands among those of its instance, and is one of the file
 
-used-there : (user : ℕ) (rows : List Row) (u : UseRow) (p : Param) → u.1 ≡ user → Contains rows (place_used u, p) → Contains (param_references p) u.0 → Contains (uses_by user rows) u
+used-there : (user : ℕ) (rows : List Row) (u : UseRow) (p : Param) → u.1 ≡ user → Contains rows (place_used u, p)
+    → Contains (param_references p) u.0 → Contains (uses_by user rows) u
 used-there user rows u p same stands named =
     let At : ℕ → Type 0 = λ n. Contains (uses_by n rows) u in
-    subst At same (Contains-flat_map (uses_at u.1) rows (place_used u, p) u stands (Contains-mapped (λ (n : ℕ). (n, u.1, u.2, u.3)) (param_references p) u.0 named))
+    subst At same (Contains-flat_map (uses_at u.1) rows (place_used u, p) u stands
+    (Contains-mapped (λ (n : ℕ). (n, u.1, u.2, u.3)) (param_references p) u.0 named))
 
-pub is-use : (s : Schema) (kept : List StoredInstance) (name : ℕ) (line : List ℕ) (record_ : Record) (stated : IsInstanceText s name record_ line) (rows : List Row)
+pub is-use : (s : Schema) (kept : List StoredInstance) (name : ℕ) (line : List ℕ) (record_ : Record)
+    (stated : IsInstanceText s name record_ line) (rows : List Row)
     → IsKeptLine kept name line → AreTold stated rows → (u : UseRow) → Contains (uses_by name rows) u → IsUse s kept u
 is-use s kept name line record_ stated rows is_line told_ u among =
     let (row, stands, at) = Contains-one_of (uses_at name) rows u among in
@@ -100,21 +110,26 @@ no-uses s kept = record { sound = λ u among. absurd (Contains-none u among); co
 
 -- the uses of a line of this name are among those that it adds
 line-uses : (s : Schema) (name : ℕ) (line : List ℕ) (old new : List UseRow)
-    → ((record_ : Record) (stated : IsInstanceText s name record_ line) (found : List Row) → AreRowsOf s stated.canonical found → new ≡ old ++ uses_by name found)
-    → (u : UseRow) (user : ℕ) → user ≡ name → (other : List ℕ) → other ≡ line → (r : Record) (t : IsInstanceText s user r other) (rows : List Row) → AreRowsOf s t.canonical rows
+    → ((record_ : Record) (stated : IsInstanceText s name record_ line) (found : List Row) → AreRowsOf s stated.canonical found
+    → new ≡ old ++ uses_by name found)
+    → (u : UseRow) (user : ℕ) → user ≡ name → (other : List ℕ) → other ≡ line
+    → (r : Record) (t : IsInstanceText s user r other) (rows : List Row) → AreRowsOf s t.canonical rows
     → Contains (uses_by name rows) u → Contains new u
 line-uses s name line old new adds u user same other line_is r t rows are among =
     let At : ℕ → List ℕ → Type 0 = λ n text. (x : IsInstanceText s n r text) → AreRowsOf s x.canonical rows → Contains new u in
     let Has : List UseRow → Type 0 = λ us. Contains us u in
-    let here : At name line = λ x rows_are. subst Has (sym (adds r x rows rows_are)) (Contains-append_right old (uses_by name rows) u among) in
+    let here : At name line = λ x rows_are. subst Has (sym (adds r x rows rows_are))
+    (Contains-append_right old (uses_by name rows) u among) in
     let At_line : List ℕ → Type 0 = λ text. At name text in
     let At_name : ℕ → Type 0 = λ n. At n other in
     subst At_name (sym same) (subst At_line (sym line_is) here) t are
 
 -- one more instance, the next one by its name
-pub more-uses : (s : Schema) (kept : List StoredInstance) (least name : ℕ) (line : List ℕ) (old new : List UseRow) → HaveOneLine kept → HaveUsesBelow s kept least old
+pub more-uses : (s : Schema) (kept : List StoredInstance) (least name : ℕ) (line : List ℕ) (old new : List UseRow) → HaveOneLine kept
+    → HaveUsesBelow s kept least old
     → IsKeptLine kept name line → (record_ : Record) (stated : IsInstanceText s name record_ line)
-    → ((record_ : Record) (stated : IsInstanceText s name record_ line) (found : List Row) → AreRowsOf s stated.canonical found → new ≡ old ++ uses_by name found)
+    → ((record_ : Record) (stated : IsInstanceText s name record_ line) (found : List Row) → AreRowsOf s stated.canonical found
+    → new ≡ old ++ uses_by name found)
     → ((other : ℕ) → least ≤ other → other < name → Contains (instance_names kept) other → ⊥)
     → HaveUsesBelow s kept (name + 1) new
 more-uses s kept least name line old new once h is_line record_ stated adds between = record { sound = sound; complete = complete }
@@ -131,13 +146,15 @@ more-uses s kept least name line old new once h is_line record_ stated adds betw
     sound u among = let t = told s name record_ line stated in first (t.rows, t.told) u among
 
     named : (u : UseRow) → IsUse s kept u → Contains (instance_names kept) u.1
-    named u is = Contains-mapped (λ (x : StoredInstance). x.name) kept (record { name = u.1; membership = is.is_line.0; text = is.line }) is.is_line.1
+    named u is = Contains-mapped (λ (x : StoredInstance). x.name) kept (record { name = u.1; membership = is.is_line.0; text = is.line })
+        is.is_line.1
 
     own : (u : UseRow) → IsUse s kept u → u.1 ≡ name → Contains new u
     own u is same =
         let Kept : ℕ → Type 0 = λ n. IsKeptLine kept n is.line in
         let line_is : is.line ≡ line = once name is.line line (subst Kept same is.is_line) is_line in
-        line-uses s name line old new adds u u.1 same is.line line_is is.record_ is.stated is.rows is.told.are (used-there name is.rows u is.p same is.stands is.named)
+        line-uses s name line old new adds u u.1 same is.line line_is is.record_ is.stated is.rows is.told.are
+        (used-there name is.rows u is.p same is.stands is.named)
 
     earlier : (u : UseRow) → Contains old u → Contains new u
     earlier u among =
@@ -157,21 +174,26 @@ more-uses s kept least name line old new once h is_line record_ stated adds betw
       ]
     ]
 
-pub instance-uses : (s : Schema) (kept : List StoredInstance) (least number : ℕ) (found : Instance) (old new : List UseRow) → HaveOneLine kept → HaveUsesBelow s kept least old
+pub instance-uses : (s : Schema) (kept : List StoredInstance) (least number : ℕ) (found : Instance) (old new : List UseRow)
+    → HaveOneLine kept → HaveUsesBelow s kept least old
     → number ≡ found.name → found.schema.now ≡ s → IsKeptLine kept found.name found.line.now → IsStated found
-    → ((record_ : Record) (stated : IsInstanceText found.schema.now found.name record_ found.line.now) (rows : List Row) → AreRowsOf found.schema.now stated.canonical rows → new ≡ old ++ uses_by number rows)
+    → ((record_ : Record) (stated : IsInstanceText found.schema.now found.name record_ found.line.now) (rows : List Row)
+    → AreRowsOf found.schema.now stated.canonical rows → new ≡ old ++ uses_by number rows)
     → ((other : ℕ) → least ≤ other → other < found.name → Contains (instance_names kept) other → ⊥)
     → HaveUsesBelow s kept (number + 1) new
 instance-uses s kept least number found old new once h same under is_line (record_, stated) adds between =
-    let Adds : ℕ → Type 0 = λ n. (r : Record) (t : IsInstanceText found.schema.now found.name r found.line.now) (rows : List Row) → AreRowsOf found.schema.now t.canonical rows → new ≡ old ++ uses_by n rows in
+    let Adds : ℕ → Type 0 = λ n. (r : Record) (t : IsInstanceText found.schema.now found.name r found.line.now) (rows : List Row)
+    → AreRowsOf found.schema.now t.canonical rows → new ≡ old ++ uses_by n rows in
     let Before : Schema → Type 0 = λ t. HaveUsesBelow t kept least old in
     let Behind : Schema → Type 0 = λ t. HaveUsesBelow t kept (found.name + 1) new in
     let Up_to : ℕ → Type 0 = λ n. HaveUsesBelow s kept (n + 1) new in
     subst Up_to (sym same)
-    (subst Behind under (more-uses found.schema.now kept least found.name found.line.now old new once (subst Before (sym under) h) is_line record_ stated (subst Adds same adds) between))
+    (subst Behind under (more-uses found.schema.now kept least found.name found.line.now old new once (subst Before (sym under) h) is_line
+    record_ stated (subst Adds same adds) between))
 
 -- behind the last instance, all are there
-pub all-uses : (s : Schema) (kept : List StoredInstance) (bound : ℕ) (rows : List UseRow) → HaveUsesBelow s kept bound rows → ((other : ℕ) → bound ≤ other → Contains (instance_names kept) other → ⊥) → AreUsesIn s kept rows
+pub all-uses : (s : Schema) (kept : List StoredInstance) (bound : ℕ) (rows : List UseRow) → HaveUsesBelow s kept bound rows
+    → ((other : ℕ) → bound ≤ other → Contains (instance_names kept) other → ⊥) → AreUsesIn s kept rows
 all-uses s kept bound rows h none u = (h.sound u, all)
   where
     either : (x y : ℕ) → (x < y) ⊎ (y ≤ x)
@@ -180,11 +202,13 @@ all-uses s kept bound rows h none u = (h.sound u, all)
     all : IsUse s kept u → Contains rows u
     all is = elim (either u.1 bound) [
       | inl before ↦ h.complete u is before
-      | inr behind ↦ absurd (none u.1 behind (Contains-mapped (λ (x : StoredInstance). x.name) kept (record { name = u.1; membership = is.is_line.0; text = is.line }) is.is_line.1))
+      | inr behind ↦ absurd (none u.1 behind (Contains-mapped (λ (x : StoredInstance). x.name) kept
+          (record { name = u.1; membership = is.is_line.0; text = is.line }) is.is_line.1))
     ]
 
 -- so they are behind the last name of 64 bits
-pub last-uses : (s : Schema) (kept : List StoredInstance) (name : ℕ) (rows : List UseRow) → ¬ (name + 1 < 2 ^ 64) → HaveUsesBelow s kept (name + 1) rows → AreUsesIn s kept rows
+pub last-uses : (s : Schema) (kept : List StoredInstance) (name : ℕ) (rows : List UseRow) → ¬ (name + 1 < 2 ^ 64)
+    → HaveUsesBelow s kept (name + 1) rows → AreUsesIn s kept rows
 last-uses s kept name rows last h u = (h.sound u, λ is. h.complete u is (below (u.1) (name + 1) (2 ^ 64) (low is) last))
   where
     below : (x y z : ℕ) → x < z → ¬ (y < z) → x < y
@@ -192,13 +216,15 @@ last-uses s kept name rows last h u = (h.sound u, λ is. h.complete u is (below 
 
     low : IsUse s kept u → u.1 < 2 ^ 64
     low is =
-        let spelled : Each IsSpelled (statement_tokens (instance u.1 is.stated.canonical)) = laid-each_spelled is.line (statement_tokens (instance u.1 is.stated.canonical)) is.stated.laid in
+        let spelled : Each IsSpelled (statement_tokens (instance u.1 is.stated.canonical)) =
+        laid-each_spelled is.line (statement_tokens (instance u.1 is.stated.canonical)) is.stated.laid in
         spelled.0.1.in_range
 
 -- ---- too many uses
 
 -- where the uses that were found are too many, those in the file are
-many-uses : (s : Schema) (kept : List StoredInstance) (rows : List UseRow) (fault : UsersFault) → AreUsesIn s kept rows → IsOfUses rows fault → IsOfManyUses s kept fault
+many-uses : (s : Schema) (kept : List StoredInstance) (rows : List UseRow) (fault : UsersFault) → AreUsesIn s kept rows
+    → IsOfUses rows fault → IsOfManyUses s kept fault
 many-uses s kept rows NoMemory all of = tt
 many-uses s kept rows TooMany all of = record {
   uses = of.uses;
@@ -207,7 +233,10 @@ many-uses s kept rows TooMany all of = record {
   many = of.many;
 }
 
-pub too-many : {T : Type 0} (s : Schema) (kept : List StoredInstance) (rows : List UseRow) (fault : UsersFault) (result : Result T UsersFault) → IsErrAnd result (λ found. found ≡ fault)
-    → (AreStated s kept → HaveOneLine kept → AreUsesIn s kept rows) → IsOfUses rows fault → IfErr result (λ found. AreStated s kept → HaveOneLine kept → IsOfManyUses s kept found)
+pub too-many : {T : Type 0} (s : Schema) (kept : List StoredInstance) (rows : List UseRow) (fault : UsersFault)
+    (result : Result T UsersFault) → IsErrAnd result (λ found. found ≡ fault)
+    → (AreStated s kept → HaveOneLine kept → AreUsesIn s kept rows) → IsOfUses rows fault
+    → IfErr result (λ found. AreStated s kept → HaveOneLine kept → IsOfManyUses s kept found)
 too-many s kept rows fault (Ok users) wrong all of = absurd wrong
-too-many s kept rows fault (Err found) is all of = λ stated once. subst (IsOfManyUses s kept) (sym is) (many-uses s kept rows fault (all stated once) of)
+too-many s kept rows fault (Err found) is all of =
+    λ stated once. subst (IsOfManyUses s kept) (sym is) (many-uses s kept rows fault (all stated once) of)

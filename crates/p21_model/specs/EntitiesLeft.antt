@@ -15,7 +15,8 @@ use Rattle.p21_spec_schema.specs.Schema.{Schema}
 -- the entities that the keywords of simple records name
 abbrev pub ArePartEntities : Schema → List Part → List ℕ → Type 0
 ArePartEntities s [] entities = entities ≡ []
-ArePartEntities s (part ∷ parts) entities = (e : ℕ) × (more : List ℕ) × NamesEntity s part.key e × ArePartEntities s parts more × (entities ≡ e ∷ more)
+ArePartEntities s (part ∷ parts) entities = (e : ℕ) × (more : List ℕ) × NamesEntity s part.key e × ArePartEntities s parts more
+    × (entities ≡ e ∷ more)
 
 -- those of a record: in internal mapping the entity that the keyword names and all above it
 abbrev pub AreEntitiesOf : Schema → Record → List ℕ → Type 0
@@ -54,7 +55,8 @@ HandsOutEntity (e ∷ entities) None new = ⊥
 HandsOutEntity (e ∷ entities) (Some found) new = (found.0 ≡ e) × TellsEntities new entities
 
 -- all entities of the instance's set are handed out, and no others
-pub record TellsSet {s : Schema} {n : ℕ} {record_ : Record} {text : List ℕ} (stated : IsInstanceText s n record_ text) (entities : Entities) : Type 0 where
+pub record TellsSet {s : Schema} {n : ℕ} {record_ : Record} {text : List ℕ} (stated : IsInstanceText s n record_ text)
+    (entities : Entities) : Type 0 where
   pub set : List ℕ
   pub same : (f : ℕ) → Contains set f ↔ Contains stated.canonical_meaning.entities f
   pub tells : TellsEntities entities set

@@ -23,7 +23,8 @@ pub record ArePartRows (s : Schema) (places_of : ℕ → List Place) (part : Par
 -- those of simple records in external mapping, where each has the places that its entity declares itself
 abbrev pub ArePartsRows : Schema → List Part → List Row → Type 0
 ArePartsRows s [] rows = rows ≡ []
-ArePartsRows s (part ∷ parts) rows = (own more : List Row) × ArePartRows s (own_places s) part own × ArePartsRows s parts more × (rows ≡ own ++ more)
+ArePartsRows s (part ∷ parts) rows = (own more : List Row) × ArePartRows s (own_places s) part own × ArePartsRows s parts more
+    × (rows ≡ own ++ more)
 
 -- those of a record, in its order
 abbrev pub AreRowsOf : Schema → Record → List Row → Type 0

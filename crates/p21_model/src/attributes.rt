@@ -34,7 +34,8 @@ impl<'a> Attributes<'a> {
     /// The attributes of a record.
     pub(crate) fn of_record(schema: &'a Schema, bytes: &'a [u8]) -> Attributes<'a>
         ensures schema { schema_of result ≡ schema.now }
-        ensures told { (record_ : Record) (rows : List Row) → IsRecordText record_ bytes.now → AreRowsOf schema.now record_ rows → TellsRows result rows }
+        ensures told { (record_ : Record) (rows : List Row) → IsRecordText record_ bytes.now → AreRowsOf schema.now record_ rows
+            → TellsRows result rows }
     {
         match Attributes::of_forms(schema, bytes) {
             Some(attributes) => attributes,
@@ -45,7 +46,8 @@ impl<'a> Attributes<'a> {
     /// The attributes of a record of internal or external mapping.
     fn of_forms(schema: &'a Schema, bytes: &'a [u8]) -> Option<Attributes<'a>>
         ensures schema { IfSome result (λ found. schema_of found ≡ schema.now) }
-        ensures told { (record_ : Record) (rows : List Row) → IsRecordText record_ bytes.now → AreRowsOf schema.now record_ rows → MatchOption result ⊥ (λ found. TellsRows found rows) }
+        ensures told { (record_ : Record) (rows : List Row) → IsRecordText record_ bytes.now → AreRowsOf schema.now record_ rows
+            → MatchOption result ⊥ (λ found. TellsRows found rows) }
     {
         match behind(b'(', bytes) {
             Some(parts) => Attributes::of_part(schema, parts),
@@ -70,7 +72,8 @@ impl<'a> Attributes<'a> {
     /// The attributes of a simple record in internal mapping.
     fn of_whole(schema: &'a Schema, bytes: &'a [u8]) -> Option<Attributes<'a>>
         ensures schema { IfSome result (λ found. schema_of found ≡ schema.now) }
-        ensures told { (part : Part) (end : List ℕ) (rows : List Row) → AreLeftParts (part ∷ []) end bytes.now → ArePartRows schema.now (places schema.now) part rows → MatchOption result ⊥ (λ found. TellsRows found rows) }
+        ensures told { (part : Part) (end : List ℕ) (rows : List Row) → AreLeftParts (part ∷ []) end bytes.now
+            → ArePartRows schema.now (places schema.now) part rows → MatchOption result ⊥ (λ found. TellsRows found rows) }
     {
         let Some((entity, rest)) = leading_part(schema, bytes) else {
             return None;
@@ -89,7 +92,8 @@ impl<'a> Attributes<'a> {
     fn of_part(schema: &'a Schema, bytes: &'a [u8]) -> Option<Attributes<'a>>
         ensures schema { IfSome result (λ found. schema_of found ≡ schema.now) }
         ensures shorter { IfSome result (λ found. length found.values.rest.now < length bytes.now) }
-        ensures some { (part : Part) (parts : List Part) (end : List ℕ) (rows : List Row) → AreLeftParts (part ∷ parts) end bytes.now → ArePartsRows schema.now (part ∷ parts) rows → MatchOption result ⊥ (λ found. TellsRows found rows) }
+        ensures some { (part : Part) (parts : List Part) (end : List ℕ) (rows : List Row) → AreLeftParts (part ∷ parts) end bytes.now
+            → ArePartsRows schema.now (part ∷ parts) rows → MatchOption result ⊥ (λ found. TellsRows found rows) }
         ensures none { NoKeywordFirst bytes.now → IsNone result }
     {
         let Some((entity, rest)) = leading_part(schema, bytes) else {
@@ -143,7 +147,8 @@ impl<'a> Attributes<'a> {
     fn behind_part(&self) -> Option<Attributes<'a>>
         ensures schema { IfSome result (λ found. schema_of found ≡ schema_of self.now) }
         ensures shorter { IfSome result (λ found. length found.values.rest.now < length self.now.values.rest.now) }
-        ensures told { (rows : List Row) → TellsRows self.now rows → is_at_end self.now.values.rest.now ≡ true → MatchOption result (rows ≡ []) (λ found. TellsRows found rows) }
+        ensures told { (rows : List Row) → TellsRows self.now rows → is_at_end self.now.values.rest.now ≡ true
+            → MatchOption result (rows ≡ []) (λ found. TellsRows found rows) }
     {
         let Some((_, behind)) = self.values.rest.split_first() else {
             return None;

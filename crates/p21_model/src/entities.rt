@@ -29,7 +29,8 @@ impl<'a> Entities<'a> {
     /// The entities of a record.
     pub(crate) fn of_record(schema: &'a Schema, bytes: &'a [u8]) -> Entities<'a>
         ensures schema { set_schema result ≡ schema.now }
-        ensures told { (record_ : Record) (entities : List ℕ) → IsRecordText record_ bytes.now → AreEntitiesOf schema.now record_ entities → TellsEntities result entities }
+        ensures told { (record_ : Record) (entities : List ℕ) → IsRecordText record_ bytes.now → AreEntitiesOf schema.now record_ entities
+            → TellsEntities result entities }
     {
         match Entities::of_forms(schema, bytes) {
             Some(entities) => entities,
@@ -125,7 +126,8 @@ impl<'a> Entities<'a> {
 /// What stands behind values and the parenthesis that closes them.
 fn behind_values(values: Elements<'_>) -> Option<&[u8]>
     ensures shorter { IfSome result (λ behind. length behind.now < length values.entry.rest.now) }
-    ensures told { (ps : Params) (after : List ℕ) → AreLeft ps after values.entry.rest.now → MatchOption result ⊥ (λ behind. behind.now ≡ after) }
+    ensures told { (ps : Params) (after : List ℕ) → AreLeft ps after values.entry.rest.now
+        → MatchOption result ⊥ (λ behind. behind.now ≡ after) }
 {
     let mut left = values;
     while !left.is_empty() {

@@ -27,7 +27,8 @@ pub struct Instance<'a> {
 impl<'a> Instance<'a> {
     /// The attributes with their values. It takes no memory.
     pub fn attributes(&self) -> Attributes<'a>
-        ensures told { (record_ : Record) (stated : IsInstanceText self.now.schema.now self.now.name record_ self.now.line.now) → TellsInstance stated result }
+        ensures told { (record_ : Record) (stated : IsInstanceText self.now.schema.now self.now.name record_ self.now.line.now)
+            → TellsInstance stated result }
         ensures any { (record_ : Record) (stated : IsInstanceText self.now.schema.now self.now.name record_ self.now.line.now)
             (rows : List Row) → AreRowsOf self.now.schema.now stated.canonical rows → TellsRows result rows }
         ensures schema { schema_of result ≡ self.now.schema.now }
@@ -37,7 +38,8 @@ impl<'a> Instance<'a> {
 
     /// The entities of the instance's set: the entity of each keyword, and in internal mapping all above it. It takes no memory.
     pub fn entities(&self) -> Entities<'a>
-        ensures told { (record_ : Record) (stated : IsInstanceText self.now.schema.now self.now.name record_ self.now.line.now) → TellsSet stated result }
+        ensures told { (record_ : Record) (stated : IsInstanceText self.now.schema.now self.now.name record_ self.now.line.now)
+            → TellsSet stated result }
         ensures any { (record_ : Record) (stated : IsInstanceText self.now.schema.now self.now.name record_ self.now.line.now)
             (entities : List ℕ) → AreEntitiesOf self.now.schema.now stated.canonical entities → TellsEntities result entities }
         ensures schema { set_schema result ≡ self.now.schema.now }
@@ -48,7 +50,8 @@ impl<'a> Instance<'a> {
 
     /// The value at an attribute, if the instance has it. It takes no memory.
     pub fn value(&self, place: Place) -> Option<Value<'a>>
-        ensures { (record_ : Record) (stated : IsInstanceText self.now.schema.now self.now.name record_ self.now.line.now) → TellsValue stated (place_of place) result }
+        ensures { (record_ : Record) (stated : IsInstanceText self.now.schema.now self.now.name record_ self.now.line.now)
+            → TellsValue stated (place_of place) result }
     {
         self.attributes().find(place)
     }

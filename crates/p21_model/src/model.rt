@@ -39,7 +39,8 @@ impl<'a> AcceptedModel<'a> {
         ensures schema { IfSome result (λ found. found.schema.now ≡ self.entry.schema.now) }
         ensures some { IfSome result (λ found. IsKeptLine self.entry.accepted.now.kept found.name found.line.now) }
         ensures stated { AreStated self.entry.schema.now self.entry.accepted.now.kept → IfSome result IsStated }
-        ensures between { IfSome result (λ found. (other : ℕ) → least ≤ other → other < found.name → Contains (instance_names self.entry.accepted.now.kept) other → ⊥) }
+        ensures between { IfSome result (λ found. (other : ℕ) → least ≤ other → other < found.name
+            → Contains (instance_names self.entry.accepted.now.kept) other → ⊥) }
         ensures none { IsNone result → (other : ℕ) → least ≤ other → Contains (instance_names self.entry.accepted.now.kept) other → ⊥ }
     {
         let Some(found) = self.accepted.first_from(least) else {

@@ -13,7 +13,8 @@ use p21_schema::Schema;
 pub(crate) fn leading_part<'a>(schema: &Schema, bytes: &'a [u8]) -> Option<(EntityId, &'a [u8])>
     ensures entity { IfSome result (λ found. IsEntity schema.now found.0.0) }
     ensures shorter { IfSome result (λ found. length found.1.now < length bytes.now) }
-    ensures some { (word rest : List ℕ) (e : ℕ) → IsKeyword word → EntityNamed schema.now e word → bytes.now ≡ word ++ (40 ∷ rest) → MatchOption result ⊥ (λ found. (found.0.0 ≡ e) × (found.1.now ≡ rest)) }
+    ensures some { (word rest : List ℕ) (e : ℕ) → IsKeyword word → EntityNamed schema.now e word → bytes.now ≡ word ++ (40 ∷ rest)
+        → MatchOption result ⊥ (λ found. (found.0.0 ≡ e) × (found.1.now ≡ rest)) }
     ensures none { NoKeywordFirst bytes.now → IsNone result }
 {
     let Some((word, behind)) = scan_keyword(bytes) else {

@@ -23,7 +23,8 @@ impl<'a> Places<'a> {
     pub(crate) fn next(&mut self) -> Option<Place>
         ensures schema { self.new.schema.now ≡ self.old.schema.now }
         ensures is_place { IfSome result (λ found. IsPlace self.old.schema.now (place_of found)) }
-        ensures place { (place : MeantPlace) (more : List MeantPlace) → places_in self.old ≡ place ∷ more → MatchOption result ⊥ (λ found. (place_of found ≡ place) × (places_in self.new ≡ more)) }
+        ensures place { (place : MeantPlace) (more : List MeantPlace) → places_in self.old ≡ place ∷ more
+            → MatchOption result ⊥ (λ found. (place_of found ≡ place) × (places_in self.new ≡ more)) }
     {
         while let Some((owner, behind)) = self.owners.split_first() {
             if self.index < own_count(self.schema, *owner) {

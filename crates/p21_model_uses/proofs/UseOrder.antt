@@ -18,7 +18,8 @@ use Rattle.p21_model_uses.specs.UseRows.{AreInOrder, UseRow, use_cmp}
 
 use_total : IsTotalOrder use_cmp
 use_total =
-    then_total (then_total (then_total (on_total (λ (u : UseRow). u.0) nat_cmp_total) (on_total (λ (u : UseRow). u.1) nat_cmp_total)) (on_total (λ (u : UseRow). u.2) nat_cmp_total))
+    then_total (then_total (then_total (on_total (λ (u : UseRow). u.0) nat_cmp_total) (on_total (λ (u : UseRow). u.1) nat_cmp_total))
+    (on_total (λ (u : UseRow). u.2) nat_cmp_total))
     (on_total (λ (u : UseRow). u.3) nat_cmp_total)
 
 abbrev pub use_eq : UseRow → UseRow → Bool
@@ -26,7 +27,8 @@ use_eq x y = ((nat_eq x.0 y.0 && nat_eq x.1 y.1) && nat_eq x.2 y.2) && nat_eq x.
 
 use_equiv : IsEquivalence use_eq
 use_equiv =
-    and_equiv (and_equiv (and_equiv (on_equiv (λ (u : UseRow). u.0) nat_eq_equiv) (on_equiv (λ (u : UseRow). u.1) nat_eq_equiv)) (on_equiv (λ (u : UseRow). u.2) nat_eq_equiv))
+    and_equiv (and_equiv (and_equiv (on_equiv (λ (u : UseRow). u.0) nat_eq_equiv) (on_equiv (λ (u : UseRow). u.1) nat_eq_equiv))
+    (on_equiv (λ (u : UseRow). u.2) nat_eq_equiv))
     (on_equiv (λ (u : UseRow). u.3) nat_eq_equiv)
 
 -- two tests agree, one behind the other
@@ -40,9 +42,11 @@ number-tie m n = grind (arith, nat_tests)
 
 use_ties : (x y : UseRow) → use_eq x y ≡ eq_by_cmp use_cmp x y
 use_ties x y =
-    both-tie (ordering_then (ordering_then (nat_cmp x.0 y.0) (nat_cmp x.1 y.1)) (nat_cmp x.2 y.2)) (nat_cmp x.3 y.3) ((nat_eq x.0 y.0 && nat_eq x.1 y.1) && nat_eq x.2 y.2) (nat_eq x.3 y.3)
+    both-tie (ordering_then (ordering_then (nat_cmp x.0 y.0) (nat_cmp x.1 y.1)) (nat_cmp x.2 y.2)) (nat_cmp x.3 y.3)
+    ((nat_eq x.0 y.0 && nat_eq x.1 y.1) && nat_eq x.2 y.2) (nat_eq x.3 y.3)
     (both-tie (ordering_then (nat_cmp x.0 y.0) (nat_cmp x.1 y.1)) (nat_cmp x.2 y.2) (nat_eq x.0 y.0 && nat_eq x.1 y.1) (nat_eq x.2 y.2)
-    (both-tie (nat_cmp x.0 y.0) (nat_cmp x.1 y.1) (nat_eq x.0 y.0) (nat_eq x.1 y.1) (number-tie x.0 y.0) (number-tie x.1 y.1)) (number-tie x.2 y.2)) (number-tie x.3 y.3)
+    (both-tie (nat_cmp x.0 y.0) (nat_cmp x.1 y.1) (nat_eq x.0 y.0) (nat_eq x.1 y.1) (number-tie x.0 y.0) (number-tie x.1 y.1))
+    (number-tie x.2 y.2)) (number-tie x.3 y.3)
 
 both-true : (a b : Bool) → (a && b) ≡ true → (a ≡ true) × (b ≡ true)
 both-true true b same = (refl, same)
@@ -53,12 +57,15 @@ use_same x y same =
     let (front, d) = both-true ((nat_eq x.0 y.0 && nat_eq x.1 y.1) && nat_eq x.2 y.2) (nat_eq x.3 y.3) same in
     let (two, c) = both-true (nat_eq x.0 y.0 && nat_eq x.1 y.1) (nat_eq x.2 y.2) front in
     let (a, b) = both-true (nat_eq x.0 y.0) (nat_eq x.1 y.1) two in
-    ap (λ k. (k, x.1, x.2, x.3)) (eqb-true x.0 y.0 a) ∙ ap (λ k. (y.0, k, x.2, x.3)) (eqb-true x.1 y.1 b) ∙ ap (λ k. (y.0, y.1, k, x.3)) (eqb-true x.2 y.2 c) ∙ ap (λ k. (y.0, y.1, y.2, k)) (eqb-true x.3 y.3 d)
+    ap (λ k. (k, x.1, x.2, x.3)) (eqb-true x.0 y.0 a) ∙ ap (λ k. (y.0, k, x.2, x.3)) (eqb-true x.1 y.1 b)
+    ∙ ap (λ k. (y.0, y.1, k, x.3)) (eqb-true x.2 y.2 c) ∙ ap (λ k. (y.0, y.1, y.2, k)) (eqb-true x.3 y.3 d)
 
 name-low : (u v : UseRow) → use_cmp u v ≡ Less → u.0 ≤ v.0
 name-low u v less = elim (either u.0 v.0) [
   | inl up ↦ up
-  | inr down ↦ (let above : Greater ≡ nat_cmp u.0 v.0 = nat_cmp_is u.0 v.0 Greater down in absurd (true≢false (ap is_lt (sym less ∙ ap (λ (o : Ordering). ordering_then (ordering_then (ordering_then o (nat_cmp u.1 v.1)) (nat_cmp u.2 v.2)) (nat_cmp u.3 v.3)) (sym above)))))
+  | inr down ↦ (let above : Greater ≡ nat_cmp u.0 v.0 = nat_cmp_is u.0 v.0 Greater down in
+      absurd (true≢false (ap is_lt (sym less ∙ ap (λ (o : Ordering). ordering_then
+      (ordering_then (ordering_then o (nat_cmp u.1 v.1)) (nat_cmp u.2 v.2)) (nat_cmp u.3 v.3)) (sym above)))))
 ]
   where
     either : (x y : ℕ) → (x ≤ y) ⊎ (y < x)
@@ -69,7 +76,8 @@ pub names-rise : (us : List UseRow) → AreInOrder us → IsNonDecreasingBy (λ 
 unfolding IsStrictlySortedBy
 names-rise [] rises i j d up low = absurd (omega (arith, low))
 names-rise (u ∷ us) rises zero zero d up low = omega arith
-names-rise (u ∷ us) rises zero (suc j) d up low = name-low u (get_or us j d) (Each-member (λ (v : UseRow). use_cmp u v ≡ Less) us (get_or us j d) rises.0 (Contains-get_or us j d (omega (arith, low))))
+names-rise (u ∷ us) rises zero (suc j) d up low = name-low u (get_or us j d)
+    (Each-member (λ (v : UseRow). use_cmp u v ≡ Less) us (get_or us j d) rises.0 (Contains-get_or us j d (omega (arith, low))))
 names-rise (u ∷ us) rises (suc i) zero d up low = absurd (omega (arith, up))
 names-rise (u ∷ us) rises (suc i) (suc j) d up low = names-rise us rises.1 i j d (omega (arith, up)) (omega (arith, low))
 
@@ -94,11 +102,13 @@ pair-order = record {
   total = then_total (on_total (λ (p : ℕ × ℕ). p.0) nat_cmp_total) (on_total (λ (p : ℕ × ℕ). p.1) nat_cmp_total);
   ties = λ x y. both-tie (nat_cmp x.0 y.0) (nat_cmp x.1 y.1) (nat_eq x.0 y.0) (nat_eq x.1 y.1) (number-tie x.0 y.0) (number-tie x.1 y.1);
   equiv = and_equiv (on_equiv (λ (p : ℕ × ℕ). p.0) nat_eq_equiv) (on_equiv (λ (p : ℕ × ℕ). p.1) nat_eq_equiv);
-  same = λ x y same. let (a, b) = both-true (nat_eq x.0 y.0) (nat_eq x.1 y.1) same in ap (λ k. (k, x.1)) (eqb-true x.0 y.0 a) ∙ ap (λ k. (y.0, k)) (eqb-true x.1 y.1 b);
+  same = λ x y same. let (a, b) = both-true (nat_eq x.0 y.0) (nat_eq x.1 y.1) same in ap (λ k. (k, x.1)) (eqb-true x.0 y.0 a)
+      ∙ ap (λ k. (y.0, k)) (eqb-true x.1 y.1 b);
 }
 
 -- what a sort and a dedup leave of a list
-pub each-once : {X : Type 0} {R : X → X → Ordering} {E : X → X → Bool} (o : IsOrderWith R E) (all sorted once : List X) → IsPermutation all sorted → IsSorted R sorted → once ≡ dedup E sorted
+pub each-once : {X : Type 0} {R : X → X → Ordering} {E : X → X → Bool} (o : IsOrderWith R E) (all sorted once : List X)
+    → IsPermutation all sorted → IsSorted R sorted → once ≡ dedup E sorted
     → length once ≤ length sorted → AreEachOnce R all once
 each-once {X} {R} {E} o all sorted once moved rising is bound = record {
   rises = subst (IsStrictlySortedBy R) (sym is) (IsStrictlySortedBy-dedup o.total o.ties sorted rising);
@@ -115,7 +125,8 @@ equal-to-itself Less same = absurd (true≢false (ap is_lt same))
 equal-to-itself Greater same = absurd (true≢false (sym (ap is_lt same)))
 
 -- what stands among those that rise is found
-pub not-missing : {X : Type 0} {R : X → X → Ordering} (o : IsTotalOrder R) (xs : List X) (x : X) (at : ℕ) → IsStrictlySortedBy R xs → Contains xs x
+pub not-missing : {X : Type 0} {R : X → X → Ordering} (o : IsTotalOrder R) (xs : List X) (x : X) (at : ℕ) → IsStrictlySortedBy R xs
+    → Contains xs x
     → IsBinarySearchResult (λ y. R y x) xs (Err at) → ⊥
 not-missing {X} {R} o xs x at rises among searched =
     let point = searched (searchable_from_sorted o (λ y. y) xs x sorted) in
@@ -130,4 +141,5 @@ not-missing {X} {R} o xs x at rises among searched =
     either x y = grind arith
 
     sorted : IsSorted R xs
-    sorted k d from below = ap is_lt (o.antisymm (get_or xs (k + 1) d) (get_or xs k d) ∙ ap ordering_reverse (Less-from_sorted R xs k (k + 1) d rises (omega arith) below))
+    sorted k d from below = ap is_lt (o.antisymm (get_or xs (k + 1) d) (get_or xs k d)
+        ∙ ap ordering_reverse (Less-from_sorted R xs k (k + 1) d rises (omega arith) below))

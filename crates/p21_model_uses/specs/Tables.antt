@@ -69,7 +69,8 @@ pub record AreGroupsOf (rows : List UseRow) (count : ℕ) (used : List Used) : T
   pub rises : IsStrictlySortedBy by_name used
 
 -- these are the references to a name
-pub record AreNamed (users : List ℕ) (places : List (ℕ × ℕ)) (references : List Reference) (used : List Used) (name : ℕ) (found : List Reference) : Type 0 where
+pub record AreNamed (users : List ℕ) (places : List (ℕ × ℕ)) (references : List Reference) (used : List Used) (name : ℕ)
+    (found : List Reference) : Type 0 where
   pub are : map (use_of users places name) found ≡ filter (λ (u : UseRow). nat_eq u.0 name) (uses_in users places references used)
   pub within : Each (IsWithin users places) found
 

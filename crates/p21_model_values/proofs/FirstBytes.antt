@@ -34,7 +34,8 @@ digits-first [] some are = omega (arith, some)
 digits-first (byte ∷ bytes) some are = inr are.0
 
 plain-first : (n : ℕ) → FirstIs BeginsNumber (plain_digits n)
-plain-first n = digits-first (plain_digits n) (plain_some (plain_digits n) (plain_digits_are n).0) (plain_are_digits (plain_digits n) (plain_digits_are n).0)
+plain-first n = digits-first (plain_digits n) (plain_some (plain_digits n) (plain_digits_are n).0)
+    (plain_are_digits (plain_digits n) (plain_digits_are n).0)
 
 whole-first : (z : ℤ) → FirstIs BeginsNumber (whole_spelling z)
 whole-first (pos n) = plain-first n
@@ -52,7 +53,8 @@ word-first : (word : List ℕ) → IsKeyword word → FirstIs BeginsKey word
 word-first [] is = absurd is
 word-first (byte ∷ bytes) is = inr is.0
 
-key-first : (user : Bool) (word : List ℕ) → IsSpelled (key_token (record { user = user; word = word })) → FirstIs BeginsKey (spelling (key_token (record { user = user; word = word })))
+key-first : (user : Bool) (word : List ℕ) → IsSpelled (key_token (record { user = user; word = word }))
+    → FirstIs BeginsKey (spelling (key_token (record { user = user; word = word })))
 key-first true word spelled = inl refl
 key-first false word spelled = word-first word spelled.1.1
 
@@ -118,13 +120,15 @@ point-append : (xs ys : List ℕ) → has_point (xs ++ ys) ≡ (has_point xs || 
 point-append [] ys = refl
 point-append (x ∷ xs) ys = by_test (eqb x 46) (point-append xs ys)
   where
-    by_test : (b : Bool) → has_point (xs ++ ys) ≡ (has_point xs || has_point ys) → (b || has_point (xs ++ ys)) ≡ ((b || has_point xs) || has_point ys)
+    by_test : (b : Bool) → has_point (xs ++ ys) ≡ (has_point xs || has_point ys)
+        → (b || has_point (xs ++ ys)) ≡ ((b || has_point xs) || has_point ys)
     by_test true more = refl
     by_test false more = more
 
 digits-point : (bytes : List ℕ) → AllDigits bytes → has_point bytes ≡ false
 digits-point [] are = refl
-digits-point (byte ∷ bytes) are = let h = are.0 in let one : eqb byte 46 ≡ false = ne_eqb byte 46 (λ e. omega (arith, h, e)) in rw one (digits-point bytes are.1)
+digits-point (byte ∷ bytes) are = let h = are.0 in let one : eqb byte 46 ≡ false = ne_eqb byte 46 (λ e. omega (arith, h, e)) in
+    rw one (digits-point bytes are.1)
 
 plain-point : (n : ℕ) → has_point (plain_digits n) ≡ false
 plain-point n = digits-point (plain_digits n) (plain_are_digits (plain_digits n) (plain_digits_are n).0)
@@ -142,7 +146,9 @@ pointed-point [] rest = refl
 pointed-point (digit ∷ bytes) rest = or-last (eqb digit 46)
 
 real-point : (z : ℤ) (bytes rest : List ℕ) → has_point ((minus_bytes z ++ (digits_with_point bytes ++ rest)) ++ []) ≡ true
-real-point z bytes rest = point-append (minus_bytes z ++ (digits_with_point bytes ++ rest)) [] ∙ ap (λ b. b || false) (point-append (minus_bytes z) _ ∙ ap (λ b. has_point (minus_bytes z) || b) (pointed-point bytes rest) ∙ or-last (has_point (minus_bytes z)))
+real-point z bytes rest = point-append (minus_bytes z ++ (digits_with_point bytes ++ rest)) []
+    ∙ ap (λ b. b || false) (point-append (minus_bytes z) _ ∙ ap (λ b. has_point (minus_bytes z) || b) (pointed-point bytes rest)
+    ∙ or-last (has_point (minus_bytes z)))
 
 -- ---- kinds
 
@@ -190,7 +196,9 @@ kind-at : (p : Param) (byte : ℕ) → BeginsParam p byte → kind_by byte (has_
 kind-at dollar byte is = rw is refl
 kind-at star byte is = rw is refl
 kind-at (whole z) byte is = number-kind byte _ is (no-dot byte is) ∙ ap (λ b. cond b kind.Real kind.Whole) (whole-point z)
-kind-at (real d) byte is = number-kind byte _ is (no-dot byte is) ∙ ap (λ b. cond b kind.Real kind.Whole) (real-point d.significand (plain_digits (nat_abs d.significand)) (exponent_spelling (normalised_exponent d)))
+kind-at (real d) byte is = number-kind byte _ is (no-dot byte is)
+    ∙ ap (λ b. cond b kind.Real kind.Whole) (real-point d.significand (plain_digits (nat_abs d.significand))
+    (exponent_spelling (normalised_exponent d)))
 kind-at (text chars) byte is = rw is refl
 kind-at (name n) byte is = rw is refl
 kind-at (item word) byte is = rw is refl
@@ -198,7 +206,8 @@ kind-at (bits value) byte is = rw is refl
 kind-at (list ps) byte is = rw is refl
 kind-at (typed key p) byte is = key-kind byte _ is
 
-pub kind-known : (p : Param) (bytes : List ℕ) (first : ℕ) (rest : List ℕ) → IsTextOf bytes p → bytes ≡ first ∷ rest → kind_by first (has_point bytes) ≡ kind_of p
+pub kind-known : (p : Param) (bytes : List ℕ) (first : ℕ) (rest : List ℕ) → IsTextOf bytes p → bytes ≡ first ∷ rest
+    → kind_by first (has_point bytes) ≡ kind_of p
 kind-known p bytes first rest t is =
     let same : first ∷ rest ≡ param_text p = sym is ∙ t.bytes_are in
     let begun : FirstIs (BeginsParam p) (first ∷ rest) = subst (FirstIs (BeginsParam p)) (sym same) (begins p t.written) in

@@ -18,8 +18,10 @@ pub group-cut : (width c : ℕ) (bytes more : List ℕ) → bytes ≡ hex_digits
     → (take width bytes ≡ hex_digits width c) × (drop width bytes ≡ end_extended ++ more)
 group-cut width c bytes more is =
     let long = length-hex_digits width c in (
-      ap (take width) is ∙ ap (λ n. take n (hex_digits width c ++ (end_extended ++ more))) (sym long) ∙ take-append_seam (hex_digits width c) (end_extended ++ more),
-      ap (drop width) is ∙ ap (λ n. drop n (hex_digits width c ++ (end_extended ++ more))) (sym long) ∙ drop-append_seam (hex_digits width c) (end_extended ++ more),
+      ap (take width) is ∙ ap (λ n. take n (hex_digits width c ++ (end_extended ++ more))) (sym long)
+          ∙ take-append_seam (hex_digits width c) (end_extended ++ more),
+      ap (drop width) is ∙ ap (λ n. drop n (hex_digits width c ++ (end_extended ++ more))) (sym long)
+          ∙ drop-append_seam (hex_digits width c) (end_extended ++ more),
     )
 
 -- hex digits stand for one number of as many
@@ -47,8 +49,10 @@ group-size width c bytes more is =
 pub group-long : (width c : ℕ) (bytes more : List ℕ) → bytes ≡ hex_digits width c ++ (end_extended ++ more) → length bytes < width → ⊥
 group-long width c bytes more is short = let size = group-size width c bytes more is in omega (arith, size, short)
 
-pub behind-long : (width c : ℕ) (bytes behind more : List ℕ) → bytes ≡ hex_digits width c ++ (end_extended ++ more) → behind ≡ drop width bytes → length behind < 4 → ⊥
-behind-long width c bytes behind more is same short = let all = ap length (same ∙ (group-cut width c bytes more is).1) in omega (arith, all, short)
+pub behind-long : (width c : ℕ) (bytes behind more : List ℕ) → bytes ≡ hex_digits width c ++ (end_extended ++ more)
+    → behind ≡ drop width bytes → length behind < 4 → ⊥
+behind-long width c bytes behind more is same short = let all = ap length (same ∙ (group-cut width c bytes more is).1) in
+    omega (arith, all, short)
 
 pub group-digits : (width c : ℕ) (bytes digits more : List ℕ) → bytes ≡ hex_digits width c ++ (end_extended ++ more)
     → digits ≡ take width bytes → length digits ≡ width → c < 16 ^ width
@@ -56,16 +60,19 @@ pub group-digits : (width c : ℕ) (bytes digits more : List ℕ) → bytes ≡ 
 group-digits width c bytes digits more is front long small =
     (subst (λ n. c < 16 ^ n) (sym long) small, front ∙ (group-cut width c bytes more is).0 ∙ ap (λ n. hex_digits n c) (sym long))
 
-pub group-behind : (width c : ℕ) (bytes behind more : List ℕ) → bytes ≡ hex_digits width c ++ (end_extended ++ more) → behind ≡ drop width bytes → drop 4 behind ≡ more
+pub group-behind : (width c : ℕ) (bytes behind more : List ℕ) → bytes ≡ hex_digits width c ++ (end_extended ++ more)
+    → behind ≡ drop width bytes → drop 4 behind ≡ more
 group-behind width c bytes behind more is same = ap (λ (xs : List ℕ). drop 4 xs) (same ∙ (group-cut width c bytes more is).1)
 
 -- ---- the characters one by one
 
 -- the characters of a text behind its first apostrophe
-pub text-left : (characters : List ℕ) (first : ℕ) (rest bytes : List ℕ) → IsTextOf bytes (text characters) → bytes ≡ first ∷ rest → AreLeftCharacters characters rest
+pub text-left : (characters : List ℕ) (first : ℕ) (rest bytes : List ℕ) → IsTextOf bytes (text characters) → bytes ≡ first ∷ rest
+    → AreLeftCharacters characters rest
 text-left characters first rest bytes t is =
     let e : first ∷ rest ≡ (39 ∷ (flat_map character_spelling characters ++ (39 ∷ []))) ++ [] = sym is ∙ t.bytes_are in
-    let all : first ∷ rest ≡ 39 ∷ (flat_map character_spelling characters ++ (39 ∷ [])) = e ∙ append-nil (39 ∷ (flat_map character_spelling characters ++ (39 ∷ []))) in
+    let all : first ∷ rest ≡ 39 ∷ (flat_map character_spelling characters ++ (39 ∷ [])) = e
+    ∙ append-nil (39 ∷ (flat_map character_spelling characters ++ (39 ∷ []))) in
     let tail : rest ≡ flat_map character_spelling characters ++ (39 ∷ []) = cc in
     record { scalars = text_scalars t.written.0.0 characters t.written.0.1; bytes_are = tail }
 
@@ -85,5 +92,6 @@ pub one-led : (characters bytes : List ℕ) (found : ℕ) (rest : List ℕ) → 
 one-led [] bytes found rest left none some = none left.bytes_are
 one-led (character ∷ characters) bytes found rest left none some =
     let behind = flat_map character_spelling characters ++ (39 ∷ []) in
-    let led = some character behind left.scalars.0 (left.bytes_are ∙ append_assoc (character_spelling character) (flat_map character_spelling characters) (39 ∷ [])) in
+    let led = some character behind left.scalars.0 (left.bytes_are
+    ∙ append_assoc (character_spelling character) (flat_map character_spelling characters) (39 ∷ [])) in
     (led.0, record { scalars = left.scalars.1; bytes_are = led.1 })

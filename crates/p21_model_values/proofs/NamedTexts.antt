@@ -63,7 +63,8 @@ characters-unnamed (c ∷ cs) rest =
 
 text-unnamed : (cs : List ℕ) → Unnamed (text_spelling cs)
 text-unnamed cs rest =
-    ap (λ (xs : List ℕ). names_in xs true) (append_assoc (flat_map character_spelling cs) (39 ∷ []) rest) ∙ characters-unnamed cs (39 ∷ rest)
+    ap (λ (xs : List ℕ). names_in xs true) (append_assoc (flat_map character_spelling cs) (39 ∷ []) rest)
+    ∙ characters-unnamed cs (39 ∷ rest)
 
 -- ---- names
 
@@ -84,8 +85,10 @@ digits-lead (digit ∷ digits) rest are ends =
 pub name-named : (n : ℕ) (rest : List ℕ) → NoDigitFirst rest → names_in (35 ∷ (plain_digits n ++ rest)) false ≡ n ∷ names_in rest false
 name-named n rest ends =
     let digits = plain_digits_are n in
-    let led : leading_number (plain_digits n ++ rest) ≡ n = ap number (digits-lead (plain_digits n) rest (plain_are_digits (plain_digits n) digits.0) ends) ∙ digits.1 in
-    ap (λ m. m ∷ names_in (plain_digits n ++ rest) false) led ∙ ap (λ (xs : List ℕ). n ∷ xs) (inert-unnamed (plain_digits n) (plain-inert n) rest)
+    let led : leading_number (plain_digits n ++ rest) ≡ n =
+    ap number (digits-lead (plain_digits n) rest (plain_are_digits (plain_digits n) digits.0) ends) ∙ digits.1 in
+    ap (λ m. m ∷ names_in (plain_digits n ++ rest) false) led
+    ∙ ap (λ (xs : List ℕ). n ∷ xs) (inert-unnamed (plain_digits n) (plain-inert n) rest)
 
 -- ---- parameters
 
@@ -115,10 +118,12 @@ key-inert true word spelled = (inl (omega arith), word-inert word spelled.1.1)
 key-inert false word spelled = word-inert word spelled.1.1
 
 item-unnamed : (word : List ℕ) → IsKeyword word → Unnamed (46 ∷ (word ++ (46 ∷ [])))
-item-unnamed word is = inert-unnamed (46 ∷ (word ++ (46 ∷ []))) (inr (omega arith), Each-append IsInert word (46 ∷ []) (word-inert word is) (inr (omega arith), tt))
+item-unnamed word is = inert-unnamed (46 ∷ (word ++ (46 ∷ [])))
+    (inr (omega arith), Each-append IsInert word (46 ∷ []) (word-inert word is) (inr (omega arith), tt))
 
 -- what stands in parentheses
-pub closed-names : (xs names : List ℕ) → Names xs names → (rest : List ℕ) → names_in ((40 ∷ (xs ++ (41 ∷ []))) ++ rest) false ≡ names ++ names_in rest false
+pub closed-names : (xs names : List ℕ) → Names xs names → (rest : List ℕ)
+    → names_in ((40 ∷ (xs ++ (41 ∷ []))) ++ rest) false ≡ names ++ names_in rest false
 closed-names xs names p rest = ap (λ (ys : List ℕ). names_in ys false) (append_assoc xs (41 ∷ []) rest) ∙ p (41 ∷ rest) (inr refl)
 
 list-text : (ps : Params) → param_text (list ps) ≡ 40 ∷ (tokens_text (params_tokens ps) ++ (41 ∷ []))
@@ -145,7 +150,8 @@ joined-names p ps first others one more rest ends =
     ∙ sym (append_assoc first others (names_in rest false))
 
 mutual
-  pub param-names : (p : Param) → IsWritten p → (rest : List ℕ) → IsBehindValue rest → names_in (param_text p ++ rest) false ≡ param_references p ++ names_in rest false
+  pub param-names : (p : Param) → IsWritten p → (rest : List ℕ) → IsBehindValue rest
+      → names_in (param_text p ++ rest) false ≡ param_references p ++ names_in rest false
   param-names dollar written = λ rest ends. refl
   param-names star written = λ rest ends. refl
   param-names (whole z) written = one-names (token.whole z) [] (inert-names (whole_spelling z) (whole-inert z))
@@ -156,10 +162,12 @@ mutual
   param-names (bits value) written = one-names (token.bits value) [] (inert-names (bits_spelling value) (bits-inert value))
   param-names (list ps) written =
       subst (λ (xs : List ℕ). Names xs (references ps)) (sym (list-text ps))
-      (λ rest ends. closed-names (tokens_text (params_tokens ps)) (references ps) (params-names ps (Each-front IsSpelled (params_tokens ps) (token.right ∷ []) written.1)) rest)
+      (λ rest ends. closed-names (tokens_text (params_tokens ps)) (references ps)
+      (params-names ps (Each-front IsSpelled (params_tokens ps) (token.right ∷ []) written.1)) rest)
   param-names (typed key p) written =
       subst (λ (xs : List ℕ). Names xs (param_references p)) (sym (typed-is key p))
-      (typed-names key p (param_references p) written.0 (param-names p (Each-front IsSpelled (param_tokens p) (token.right ∷ []) written.1.1)))
+      (typed-names key p (param_references p) written.0 (param-names p
+      (Each-front IsSpelled (param_tokens p) (token.right ∷ []) written.1.1)))
 
   pub params-names : (ps : Params) → Each IsSpelled (params_tokens ps) → (rest : List ℕ) → IsBehindValue rest
       → names_in (tokens_text (params_tokens ps) ++ rest) false ≡ references ps ++ names_in rest false
@@ -179,7 +187,8 @@ mutual
 -- the names in the text of a parameter
 pub text-names : (bytes : List ℕ) (p : Param) → IsTextOf bytes p → names_in bytes false ≡ param_references p
 text-names bytes p t =
-    ap (λ (xs : List ℕ). names_in xs false) (t.bytes_are ∙ sym (append-nil (param_text p))) ∙ param-names p t.written [] tt ∙ append-nil (param_references p)
+    ap (λ (xs : List ℕ). names_in xs false) (t.bytes_are ∙ sym (append-nil (param_text p))) ∙ param-names p t.written [] tt
+    ∙ append-nil (param_references p)
 
 -- ---- they are numbers of 64 bits
 
@@ -218,7 +227,8 @@ text-small bytes p t = param-small p t.written
 
 -- ---- names one by one
 
-led-number : (behind digits rest : List ℕ) → behind ≡ digits ++ rest → AllDigits digits → NoDigitFirst rest → leading_number behind ≡ number digits
+led-number : (behind digits rest : List ℕ) → behind ≡ digits ++ rest → AllDigits digits → NoDigitFirst rest
+    → leading_number behind ≡ number digits
 led-number behind digits rest is are ends = ap leading_number is ∙ ap number (digits-lead digits rest are ends)
 
 pub name-handed : (bytes behind digits rest names : List ℕ) (found : ℕ) → names_in bytes false ≡ names
@@ -227,7 +237,8 @@ pub name-handed : (bytes behind digits rest names : List ℕ) (found : ℕ) → 
     → HandsOutName names (Some found) (names_in behind false)
 name-handed bytes behind digits rest names found are led is digits_are ends found_is =
     let all : leading_number behind ∷ names_in behind false ≡ names = sym led ∙ are in
-    subst (λ (ns : List ℕ). HandsOutName ns (Some found) (names_in behind false)) all (found_is ∙ sym (led-number behind digits rest is digits_are ends), refl)
+    subst (λ (ns : List ℕ). HandsOutName ns (Some found) (names_in behind false)) all
+    (found_is ∙ sym (led-number behind digits rest is digits_are ends), refl)
 
 pub name-fits : (bytes behind digits rest names : List ℕ) → names_in bytes false ≡ names
     → names_in bytes false ≡ leading_number behind ∷ names_in behind false → behind ≡ digits ++ rest → AllDigits digits → NoDigitFirst rest

@@ -30,7 +30,8 @@ all-taken : (bytes rest : List ℕ) → rest ≡ [] → take (length bytes - len
 all-taken bytes rest none = let long = ap length none in take_all (length bytes - length rest) bytes (omega (arith, long))
 
 -- the digits of a whole number
-pub whole-digits : (bytes digits rest : List ℕ) (negative : Bool) (z : ℤ) → IsIntegerAt bytes negative digits rest → SpellsWhole bytes z → signed negative (number digits) ≡ z
+pub whole-digits : (bytes digits rest : List ℕ) (negative : Bool) (z : ℤ) → IsIntegerAt bytes negative digits rest → SpellsWhole bytes z
+    → signed negative (number digits) ≡ z
 whole-digits bytes digits rest negative z at spelled =
     let Spells : List ℕ → Type 0 = λ xs. SpellsWhole xs (signed negative (number digits)) in
     whole_once bytes (signed negative (number digits)) z
@@ -40,7 +41,8 @@ whole-digits bytes digits rest negative z at spelled =
 -- a whole number has no point
 pub whole-unpointed : (bytes whole fraction rest : List ℕ) (negative : Bool) (power : Exponent) (z : ℤ)
     → IsRealAt bytes negative whole fraction power rest → SpellsWhole bytes z → ⊥
-whole-unpointed bytes whole fraction rest negative power z at spelled = let none = whole_integer bytes whole (46 ∷ (fraction ++ at.behind)) negative z at.whole_at spelled in cc
+whole-unpointed bytes whole fraction rest negative power z at spelled = let none =
+    whole_integer bytes whole (46 ∷ (fraction ++ at.behind)) negative z at.whole_at spelled in cc
 
 module _ (bytes whole fraction rest : List ℕ) (negative : Bool) (power : Exponent) (d : Decimal)
     (x : IsRealAt bytes negative whole fraction power rest) (spelled : SpellsReal bytes d) where
@@ -52,13 +54,15 @@ module _ (bytes whole fraction rest : List ℕ) (negative : Bool) (power : Expon
 
   -- the exponent of a real is short
   pub real-short : ReadsExponent power None → ⊥
-  real-short long = long (subst IsShortExponent (same_form _ taken-spelled.form (real_form bytes whole fraction rest negative power x)).power taken-spelled.is_short)
+  real-short long = long (subst IsShortExponent (same_form _ taken-spelled.form
+      (real_form bytes whole fraction rest negative power x)).power taken-spelled.is_short)
 
   -- the digits of a real
   pub real-digits : (k : ℤ) → ReadsExponent power (Some k) → SameRatio (digits_ratio negative whole fraction k) (ratio_of d)
   real-digits k (short, value) =
       let form = real_form bytes whole fraction rest negative power x in
-      let same : real_ratio taken-spelled.form ≡ real_ratio form = form_ratio_once (take (length bytes - length rest) bytes) taken-spelled.form form in
+      let same : real_ratio taken-spelled.form ≡ real_ratio form =
+      form_ratio_once (take (length bytes - length rest) bytes) taken-spelled.form form in
       let by_form : SameRatio (real_ratio form) (ratio_of d) = subst (λ (r : Ratio). SameRatio r (ratio_of d)) same taken-spelled.same in
       let by_sign : SameRatio (digits_ratio negative whole fraction (exponent_value power)) (ratio_of d) = subst
       (λ (b : Bool). SameRatio (digits_ratio b whole fraction (exponent_value power)) (ratio_of d)) (sym x.whole_at.negative_is)

@@ -36,7 +36,8 @@ differs : (byte other : ℕ) → IsInert byte → 39 ≤ other → other ≤ 44 
 differs byte other (inl h) low high = ne_eqb byte other (λ e. omega (arith, h, low, e))
 differs byte other (inr h) low high = ne_eqb byte other (λ e. omega (arith, h, high, e))
 
-inert-one : (byte : ℕ) → IsInert byte → (bytes : List ℕ) (depth : ℕ) → size_within (byte ∷ bytes) false depth ≡ suc (size_within bytes false depth)
+inert-one : (byte : ℕ) → IsInert byte → (bytes : List ℕ) (depth : ℕ)
+    → size_within (byte ∷ bytes) false depth ≡ suc (size_within bytes false depth)
 inert-one byte inert bytes depth =
     let a : eqb byte 39 ≡ false = differs byte 39 inert (lit≤ tt) (lit≤ tt) in
     let b : eqb byte 40 ≡ false = differs byte 40 inert (lit≤ tt) (lit≤ tt) in
@@ -53,7 +54,8 @@ inert-passes (x ∷ xs) are rest depth =
 
 append-passes : (xs ys : List ℕ) → Passes xs → Passes ys → Passes (xs ++ ys)
 append-passes xs ys p q rest depth =
-    let front : size_within ((xs ++ ys) ++ rest) false depth ≡ length xs + size_within (ys ++ rest) false depth = rw append_assoc (p (ys ++ rest) depth) in
+    let front : size_within ((xs ++ ys) ++ rest) false depth ≡ length xs + size_within (ys ++ rest) false depth =
+    rw append_assoc (p (ys ++ rest) depth) in
     let back = q rest depth in
     let all = length-append xs ys in
     omega (arith, front, back, all)
@@ -103,7 +105,9 @@ exponent-inert (negsuc n) = (inr (lit< tt), whole-inert (negsuc n))
 pub real-inert : (d : Decimal) → Each IsInert (spelling (token.real d))
 real-inert d =
     Each-append IsInert (minus_bytes d.significand) _ (minus-inert d.significand)
-    (Each-append IsInert (digits_with_point (plain_digits (nat_abs d.significand))) _ (pointed-inert (plain_digits (nat_abs d.significand)) (plain-inert (nat_abs d.significand))) (exponent-inert (normalised_exponent d)))
+    (Each-append IsInert (digits_with_point (plain_digits (nat_abs d.significand))) _
+    (pointed-inert (plain_digits (nat_abs d.significand)) (plain-inert (nat_abs d.significand)))
+    (exponent-inert (normalised_exponent d)))
 
 hex_digit-inert : (n : ℕ) → n < 16 → IsInert (hex_digit n)
 hex_digit-inert n below = by_test (nat_lt n 10)
@@ -119,8 +123,14 @@ hex_values-inert (n ∷ values) are = (hex_digit-inert n are.0, hex_values-inert
 pub bits-inert : (value : List Bool) → Each IsInert (bits_spelling value)
 bits-inert value =
     let s = bits_spell value in
-    subst (Each IsInert) (sym s.bytes_are)
-    (inl (lit< tt), (inr (omega arith), Each-append IsInert (map hex_digit s.hex_values) (34 ∷ []) (hex_values-inert s.hex_values s.are_hex_values) (inl (lit< tt), tt)))
+    subst (Each IsInert) (sym s.bytes_are) (
+      inl (lit< tt),
+      (
+        inr (omega arith),
+        Each-append IsInert (map hex_digit s.hex_values) (34 ∷ [])
+            (hex_values-inert s.hex_values s.are_hex_values) (inl (lit< tt), tt),
+      ),
+    )
 
 -- ---- strings
 
@@ -128,10 +138,12 @@ bits-inert value =
 record PassesInside (xs : List ℕ) : Type 0 where
   passes : (rest : List ℕ) (depth : ℕ) → size_within (xs ++ rest) true depth ≡ length xs + size_within rest true depth
 
-inside-one : (byte : ℕ) → byte ≢ 39 → (bytes : List ℕ) (depth : ℕ) → size_within (byte ∷ bytes) true depth ≡ suc (size_within bytes true depth)
+inside-one : (byte : ℕ) → byte ≢ 39 → (bytes : List ℕ) (depth : ℕ)
+    → size_within (byte ∷ bytes) true depth ≡ suc (size_within bytes true depth)
 inside-one byte other bytes depth = let a : eqb byte 39 ≡ false = ne_eqb byte 39 other in rw a refl
 
-inside-each : (xs : List ℕ) → Each (λ byte. byte ≢ 39) xs → (rest : List ℕ) (depth : ℕ) → size_within (xs ++ rest) true depth ≡ length xs + size_within rest true depth
+inside-each : (xs : List ℕ) → Each (λ byte. byte ≢ 39) xs → (rest : List ℕ) (depth : ℕ)
+    → size_within (xs ++ rest) true depth ≡ length xs + size_within rest true depth
 inside-each [] are rest depth = omega arith
 inside-each (x ∷ xs) are rest depth =
     let one = inside-one x are.0 (xs ++ rest) depth in
@@ -145,12 +157,25 @@ hex-unquoted : (digits : List ℕ) → Each IsHexDigit digits → Each (λ byte.
 hex-unquoted [] are = tt
 hex-unquoted (digit ∷ digits) are = (λ e. let h = are.0 in omega (arith, h, e), hex-unquoted digits are.1)
 
-directive-unquoted : (kind : ℕ) (digits : List ℕ) → kind ≢ 39 → Each IsHexDigit digits → Each (λ byte. byte ≢ 39) (92 ∷ 88 ∷ kind ∷ 92 ∷ (digits ++ end_extended))
+directive-unquoted : (kind : ℕ) (digits : List ℕ) → kind ≢ 39 → Each IsHexDigit digits
+    → Each (λ byte. byte ≢ 39) (92 ∷ 88 ∷ kind ∷ 92 ∷ (digits ++ end_extended))
 directive-unquoted kind digits other hex =
     let backslash : 92 ≢ 39 = λ e. omega (arith, e) in
     let letter_x : 88 ≢ 39 = λ e. omega (arith, e) in
-    let zero_digit : 48 ≢ 39 = λ e. omega (arith, e) in
-    (backslash, (letter_x, (other, (backslash, Each-append (λ byte. byte ≢ 39) digits end_extended (hex-unquoted digits hex) (backslash, (letter_x, (zero_digit, (backslash, tt))))))))
+    let zero_digit : 48 ≢ 39 = λ e. omega (arith, e) in (
+      backslash,
+      (
+        letter_x,
+        (
+          other,
+          (
+            backslash,
+            Each-append (λ byte. byte ≢ 39) digits end_extended (hex-unquoted digits hex)
+                (backslash, (letter_x, (zero_digit, (backslash, tt)))),
+          ),
+        ),
+      ),
+    )
 
 twice-each : (c : ℕ) (rest : List ℕ) (depth : ℕ) → size_within (c ∷ c ∷ rest) true depth ≡ 2 + size_within rest true depth
 twice-each c rest depth = by_test (eqb c 39) refl
@@ -166,7 +191,8 @@ character-shape c = quoted (eqb c 39 || eqb c 92) refl
     Unquoted : List ℕ → Type 0
     Unquoted = Each (λ byte. byte ≢ 39)
 
-    wide : (w : Bool) → nat_lt c 0x1_0000 ≡ w → (eqb c 39 || eqb c 92) ≡ false → (nat_le 32 c && nat_lt c 127) ≡ false → Unquoted (character_spelling c)
+    wide : (w : Bool) → nat_lt c 0x1_0000 ≡ w → (eqb c 39 || eqb c 92) ≡ false → (nat_le 32 c && nat_lt c 127) ≡ false
+        → Unquoted (character_spelling c)
     wide true e q p =
         let is : character_spelling c ≡ 92 ∷ 88 ∷ 50 ∷ 92 ∷ (hex_digits 4 c ++ end_extended) = rw (q, p, e) refl in
         subst Unquoted (sym is) (directive-unquoted 50 (hex_digits 4 c) (λ h. omega (arith, h)) (are_hex_digits 4 c))
@@ -193,7 +219,8 @@ character-passes c = elim (character-shape c) [
 ]
 
 characters-pass : (cs : List ℕ) (rest : List ℕ) (depth : ℕ)
-    → size_within (flat_map character_spelling cs ++ rest) true depth ≡ length (flat_map character_spelling cs) + size_within rest true depth
+    → size_within (flat_map character_spelling cs ++ rest) true depth ≡ length (flat_map character_spelling cs) + size_within rest true
+    depth
 characters-pass [] rest depth = omega arith
 characters-pass (c ∷ cs) rest depth =
     joined (character_spelling c) (flat_map character_spelling cs) (character-passes c) (characters-pass cs rest depth)
@@ -201,7 +228,8 @@ characters-pass (c ∷ cs) rest depth =
     joined : (xs ys : List ℕ) → PassesInside xs → size_within (ys ++ rest) true depth ≡ length ys + size_within rest true depth
         → size_within ((xs ++ ys) ++ rest) true depth ≡ length (xs ++ ys) + size_within rest true depth
     joined xs ys p more =
-        let all : size_within ((xs ++ ys) ++ rest) true depth ≡ length xs + size_within (ys ++ rest) true depth = ap (λ (zs : List ℕ). size_within zs true depth) (append_assoc xs ys rest) ∙ p.passes (ys ++ rest) depth in
+        let all : size_within ((xs ++ ys) ++ rest) true depth ≡ length xs + size_within (ys ++ rest) true depth =
+        ap (λ (zs : List ℕ). size_within zs true depth) (append_assoc xs ys rest) ∙ p.passes (ys ++ rest) depth in
         let long = length-append xs ys in
         omega (arith, all, more, long)
 
@@ -211,20 +239,23 @@ text-passes cs rest depth = closed (flat_map character_spelling cs) (characters-
     closed : (xs : List ℕ) → size_within (xs ++ (39 ∷ rest)) true depth ≡ length xs + size_within (39 ∷ rest) true depth
         → size_within ((39 ∷ (xs ++ (39 ∷ []))) ++ rest) false depth ≡ length (39 ∷ (xs ++ (39 ∷ []))) + size_within rest false depth
     closed xs p =
-        let all : size_within ((xs ++ (39 ∷ [])) ++ rest) true depth ≡ length xs + size_within (39 ∷ rest) true depth = ap (λ (zs : List ℕ). size_within zs true depth) (append_assoc xs (39 ∷ []) rest) ∙ p in
+        let all : size_within ((xs ++ (39 ∷ [])) ++ rest) true depth ≡ length xs + size_within (39 ∷ rest) true depth =
+        ap (λ (zs : List ℕ). size_within zs true depth) (append_assoc xs (39 ∷ []) rest) ∙ p in
         let long = length-append xs (39 ∷ []) in
         omega (arith, all, long)
 
 -- ---- parameters
 
-key-passes : (user : Bool) (word : List ℕ) → IsSpelled (key_token (record { user = user; word = word })) → Passes (spelling (key_token (record { user = user; word = word })))
+key-passes : (user : Bool) (word : List ℕ) → IsSpelled (key_token (record { user = user; word = word }))
+    → Passes (spelling (key_token (record { user = user; word = word })))
 key-passes true word spelled = inert-passes (33 ∷ word) (inl (lit< tt), word-inert word spelled.1.1)
 key-passes false word spelled = inert-passes word (word-inert word spelled.1.1)
 
 -- what stands in parentheses
 closed-passes : (xs : List ℕ) → Passes xs → Passes (40 ∷ (xs ++ (41 ∷ [])))
 closed-passes xs p rest depth =
-    let all : size_within ((xs ++ (41 ∷ [])) ++ rest) false (suc depth) ≡ length xs + size_within (41 ∷ rest) false (suc depth) = rw append_assoc (p (41 ∷ rest) (suc depth)) in
+    let all : size_within ((xs ++ (41 ∷ [])) ++ rest) false (suc depth) ≡ length xs + size_within (41 ∷ rest) false (suc depth) =
+    rw append_assoc (p (41 ∷ rest) (suc depth)) in
     let long = length-append xs (41 ∷ []) in
     omega (arith, all, long)
 
@@ -234,14 +265,16 @@ PassesClosed xs = (rest : List ℕ) (depth : ℕ) → size_within (xs ++ rest) f
 
 closed-append : (xs ys : List ℕ) → PassesClosed xs → PassesClosed ys → PassesClosed (xs ++ ys)
 closed-append xs ys p q rest depth =
-    let front : size_within ((xs ++ ys) ++ rest) false (suc depth) ≡ length xs + size_within (ys ++ rest) false (suc depth) = rw append_assoc (p (ys ++ rest) depth) in
+    let front : size_within ((xs ++ ys) ++ rest) false (suc depth) ≡ length xs + size_within (ys ++ rest) false (suc depth) =
+    rw append_assoc (p (ys ++ rest) depth) in
     let back = q rest depth in
     let all = length-append xs ys in
     omega (arith, front, back, all)
 
 list-passes : (xs : List ℕ) → PassesClosed xs → Passes (40 ∷ (xs ++ (41 ∷ [])))
 list-passes xs p rest depth =
-    let all : size_within ((xs ++ (41 ∷ [])) ++ rest) false (suc depth) ≡ length xs + size_within (41 ∷ rest) false (suc depth) = rw append_assoc (p (41 ∷ rest) depth) in
+    let all : size_within ((xs ++ (41 ∷ [])) ++ rest) false (suc depth) ≡ length xs + size_within (41 ∷ rest) false (suc depth) =
+    rw append_assoc (p (41 ∷ rest) depth) in
     let long = length-append xs (41 ∷ []) in
     omega (arith, all, long)
 
@@ -263,29 +296,43 @@ mutual
   param-passes (text chars) written = scalar-passes (token.text chars) (text-passes chars)
   param-passes (name n) written = scalar-passes (token.name n)
       (append-passes (35 ∷ []) (plain_digits n) (λ rest depth. omega arith) (inert-passes (plain_digits n) (plain-inert n)))
-  param-passes (item word) written = scalar-passes (token.item word) (inert-passes (46 ∷ (word ++ (46 ∷ []))) (inr (lit< tt), Each-append IsInert word (46 ∷ []) (word-inert word written.0.1.1) (inr (lit< tt), tt)))
+  param-passes (item word) written = scalar-passes (token.item word)
+      (inert-passes (46 ∷ (word ++ (46 ∷ []))) (
+        inr (lit< tt),
+        Each-append IsInert word (46 ∷ []) (word-inert word written.0.1.1)
+            (inr (lit< tt), tt),
+      ))
   param-passes (bits value) written = scalar-passes (token.bits value) (inert-passes (bits_spelling value) (bits-inert value))
-  param-passes (list ps) written = subst Passes (sym (list-text ps)) (list-passes (tokens_text (params_tokens ps)) (params-pass ps (Each-front IsSpelled (params_tokens ps) (token.right ∷ []) written.1)))
-  param-passes (typed key p) written = subst Passes (sym (typed-text key p)) (append-passes (spelling (key_token key)) (40 ∷ (param_text p ++ (41 ∷ []))) (key-passes key.user key.word written.0) (closed-passes (param_text p) (param-passes p (Each-front IsSpelled (param_tokens p) (token.right ∷ []) written.1.1))))
+  param-passes (list ps) written = subst Passes (sym (list-text ps))
+      (list-passes (tokens_text (params_tokens ps)) (params-pass ps (Each-front IsSpelled (params_tokens ps) (token.right ∷ []) written.1)))
+  param-passes (typed key p) written = subst Passes (sym (typed-text key p))
+      (append-passes (spelling (key_token key)) (40 ∷ (param_text p ++ (41 ∷ []))) (key-passes key.user key.word written.0)
+      (closed-passes (param_text p) (param-passes p (Each-front IsSpelled (param_tokens p) (token.right ∷ []) written.1.1))))
 
   params-pass : (ps : Params) → Each IsSpelled (params_tokens ps) → PassesClosed (tokens_text (params_tokens ps))
   params-pass no_params written = λ rest depth. omega arith
   params-pass (param p ps) written =
       subst PassesClosed (sym (tokens_text-append (param_tokens p) (more_tokens ps)))
-      (closed-append (param_text p) (tokens_text (more_tokens ps)) (λ rest depth. param-passes p (Each-front IsSpelled (param_tokens p) (more_tokens ps) written) rest (suc depth)) (more-pass ps (Each-back IsSpelled (param_tokens p) (more_tokens ps) written)))
+      (closed-append (param_text p) (tokens_text (more_tokens ps))
+      (λ rest depth. param-passes p (Each-front IsSpelled (param_tokens p) (more_tokens ps) written) rest (suc depth))
+      (more-pass ps (Each-back IsSpelled (param_tokens p) (more_tokens ps) written)))
 
   more-pass : (ps : Params) → Each IsSpelled (more_tokens ps) → PassesClosed (tokens_text (more_tokens ps))
   more-pass no_params written rest depth = omega arith
   more-pass (param p ps) written rest depth =
       let all : PassesClosed (tokens_text (param_tokens p ++ more_tokens ps)) =
       subst PassesClosed (sym (tokens_text-append (param_tokens p) (more_tokens ps)))
-      (closed-append (param_text p) (tokens_text (more_tokens ps)) (λ rest depth. param-passes p (Each-front IsSpelled (param_tokens p) (more_tokens ps) written.1) rest (suc depth)) (more-pass ps (Each-back IsSpelled (param_tokens p) (more_tokens ps) written.1))) in
+      (closed-append (param_text p) (tokens_text (more_tokens ps))
+      (λ rest depth. param-passes p (Each-front IsSpelled (param_tokens p) (more_tokens ps) written.1) rest (suc depth))
+      (more-pass ps (Each-back IsSpelled (param_tokens p) (more_tokens ps) written.1))) in
       let more = all rest depth in
       omega (arith, more)
 
 -- a value ends where its parameter does
-pub value_ends : (bytes : List ℕ) (p : Param) (rest : List ℕ) → IsWritten p → EndsValue rest → bytes ≡ param_text p ++ rest → size_within bytes false 0 ≡ length (param_text p)
-value_ends bytes p rest written ends e = subst (λ (xs : List ℕ). size_within xs false 0 ≡ length (param_text p)) (sym e) (at_end rest ends (param-passes p written rest 0))
+pub value_ends : (bytes : List ℕ) (p : Param) (rest : List ℕ) → IsWritten p → EndsValue rest → bytes ≡ param_text p ++ rest
+    → size_within bytes false 0 ≡ length (param_text p)
+value_ends bytes p rest written ends e = subst (λ (xs : List ℕ). size_within xs false 0 ≡ length (param_text p)) (sym e)
+    (at_end rest ends (param-passes p written rest 0))
   where
     at_end : (rest : List ℕ) → EndsValue rest
         → size_within (param_text p ++ rest) false 0 ≡ length (param_text p) + size_within rest false 0

@@ -26,7 +26,8 @@ some-size byte more closing comma = by_quote (eqb byte 39) refl
 comma-size : (byte : ℕ) (more : List ℕ) → byte ≡ 44 → size_within (byte ∷ more) false 0 ≡ 0
 comma-size byte more is = rw is refl
 
-pub shortened : (bytes rest : List ℕ) (size : ℕ) → is_at_end bytes ≡ false → size ≡ size_within bytes false 0 → rest ≡ behind_comma (drop size bytes) → length rest < length bytes
+pub shortened : (bytes rest : List ℕ) (size : ℕ) → is_at_end bytes ≡ false → size ≡ size_within bytes false 0
+    → rest ≡ behind_comma (drop size bytes) → length rest < length bytes
 shortened [] rest size ends is rest_is = absurd (true≢false ends)
 shortened (byte ∷ more) rest size ends is rest_is = by_comma (eqb byte 44) refl
   where
@@ -37,7 +38,8 @@ shortened (byte ∷ more) rest size ends is rest_is = by_comma (eqb byte 44) ref
         omega (arith, left)
     by_comma false e =
         let (k, some) = some-size byte more ends e in
-        let left : length rest ≡ length (behind_comma (drop k more)) = ap length (rest_is ∙ ap (λ n. behind_comma (drop n (byte ∷ more))) (is ∙ some)) in
+        let left : length rest ≡ length (behind_comma (drop k more)) =
+        ap length (rest_is ∙ ap (λ n. behind_comma (drop n (byte ∷ more))) (is ∙ some)) in
         let short = behind-short (drop k more) in
         let long : length (drop k more) ≡ length more - k = length-drop k more in
         omega (arith, left, short, long)

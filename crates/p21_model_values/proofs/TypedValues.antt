@@ -28,7 +28,8 @@ left-no_byte (inl (inl h)) = omega (arith, h)
 left-no_byte (inl (inr h)) = omega (arith, h)
 left-no_byte (inr h) = omega (arith, h)
 
-pub typed-at : (bytes word : List ℕ) (p : Param) → IsTextOf bytes (typed (key_of word) p) → IsTokenAt bytes (token.keyword word) (40 ∷ (param_text p ++ (41 ∷ [])))
+pub typed-at : (bytes word : List ℕ) (p : Param) → IsTextOf bytes (typed (key_of word) p)
+    → IsTokenAt bytes (token.keyword word) (40 ∷ (param_text p ++ (41 ∷ [])))
 typed-at bytes word p text = record {
   bytes_are = text.bytes_are ∙ typed-is (key_of word) p;
   spells = (refl, text.written.0.1.1);
@@ -41,7 +42,8 @@ pub record IsTypedAt (word found behind : List ℕ) (p : Param) : Type 0 where
   pub behind_is : behind ≡ 40 ∷ (param_text p ++ (41 ∷ []))
   pub written : IsWritten p
 
-pub typed-once : (bytes word found behind : List ℕ) (p : Param) → IsTextOf bytes (typed (key_of word) p) → IsTokenAt bytes (token.keyword found) behind → IsTypedAt word found behind p
+pub typed-once : (bytes word found behind : List ℕ) (p : Param) → IsTextOf bytes (typed (key_of word) p)
+    → IsTokenAt bytes (token.keyword found) behind → IsTypedAt word found behind p
 typed-once bytes word found behind p text at =
     let (same, rest) = keyword-once bytes found word behind (40 ∷ (param_text p ++ (41 ∷ []))) at (typed-at bytes word p text) in
     record { word_is = same; behind_is = rest; written = Each-front IsSpelled (param_tokens p) (token.right ∷ []) text.written.1.1 }
@@ -52,14 +54,16 @@ typed-long word found behind p is =
     let all = length-append (param_text p) (41 ∷ []) in
     omega (arith, long, all)
 
-pub typed-inside : (word found behind : List ℕ) (p : Param) → IsTypedAt word found behind p → (found ≡ word) × IsTextOf (take (length behind - 1 - 1) (drop 1 behind)) p
+pub typed-inside : (word found behind : List ℕ) (p : Param) → IsTypedAt word found behind p
+    → (found ≡ word) × IsTextOf (take (length behind - 1 - 1) (drop 1 behind)) p
 typed-inside word found behind p is =
     let inside = param_text p in
     let long : length behind ≡ length (40 ∷ (inside ++ (41 ∷ []))) = ap length is.behind_is in
     let all = length-append inside (41 ∷ []) in
     let size : length behind - 1 - 1 ≡ length inside = omega (arith, long, all) in
     let text : take (length behind - 1 - 1) (drop 1 behind) ≡ inside =
-    ap (λ n. take n (drop 1 behind)) size ∙ ap (λ (xs : List ℕ). take (length inside) (drop 1 xs)) is.behind_is ∙ take-append_seam inside (41 ∷ []) in
+    ap (λ n. take n (drop 1 behind)) size ∙ ap (λ (xs : List ℕ). take (length inside) (drop 1 xs)) is.behind_is
+    ∙ take-append_seam inside (41 ∷ []) in
     (is.word_is, record { written = is.written; bytes_are = text })
 
 -- ---- references

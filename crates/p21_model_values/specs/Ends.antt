@@ -13,7 +13,8 @@ size_within (byte ∷ bytes) true depth = cond (nat_eq byte 39) (suc (size_withi
 size_within (byte ∷ bytes) false depth =
     cond (nat_eq byte 39) (suc (size_within bytes true depth)) (cond (nat_eq byte 40) (suc (size_within bytes false (suc depth)))
     (cond (nat_eq byte 41) (elim depth [ zero ↦ 0 | suc k ↦ suc (size_within bytes false k) ])
-    (cond (nat_eq byte 44) (elim depth [ zero ↦ 0 | suc k ↦ suc (size_within bytes false (suc k)) ]) (suc (size_within bytes false depth)))))
+    (cond (nat_eq byte 44) (elim depth [ zero ↦ 0 | suc k ↦ suc (size_within bytes false (suc k)) ])
+    (suc (size_within bytes false depth)))))
 
 -- the values in parentheses are at their end
 abbrev pub is_at_end : List ℕ → Bool
@@ -31,5 +32,7 @@ has_point bytes = list_any (λ byte. nat_eq byte 46) bytes
 -- what a value is by the first byte of its text, and by whether a point stands in it
 abbrev pub kind_by : ℕ → Bool → Kind
 kind_by byte point =
-    cond (nat_eq byte 36) kind.Missing (cond (nat_eq byte 42) kind.Derived (cond (nat_eq byte 39) kind.Text (cond (nat_eq byte 46) kind.Item (cond (nat_eq byte 34) kind.Bits
-    (cond (nat_eq byte 35) kind.Reference (cond (nat_eq byte 40) kind.Aggregate (cond (nat_eq byte 45 || is_digit byte) (cond point kind.Real kind.Whole) kind.Typed)))))))
+    cond (nat_eq byte 36) kind.Missing (cond (nat_eq byte 42) kind.Derived
+    (cond (nat_eq byte 39) kind.Text (cond (nat_eq byte 46) kind.Item (cond (nat_eq byte 34) kind.Bits
+    (cond (nat_eq byte 35) kind.Reference (cond (nat_eq byte 40) kind.Aggregate
+    (cond (nat_eq byte 45 || is_digit byte) (cond point kind.Real kind.Whole) kind.Typed)))))))

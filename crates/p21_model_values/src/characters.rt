@@ -18,7 +18,8 @@ pub struct Characters<'a> {
 impl<'a> Characters<'a> {
     /// The next character. It takes no memory.
     pub fn next(&mut self) -> Option<char>
-        ensures handed { (characters : List ℕ) → AreLeftCharacters characters self.old.rest.now → HandsOutCharacter characters result self.new.rest.now }
+        ensures handed { (characters : List ℕ) → AreLeftCharacters characters self.old.rest.now
+            → HandsOutCharacter characters result self.new.rest.now }
         ensures shorter { IfSome result (λ character. length self.new.rest.now < length self.old.rest.now) }
     {
         let Some((character, rest)) = leading_character(self.rest) else {
@@ -102,7 +103,8 @@ fn grouped_character(width: usize, bytes: &[u8]) -> Option<(char, &[u8])>
 /// The character that hex digits stand for, if they stand for one.
 fn hex_character(digits: &[u8]) -> Option<char>
     requires { length digits.now ≤ 8 }
-    ensures { (character : ℕ) → IsScalar character → character < 16 ^ length digits.now → digits.now ≡ hex_digits (length digits.now) character → result ≡ Some character }
+    ensures { (character : ℕ) → IsScalar character → character < 16 ^ length digits.now
+        → digits.now ≡ hex_digits (length digits.now) character → result ≡ Some character }
 {
     let Some(code) = hex_number(digits) else {
         return None;

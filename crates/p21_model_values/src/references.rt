@@ -35,7 +35,8 @@ impl<'a> References<'a> {
 /// What stands behind the first `#` outside of strings.
 fn behind_mark(bytes: &[u8]) -> Option<&[u8]>
     ensures shorter { IfSome result (λ behind. length behind.now < length bytes.now) }
-    ensures names { MatchOption result (names_in bytes.now false ≡ []) (λ behind. names_in bytes.now false ≡ leading_number behind.now ∷ names_in behind.now false) }
+    ensures names { MatchOption result (names_in bytes.now false ≡ [])
+        (λ behind. names_in bytes.now false ≡ leading_number behind.now ∷ names_in behind.now false) }
 {
     let mut quoted = false;
     for at in 0..bytes.len() {

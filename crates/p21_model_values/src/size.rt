@@ -18,7 +18,8 @@ struct Within {
 pub(crate) fn value_size(bytes: &[u8]) -> usize
     ensures within { result ≤ length bytes.now }
     ensures counted { result ≡ size_within bytes.now false 0 }
-    ensures size { (p : Param) (rest : List ℕ) → IsWritten p → EndsValue rest → bytes.now ≡ param_text p ++ rest → result ≡ length (param_text p) }
+    ensures size { (p : Param) (rest : List ℕ) → IsWritten p → EndsValue rest → bytes.now ≡ param_text p ++ rest
+        → result ≡ length (param_text p) }
 {
     size_to_end(bytes)
 }
@@ -46,7 +47,8 @@ fn size_to_end(bytes: &[u8]) -> usize
 fn behind_byte(byte: u8, within: Within) -> Option<Within>
     requires { within.depth + 1 < 2 ^ 64 }
     ensures few { IfSome result (λ next. next.depth ≤ within.depth + 1) }
-    ensures size { (rest : List ℕ) → MatchOption result (size_within (byte ∷ rest) within.quoted within.depth ≡ 0) (λ next. size_within (byte ∷ rest) within.quoted within.depth ≡ suc (size_within rest next.quoted next.depth)) }
+    ensures size { (rest : List ℕ) → MatchOption result (size_within (byte ∷ rest) within.quoted within.depth ≡ 0)
+        (λ next. size_within (byte ∷ rest) within.quoted within.depth ≡ suc (size_within rest next.quoted next.depth)) }
 {
     let Within { quoted, depth } = within;
     if byte == b'\'' {

@@ -60,7 +60,8 @@ impl<'a> Value<'a> {
     /// The keyword and the value of a value that stands with the keyword of its type; nothing where the value is none such. It
     /// takes no memory.
     pub fn typed(self) -> Option<(&'a [u8], Value<'a>)>
-        ensures { (word : List ℕ) (p : Param) → IsTextOf self.entry.text.now (typed (key_of word) p) → MatchOption result ⊥ (λ found. (found.0.now ≡ word) × IsTextOf found.1.text.now p) }
+        ensures { (word : List ℕ) (p : Param) → IsTextOf self.entry.text.now (typed (key_of word) p)
+            → MatchOption result ⊥ (λ found. (found.0.now ≡ word) × IsTextOf found.1.text.now p) }
     {
         let (word, behind) = scan_keyword(self.text)?;
         if behind.len() < 2 {
@@ -121,7 +122,8 @@ impl<'a> Value<'a> {
 
     /// The names of instances in the value, at any depth, in the order of its text. It takes no memory.
     pub fn references(self) -> References<'a>
-        ensures { (p : Param) → IsTextOf self.entry.text.now p → (names_in result.rest.now false ≡ param_references p) × Each (λ n. n < 2 ^ 64) (param_references p) }
+        ensures { (p : Param) → IsTextOf self.entry.text.now p
+            → (names_in result.rest.now false ≡ param_references p) × Each (λ n. n < 2 ^ 64) (param_references p) }
     {
         References { rest: self.text }
     }

@@ -13,7 +13,8 @@ use Rattle.p21_spec_schema.specs.Schema.{Schema}
 use Rattle.p21_canon.specs.Statement.{IsCanonicalStatement}
 
 -- the instance of this name, which means this and stands in a section with this heading, as it is stored under its new name
-pub record IsEntryUnder (s : Schema) (f : ℕ → ℕ) (headings : List Heading) (n : ℕ) (x : Typed) (h : Heading) (e : StoredEntry) : Type 0 where
+pub record IsEntryUnder (s : Schema) (f : ℕ → ℕ) (headings : List Heading) (n : ℕ) (x : Typed) (h : Heading) (e : StoredEntry) : Type
+    0 where
   pub name_is : e.name ≡ f n
   pub in_section : slice_get headings e.section ≡ Some h
   pub line_is : IsCanonicalStatement s (f n) (renamed_typed f x) e.text
@@ -25,4 +26,5 @@ pub record IsKeptUnder (s : Schema) (m : FileMeaning) (f : ℕ → ℕ) (kept : 
   pub onto : (n : ℕ) (x : Typed) (h : Heading) → Contains m.instances (n, x) → Contains m.instance_sections (n, h)
       → (e : StoredEntry) × Contains kept.stored e × IsEntryUnder s f kept.headings n x h e
   pub back : (e : StoredEntry) → Contains kept.stored e
-      → (n : ℕ) × (x : Typed) × (h : Heading) × Contains m.instances (n, x) × Contains m.instance_sections (n, h) × IsEntryUnder s f kept.headings n x h e
+      → (n : ℕ) × (x : Typed) × (h : Heading) × Contains m.instances (n, x) × Contains m.instance_sections (n, h)
+      × IsEntryUnder s f kept.headings n x h e

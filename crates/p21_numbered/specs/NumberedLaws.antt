@@ -43,7 +43,8 @@ KeptIsOnlyRenamed =
 -- decided, the order counts copies in one sequence, and the text and its lines are within the limits
 abbrev pub KeptIsNumbered : Type 0
 KeptIsNumbered =
-    (s : Schema) → IsWellFormed s → (limits : Limits) (bytes : List ℕ) (m : FileMeaning) → Means s limits bytes m → length m.instances < 2 ^ 64
+    (s : Schema) → IsWellFormed s → (limits : Limits) (bytes : List ℕ) (m : FileMeaning) → Means s limits bytes m
+    → length m.instances < 2 ^ 64
     → (ranking : Ranking) → IsDecided ranking m → (order : List ℕ) → IsAligned ranking m order
     → (kept : Kept) → IsKeptUnder s m (number_in order) kept → (blocks : List Block) → AreBlocksOf kept blocks
     → length (text_with_header kept.header blocks) ≤ limits.file_canonical
@@ -53,7 +54,8 @@ KeptIsNumbered =
 -- and no other text is: so where it isn't within the limits, the file has no numbered file within them
 abbrev pub KeptIsOnlyNumbered : Type 0
 KeptIsOnlyNumbered =
-    (s : Schema) → IsWellFormed s → (limits : Limits) (bytes : List ℕ) (m : FileMeaning) → Means s limits bytes m → length m.instances < 2 ^ 64
+    (s : Schema) → IsWellFormed s → (limits : Limits) (bytes : List ℕ) (m : FileMeaning) → Means s limits bytes m
+    → length m.instances < 2 ^ 64
     → (ranking : Ranking) → IsDecided ranking m → (order : List ℕ) → IsAligned ranking m order
     → (kept : Kept) → IsKeptUnder s m (number_in order) kept → (blocks : List Block) → AreBlocksOf kept blocks
     → (numbered : List ℕ) → IsNumberedFile s limits ranking bytes numbered

@@ -16,17 +16,20 @@ use Rattle.p21_numbering.specs.Ranked.{AreRanked, IsLoose, Ranked, name_of, rank
 use Rattle.p21_numbering.proofs.Decisions.{ArePairs, at-one, decided-so, member, not-in_one_part, not-said_alike, own, part, part-at, stands}
 use Rattle.p21_numbering.proofs.SortedCopies.{clashing, name-at, name-is, names-ascend, names-once, names-rise, told}
 
-module _ (s : Schema) (formed : IsWellFormed s) (bytes : List ℕ) (m : FileMeaning) (reads : Reads s bytes m) (ranking : Ranking) (all : List Ranked) (are : AreRanked s ranking m all) where
+module _ (s : Schema) (formed : IsWellFormed s) (bytes : List ℕ) (m : FileMeaning) (reads : Reads s bytes m) (ranking : Ranking)
+    (all : List Ranked) (are : AreRanked s ranking m all) where
   -- another name of the rank of one that is loose
   pub loose-alike : (k : ℕ) (low : k < length all) (t : ℕ × ℕ) → (ranked_at all k).loose ≡ Some t → (other : ℕ)
-      → ((j : ℕ) → j < length all → (ranked_at all j).rank ≡ t.1 → name_of all j ≢ t.0 → (i : ℕ) × (i < length all) × (name_of all i ≡ other) × ((ranked_at all i).rank ≡ t.1) × (other ≢ t.0))
+      → ((j : ℕ) → j < length all → (ranked_at all j).rank ≡ t.1 → name_of all j ≢ t.0
+      → (i : ℕ) × (i < length all) × (name_of all i ≡ other) × ((ranked_at all i).rank ≡ t.1) × (other ≢ t.0))
       → AreAlike ranking m t.0 other
   loose-alike k low t is other finds =
       let r = are.each k low in
       let P : Option (ℕ × ℕ) → Type 0 = λ o. IsLoose ranking m (name_of all k) r.typed o in
       let (among, (j, at_j, differ_, one), rank_, not_) = subst P is r.loose_is in
       let there = stands s formed bytes m reads ranking all are j at_j in
-      let same_rank : (ranked_at all there.at).rank ≡ t.1 = (are.each there.at there.low).rank_is ∙ ap (ranking m) there.is ∙ one ∙ sym rank_ in
+      let same_rank : (ranked_at all there.at).rank ≡ t.1 = (are.each there.at there.low).rank_is ∙ ap (ranking m) there.is ∙ one
+      ∙ sym rank_ in
       let (i, low_i, is_i, rank_i, other_) = finds there.at there.low same_rank (λ same. differ_ (sym there.is ∙ same)) in
       let Q : ℕ → Type 0 = λ n. Contains (names m) n in
       record {
@@ -37,13 +40,17 @@ module _ (s : Schema) (formed : IsWellFormed s) (bytes : List ℕ) (m : FileMean
         not_decided = not_;
       }
 
-  module _ (pairs : List (ℕ × ℕ)) (are_pairs : ArePairs all pairs) (parts : List ℕ) (joined : (p : ℕ × ℕ) → Contains pairs p → number_at parts p.0 ≡ number_at parts p.1) (connected : (j k : ℕ) → j < length all → k < length all → number_at parts j ≡ number_at parts k → Connected pairs j k) (sorted : List Entry) (permuted : IsPermutation (entries_of all parts) sorted) where
+  module _ (pairs : List (ℕ × ℕ)) (are_pairs : ArePairs all pairs) (parts : List ℕ)
+      (joined : (p : ℕ × ℕ) → Contains pairs p → number_at parts p.0 ≡ number_at parts p.1)
+      (connected : (j k : ℕ) → j < length all → k < length all → number_at parts j ≡ number_at parts k → Connected pairs j k)
+      (sorted : List Entry) (permuted : IsPermutation (entries_of all parts) sorted) where
     -- two neighbours that clash
     pub clash-alike : (found : ℕ × ℕ) → FindsClash all sorted (Some found) → AreAlike ranking m (name_of all found.0) (name_of all found.1)
     clash-alike found finds =
         let c = clashing all parts sorted permuted found finds in
         let not_decided_ : ¬ IsDecided ranking m = elim c.why [
-          | inl same ↦ not-in_one_part s formed bytes m reads ranking all are pairs are_pairs parts joined connected found.0 found.1 c.low c.low_other c.differ c.one_rank same
+          | inl same ↦ not-in_one_part s formed bytes m reads ranking all are pairs are_pairs parts joined connected found.0 found.1 c.low
+              c.low_other c.differ c.one_rank same
           | inr other ↦ not-said_alike s formed bytes m reads ranking all are found.0 found.1 c.low c.low_other c.differ c.one_rank other
         ] in
         record {
@@ -61,7 +68,8 @@ module _ (s : Schema) (formed : IsWellFormed s) (bytes : List ℕ) (m : FileMean
     pub ordered-so : ((k : ℕ) → k < length all → (ranked_at all k).loose ≡ None) → IsSorted entry_cmp sorted → FindsClash all sorted None
         → IsDecided ranking m × IsAligned ranking m (map (λ (e : Entry). name_of all e.2) sorted)
     ordered-so none in_order no_clash =
-        decided-so s formed bytes m reads ranking all are pairs are_pairs parts joined none (told all parts sorted permuted in_order no_clash) (map (λ (e : Entry). name_of all e.2) sorted) is
+        decided-so s formed bytes m reads ranking all are pairs are_pairs parts joined none
+        (told all parts sorted permuted in_order no_clash) (map (λ (e : Entry). name_of all e.2) sorted) is
         (names-rise all parts sorted permuted in_order (ranking m) part_ rank_is part_is no_clash)
       where
         rank_is : (k : ℕ) → k < length all → (ranked_at all k).rank ≡ ranking m (name_of all k)
@@ -72,7 +80,8 @@ module _ (s : Schema) (formed : IsWellFormed s) (bytes : List ℕ) (m : FileMean
 
         is : IsOrder ranking m (map (λ (e : Entry). name_of all e.2) sorted)
         is = record {
-          once = none_twice-distinct (map (λ (e : Entry). name_of all e.2) sorted) (names-once all parts sorted permuted (own s formed bytes m reads ranking all are));
+          once = none_twice-distinct (map (λ (e : Entry). name_of all e.2) sorted)
+              (names-once all parts sorted permuted (own s formed bytes m reads ranking all are));
           all = λ n. (
             λ among.
                 let there = stands s formed bytes m reads ranking all are n among in

@@ -12,7 +12,8 @@ pub Contains-range : (n m : ℕ) → m < n → Contains (range_with_len 0 n) m
 Contains-range n m low =
     let P : ℕ → Type 0 = λ k. Contains (range_with_len 0 n) k in
     let none : 0 + m ≡ m = omega arith in
-    subst P (get_or-range_with_len 0 n m 0 low ∙ none) (Contains-get_or (range_with_len 0 n) m 0 (omega (arith, low, length-range_with_len 0 n)))
+    subst P (get_or-range_with_len 0 n m 0 low ∙ none)
+    (Contains-get_or (range_with_len 0 n) m 0 (omega (arith, low, length-range_with_len 0 n)))
 
 range-bounds : (a n m : ℕ) → Contains (range_with_len a n) m → (a ≤ m) × (m < a + n)
 range-bounds a zero m among = absurd (Contains-none m among)
@@ -41,7 +42,8 @@ none-counted p (x ∷ xs) none =
 pub some-counted : {X : Type 0} (p : X → Bool) (xs : List X) (x : X) → Contains xs x → p x ≡ true → 0 < how_many p xs
 some-counted p [] x among pass = absurd (Contains-none x among)
 some-counted {X} p (y ∷ ys) x among pass = elim (Contains-cases y ys x among) [
-  | inl same ↦ (let P : X → Type 0 = λ z. p z ≡ true in let first : ◌≡◌ {A = ℕ} (cond (p y) 1 0) 1 = ap (λ (b : Bool). cond b 1 0) (subst P (sym same) pass) in omega (arith, first))
+  | inl same ↦ (let P : X → Type 0 = λ z. p z ≡ true in let first : ◌≡◌ {A = ℕ} (cond (p y) 1 0) 1 =
+      ap (λ (b : Bool). cond b 1 0) (subst P (sym same) pass) in omega (arith, first))
   | inr later ↦ (let rest = some-counted p ys x later pass in omega (arith, rest))
 ]
 

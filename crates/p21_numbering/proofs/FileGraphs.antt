@@ -41,12 +41,14 @@ module _ (s : Schema) (m : FileMeaning) (whole_ : IsWhole m) (nodes : List Node)
   pub file-graph : IsGraph (graph_of s m) nodes
   file-graph = record {
     names_are = are.names_are;
-    differ = Shuffled-none_twice (names m) (names_of nodes) (Shuffled-symmetric (names_of nodes) (names m) are.names_are) (names-none_twice m whole_);
+    differ = Shuffled-none_twice (names m) (names_of nodes) (Shuffled-symmetric (names_of nodes) (names m) are.names_are)
+        (names-none_twice m whole_);
     labels = λ j k low low_.
         let label : ℕ → List (List ℕ) = λ i. (graph_of s m).label (name_at nodes i) in
         ap is_lt (sym (rows-compare (label j) (label k)))
         ∙ ap (λ (x : List ℕ). is_below x (row_of_texts (label k))) (sym (label-row j low))
         ∙ ap (is_below (node_at nodes j).label) (sym (label-row k low_));
     places = λ j k low low_. let is = are.each j low in
-        places-is s m whole_ (name_at nodes j) (name_at nodes k) is.typed is.instance ∙ ap (λ (us : List Use). places_to (name_at nodes k) us) (sym is.uses_are);
+        places-is s m whole_ (name_at nodes j) (name_at nodes k) is.typed is.instance
+        ∙ ap (λ (us : List Use). places_to (name_at nodes k) us) (sym is.uses_are);
   }

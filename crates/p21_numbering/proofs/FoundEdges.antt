@@ -14,8 +14,10 @@ use Rattle.p21_numbering.specs.Rows.{rank_among}
 use Rattle.p21_numbering.proofs.Counts.{Contains-range, range-below}
 use Rattle.p21_numbering.proofs.RankedRows.{rank-sorted}
 
-pub edges-are : (nodes : List Node) (found : BTreeMap ℕ ℕ) → FindsNames found nodes → (sorted : List (List ℕ)) → sorted ≡ sort_texts (places_of nodes)
-    → (all es : List Edge) → all ≡ flat_map (edges_from found sorted nodes) (range_with_len 0 (length nodes)) → ((e : Edge) → Contains es e ↔ Contains all e) → AreEdges nodes es
+pub edges-are : (nodes : List Node) (found : BTreeMap ℕ ℕ) → FindsNames found nodes → (sorted : List (List ℕ))
+    → sorted ≡ sort_texts (places_of nodes)
+    → (all es : List Edge) → all ≡ flat_map (edges_from found sorted nodes) (range_with_len 0 (length nodes))
+    → ((e : Edge) → Contains es e ↔ Contains all e) → AreEdges nodes es
 edges-are nodes found finds sorted is all es all-is members = record { sound = sound; complete = complete }
   where
     from : ℕ → List Edge
@@ -25,9 +27,11 @@ edges-are nodes found finds sorted is all es all-is members = record { sound = s
     numbered p = ap (λ (ps : List (List ℕ)). rank_among ps p) is ∙ rank-sorted (places_of nodes) p
 
     IsSound : Edge → Type 0
-    IsSound e = (e.0 < length nodes) × (e.1 < length nodes) × ((u : Use) × Contains (node_at nodes e.0).uses u × (name_at nodes e.1 ≡ u.1) × (e.2 ≡ number nodes u.0))
+    IsSound e = (e.0 < length nodes) × (e.1 < length nodes)
+        × ((u : Use) × Contains (node_at nodes e.0).uses u × (name_at nodes e.1 ≡ u.1) × (e.2 ≡ number nodes u.0))
 
-    one : (k : ℕ) (u : Use) (e : Edge) → k < length nodes → Contains (node_at nodes k).uses u → (o : Option ℕ) → get nat_cmp found u.1 ≡ o → Contains (edge_to k (rank_among sorted u.0) o) e → IsSound e
+    one : (k : ℕ) (u : Use) (e : Edge) → k < length nodes → Contains (node_at nodes k).uses u → (o : Option ℕ) → get nat_cmp found u.1 ≡ o
+        → Contains (edge_to k (rank_among sorted u.0) o) e → IsSound e
     one k u e low inside None at among = absurd (Contains-none e among)
     one k u e low inside (Some other) at among = elim (Contains-cases (k, other, rank_among sorted u.0) [] e among) [
       | inl same ↦
@@ -55,9 +59,13 @@ edges-are nodes found finds sorted is all es all-is members = record { sound = s
         by (Some k) at =
             let (low_, leads) = finds.right u.1 k at in
             let made : Contains (edge_to j (rank_among sorted u.0) (get nat_cmp found u.1)) (j, k, rank_among sorted u.0) =
-            let P : Option ℕ → Type 0 = λ o. Contains (edge_to j (rank_among sorted u.0) o) (j, k, rank_among sorted u.0) in subst P (sym at) (Contains-first (j, k, rank_among sorted u.0) []) in
-            let own : Contains (from j) (j, k, rank_among sorted u.0) = Contains-flat_map (edge_of found sorted j) (node_at nodes j).uses u (j, k, rank_among sorted u.0) inside made in
-            let among : Contains (flat_map from (range_with_len 0 (length nodes))) (j, k, rank_among sorted u.0) = Contains-flat_map from (range_with_len 0 (length nodes)) j (j, k, rank_among sorted u.0) (Contains-range (length nodes) j low) own in
+            let P : Option ℕ → Type 0 = λ o. Contains (edge_to j (rank_among sorted u.0) o) (j, k, rank_among sorted u.0) in
+            subst P (sym at) (Contains-first (j, k, rank_among sorted u.0) []) in
+            let own : Contains (from j) (j, k, rank_among sorted u.0) =
+            Contains-flat_map (edge_of found sorted j) (node_at nodes j).uses u (j, k, rank_among sorted u.0) inside made in
+            let among : Contains (flat_map from (range_with_len 0 (length nodes))) (j, k, rank_among sorted u.0) =
+            Contains-flat_map from (range_with_len 0 (length nodes)) j (j, k, rank_among sorted u.0)
+            (Contains-range (length nodes) j low) own in
             let P : List Edge → Type 0 = λ fs. Contains fs (j, k, rank_among sorted u.0) in
             let Q : ℕ → Type 0 = λ i. Contains es (j, k, i) in
             (k, low_, leads, subst Q (numbered u.0) ((members (j, k, rank_among sorted u.0)).1 (subst P (sym all-is) among)))

@@ -15,7 +15,8 @@ use Rattle.p21_numbering.specs.Ranked.{Ranked, name_of, names_of, no_instance, r
 use Rattle.p21_numbering.proofs.Counts.{Contains-range, range-below}
 use Rattle.p21_numbering.proofs.Decisions.{ArePairs, once-at}
 
-module _ (all : List Ranked) (found : BTreeMap ℕ ℕ) (finds : FindsNames found (map named_node all)) (pairs : List (ℕ × ℕ)) (is : pairs ≡ flat_map (pairs_from found all) (range_with_len 0 (length all))) where
+module _ (all : List Ranked) (found : BTreeMap ℕ ℕ) (finds : FindsNames found (map named_node all)) (pairs : List (ℕ × ℕ))
+    (is : pairs ≡ flat_map (pairs_from found all) (range_with_len 0 (length all))) where
   long : length (map named_node all) ≡ length all
   long = length-map all named_node
 
@@ -25,7 +26,8 @@ module _ (all : List Ranked) (found : BTreeMap ℕ ℕ) (finds : FindsNames foun
   abbrev IsSound : ℕ × ℕ → Type 0
   IsSound p = (p.0 < length all) × (p.1 < length all) × Contains (ranked_at all p.0).beside (name_of all p.1)
 
-  one : (k t : ℕ) (p : ℕ × ℕ) → k < length all → Contains (ranked_at all k).beside t → (o : Option ℕ) → get nat_cmp found t ≡ o → Contains (pair_to k o) p → IsSound p
+  one : (k t : ℕ) (p : ℕ × ℕ) → k < length all → Contains (ranked_at all k).beside t → (o : Option ℕ) → get nat_cmp found t ≡ o
+      → Contains (pair_to k o) p → IsSound p
   one k t p low inside None at among = absurd (Contains-none p among)
   one k t p low inside (Some other) at among = elim (Contains-cases (k, other) [] p among) [
     | inl same ↦
@@ -44,9 +46,11 @@ module _ (all : List Ranked) (found : BTreeMap ℕ ℕ) (finds : FindsNames foun
       let (t, inside, pair) = Contains-one_of (pair_of found k) (ranked_at all k).beside p from in
       one k t p (range-below (length all) k at) inside (get nat_cmp found t) refl pair
 
-  to : NoneTwice (names_of all) → (j k : ℕ) → k < length all → (o : Option ℕ) → get nat_cmp found (name_of all k) ≡ o → Contains (pair_to j o) (j, k)
+  to : NoneTwice (names_of all) → (j k : ℕ) → k < length all → (o : Option ℕ) → get nat_cmp found (name_of all k) ≡ o
+      → Contains (pair_to j o) (j, k)
   to own j k low None at =
-      absurd (finds.all (name_of all k) at (Contains-mapped (λ (n : Node). n.name) (map named_node all) (named_node (ranked_at all k)) (Contains-mapped named_node all (ranked_at all k) (Contains-get_or all k no_instance low))))
+      absurd (finds.all (name_of all k) at (Contains-mapped (λ (n : Node). n.name) (map named_node all) (named_node (ranked_at all k))
+      (Contains-mapped named_node all (ranked_at all k) (Contains-get_or all k no_instance low))))
   to own j k low (Some other) at =
       let (low_, leads) = finds.right (name_of all k) other at in
       let below : other < length all = omega (arith, low_, long) in
@@ -60,5 +64,7 @@ module _ (all : List Ranked) (found : BTreeMap ℕ ℕ) (finds : FindsNames foun
       complete : (j k : ℕ) → j < length all → k < length all → Contains (ranked_at all j).beside (name_of all k) → Contains pairs (j, k)
       complete j k low low_ beside =
           let P : List (ℕ × ℕ) → Type 0 = λ ps. Contains ps (j, k) in
-          subst P (sym is) (Contains-flat_map (pairs_from found all) (range_with_len 0 (length all)) j (j, k) (Contains-range (length all) j low)
-          (Contains-flat_map (pair_of found j) (ranked_at all j).beside (name_of all k) (j, k) beside (to own j k low_ (get nat_cmp found (name_of all k)) refl)))
+          subst P (sym is) (Contains-flat_map (pairs_from found all) (range_with_len 0 (length all)) j (j, k)
+          (Contains-range (length all) j low)
+          (Contains-flat_map (pair_of found j) (ranked_at all j).beside (name_of all k) (j, k) beside
+          (to own j k low_ (get nat_cmp found (name_of all k)) refl)))

@@ -26,18 +26,22 @@ earlier j k low other = elim (cases_eq j k) [
   | inr differ ↦ omega (arith, low, differ)
 ]
 
-pub get-more : (before after : BTreeMap ℕ ℕ) (ns : List ℕ) (new : ℕ → ℕ) (k : ℕ) → k < length ns → Updates nat_cmp before after (get_or ns k 0) (Some (new k)) → GetBelow before ns new k → GetBelow after ns new (k + 1)
+pub get-more : (before after : BTreeMap ℕ ℕ) (ns : List ℕ) (new : ℕ → ℕ) (k : ℕ) → k < length ns
+    → Updates nat_cmp before after (get_or ns k 0) (Some (new k)) → GetBelow before ns new k → GetBelow after ns new (k + 1)
 get-more before after ns new k low updates so_far once j below = elim (cases_eq (get_or ns j 0) (get_or ns k 0)) [
   | inl same ↦
-      let at : j ≡ k = once-at (λ n. n) 0 ns (let P : List ℕ → Type 0 = λ xs. NoneTwice xs in subst P (sym (map-same ns)) once) j k (omega (arith, below, low)) low same in
+      let at : j ≡ k = once-at (λ n. n) 0 ns (let P : List ℕ → Type 0 = λ xs. NoneTwice xs in subst P (sym (map-same ns)) once) j k
+      (omega (arith, below, low)) low same in
       ap (λ (o : Option ℕ). elim o [ Some n ↦ n | None ↦ 0 ]) (ap (get nat_cmp after) same ∙ updates.1) ∙ ap new (sym at)
   | inr differ ↦
-      ap (λ (o : Option ℕ). elim o [ Some n ↦ n | None ↦ 0 ]) (updates.2 (get_or ns j 0) (is_at-other (get_or ns k 0) (get_or ns j 0) differ))
+      ap (λ (o : Option ℕ). elim o [ Some n ↦ n | None ↦ 0 ])
+      (updates.2 (get_or ns j 0) (is_at-other (get_or ns k 0) (get_or ns j 0) differ))
       ∙ so_far once j (earlier j k below (λ same. differ (ap (λ i. get_or ns i 0) same)))
 ]
 
 -- where each position has its number, each name has that of the order
-pub numbers-given : (found : BTreeMap ℕ ℕ) (order : List ℕ) (k : ℕ) → GetBelow found order (λ j. j + 1) k → length order < k + 1 → IsDistinct nat_eq order
+pub numbers-given : (found : BTreeMap ℕ ℕ) (order : List ℕ) (k : ℕ) → GetBelow found order (λ j. j + 1) k → length order < k + 1
+    → IsDistinct nat_eq order
     → (n : ℕ) → Contains order n → new_name found n ≡ number_in order n
 numbers-given found order k given long once n among =
     let (low, same) = got order (position order n) n 0 (position-at order n among) in

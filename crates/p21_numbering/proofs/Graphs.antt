@@ -35,13 +35,15 @@ places_to-complete n us u among same =
     let at : List Use = filter (λ (v : Use). nat_eq v.1 n) us in
     let ps : List (List ℕ) = map (λ (v : Use). v.0) at in
     let kept : Contains at u = Contains-filter (λ (v : Use). nat_eq v.1 n) us u (eq-eqb u.1 n same) among in
-    Shuffled-members (once ps) (sort_texts (once ps)) (sorted-shuffled (once ps)) u.0 (members-once ps u.0 (Contains-mapped (λ (v : Use). v.0) at u kept))
+    Shuffled-members (once ps) (sort_texts (once ps)) (sorted-shuffled (once ps)) u.0
+    (members-once ps u.0 (Contains-mapped (λ (v : Use). v.0) at u kept))
 
 pub places_to-sound : (n : ℕ) (us : List Use) (p : List ℕ) → Contains (places_to n us) p → (u : Use) × Contains us u × (u.0 ≡ p) × (u.1 ≡ n)
 places_to-sound n us p among =
     let at : List Use = filter (λ (v : Use). nat_eq v.1 n) us in
     let ps : List (List ℕ) = map (λ (v : Use). v.0) at in
-    let inside : Contains ps p = once-members ps p (Shuffled-members (sort_texts (once ps)) (once ps) (Shuffled-symmetric (once ps) (sort_texts (once ps)) (sorted-shuffled (once ps))) p among) in
+    let inside : Contains ps p = once-members ps p (Shuffled-members (sort_texts (once ps)) (once ps)
+    (Shuffled-symmetric (once ps) (sort_texts (once ps)) (sorted-shuffled (once ps))) p among) in
     let (u, found, is) = Contains-unmapped (λ (v : Use). v.0) at p inside in
     (u, Contains-unfiltered (λ (v : Use). nat_eq v.1 n) us u found, is, eqb-true u.1 n (passes (λ (v : Use). nat_eq v.1 n) us u found))
 
@@ -60,11 +62,14 @@ name-among : (nodes : List Node) (k : ℕ) → k < length nodes → Contains (na
 name-among nodes k low = Contains-mapped (λ (n : Node). n.name) nodes (node_at nodes k) (Contains-get_or nodes k no_node low)
 
 -- each name stands at one position
-names-apart : (nodes : List Node) → NoneTwice (names nodes) → (j k : ℕ) → j < length nodes → k < length nodes → name_at nodes j ≡ name_at nodes k → j ≡ k
+names-apart : (nodes : List Node) → NoneTwice (names nodes) → (j k : ℕ) → j < length nodes → k < length nodes
+    → name_at nodes j ≡ name_at nodes k → j ≡ k
 names-apart [] none j k low low_ same = absurd (omega (arith, low))
 names-apart (n ∷ ns) none zero zero low low_ same = refl
-names-apart (n ∷ ns) none zero (suc k) low low_ same = let P : ℕ → Type 0 = λ x. Contains (names ns) x in absurd (none.0 (subst P (sym same) (name-among ns k (omega (arith, low_)))))
-names-apart (n ∷ ns) none (suc j) zero low low_ same = let P : ℕ → Type 0 = λ x. Contains (names ns) x in absurd (none.0 (subst P same (name-among ns j (omega (arith, low)))))
+names-apart (n ∷ ns) none zero (suc k) low low_ same = let P : ℕ
+    → Type 0 = λ x. Contains (names ns) x in absurd (none.0 (subst P (sym same) (name-among ns k (omega (arith, low_)))))
+names-apart (n ∷ ns) none (suc j) zero low low_ same = let P : ℕ
+    → Type 0 = λ x. Contains (names ns) x in absurd (none.0 (subst P same (name-among ns j (omega (arith, low)))))
 names-apart (n ∷ ns) none (suc j) (suc k) low low_ same = ap suc (names-apart ns none.1 j k (omega (arith, low)) (omega (arith, low_)) same)
 
 module _ (nodes : List Node) (g : Graph) (is : IsGraph g nodes) where
@@ -87,7 +92,8 @@ module _ (nodes : List Node) (g : Graph) (is : IsGraph g nodes) where
     nodes =
         let at : ℕ → ℕ = λ k. get_or (names nodes) k 0 in
         let long : length (names nodes) ≡ count = length-map nodes (λ (n : Node). n.name) in
-        let all : names nodes ≡ map name (range_with_len 0 count) = fill_by_all name (names nodes) count 0 long (λ k low. get_or-map (λ (n : Node). n.name) nodes k no_node 0 low) in
+        let all : names nodes ≡ map name (range_with_len 0 count) =
+        fill_by_all name (names nodes) count 0 long (λ k low. get_or-map (λ (n : Node). n.name) nodes k no_node 0 low) in
         let P : List ℕ → Type 0 = λ ns. Shuffled ns g.nodes in
         subst P all is.names_are;
     labels = λ n among. refl;
@@ -99,12 +105,14 @@ module _ (nodes : List Node) (g : Graph) (is : IsGraph g nodes) where
 
   -- ---- labels
 
-  pub labels-ranked : (ranks : List ℕ) → ranks ≡ map (rank_among (map (λ (n : Node). n.label) nodes)) (map (λ (n : Node). n.label) nodes) → (k : ℕ) → k < count → rank_at ranks k ≡ rank_by by_position.label by_position.nodes k
+  pub labels-ranked : (ranks : List ℕ) → ranks ≡ map (rank_among (map (λ (n : Node). n.label) nodes)) (map (λ (n : Node). n.label) nodes)
+      → (k : ℕ) → k < count → rank_at ranks k ≡ rank_by by_position.label by_position.nodes k
   labels-ranked ranks are k low =
       let rows : List (List ℕ) = map (λ (n : Node). n.label) nodes in
       let long : length rows ≡ count = length-map nodes (λ (n : Node). n.label) in
       let at : ℕ → List ℕ = λ j. (node_at nodes j).label in
-      let all : rows ≡ map at (range_with_len 0 count) = fill_by_all at rows count [] long (λ j within. get_or-map (λ (n : Node). n.label) nodes j no_node [] within) in
+      let all : rows ≡ map at (range_with_len 0 count) =
+      fill_by_all at rows count [] long (λ j within. get_or-map (λ (n : Node). n.label) nodes j no_node [] within) in
       let below : ℕ → Bool = λ j. is_below (at j) (at k) in
       let lower : ℕ → Bool = λ j. is_lt (slice_cmp (slice_cmp nat_cmp) (g.label (name j)) (g.label (name k))) in
       ap (λ (rs : List ℕ). get_or rs k 0) are
@@ -116,22 +124,33 @@ module _ (nodes : List Node) (g : Graph) (is : IsGraph g nodes) where
 
   -- ---- places
 
-  module _ (es ts : List Edge) (ordered : AreOrdered es) (edges : AreEdges nodes es) (ordered_ : AreOrdered ts) (turned : (e : Edge) → Contains ts e ↔ Contains (map turned_edge es) e) where
+  module _ (es ts : List Edge) (ordered : AreOrdered es) (edges : AreEdges nodes es) (ordered_ : AreOrdered ts)
+      (turned : (e : Edge) → Contains ts e ↔ Contains (map turned_edge es) e) where
     place-among : (k : ℕ) (u : Use) → k < count → Contains (node_at nodes k).uses u → Contains (places_of nodes) u.0
-    place-among k u low among = Contains-flat_map own_places nodes (node_at nodes k) u.0 (Contains-get_or nodes k no_node low) (Contains-mapped (λ (v : Use). v.0) (node_at nodes k).uses u among)
+    place-among k u low among = Contains-flat_map own_places nodes (node_at nodes k) u.0 (Contains-get_or nodes k no_node low)
+        (Contains-mapped (λ (v : Use). v.0) (node_at nodes k).uses u among)
 
     -- what an edge says of the graph
-    edge-sound : (n m i : ℕ) → Contains es (n, m, i) → (n < count) × (m < count) × Contains (by_position.places n m) (place nodes i) × (number nodes (place nodes i) ≡ i) × ((p : List ℕ) × Contains (places_of nodes) p × (i ≡ number nodes p))
+    edge-sound : (n m i : ℕ) → Contains es (n, m, i) → (n < count) × (m < count) × Contains (by_position.places n m) (place nodes i)
+        × (number nodes (place nodes i) ≡ i) × ((p : List ℕ) × Contains (places_of nodes) p × (i ≡ number nodes p))
     edge-sound n m i among =
         let (low, low_, found) = edges.sound (n, m, i) among in
         let (u, inside, leads, at) = found in
         let known = place-among n u low inside in
         let back : place nodes i ≡ u.0 = ap (place nodes) at ∙ text-is (places_of nodes) u.0 known in
         let P : List (List ℕ) → Type 0 = λ ps. Contains ps (place nodes i) in
-        let Q : List ℕ → Type 0 = λ p. Contains (places_to (name m) (node_at nodes n).uses) p in
-        (low, low_, subst P (sym (is.places n m low low_)) (subst Q (sym back) (places_to-complete (name m) (node_at nodes n).uses u inside (sym leads))), ap (number nodes) back ∙ sym at, (u.0, known, at))
+        let Q : List ℕ → Type 0 = λ p. Contains (places_to (name m) (node_at nodes n).uses) p in (
+          low,
+          low_,
+          subst P (sym (is.places n m low low_))
+              (subst Q (sym back) (places_to-complete (name m) (node_at nodes n).uses u inside (sym leads))),
+          ap (number nodes) back
+              ∙ sym at,
+          (u.0, known, at),
+        )
 
-    edge-complete : (n m : ℕ) (q : List ℕ) → n < count → m < count → Contains (by_position.places n m) q → Contains es (n, m, number nodes q) × (place nodes (number nodes q) ≡ q)
+    edge-complete : (n m : ℕ) (q : List ℕ) → n < count → m < count → Contains (by_position.places n m) q
+        → Contains es (n, m, number nodes q) × (place nodes (number nodes q) ≡ q)
     edge-complete n m q low low_ among =
         let P : List (List ℕ) → Type 0 = λ ps. Contains ps q in
         let (u, inside, at, leads) = places_to-sound (name m) (node_at nodes n).uses q (subst P (is.places n m low low_) among) in
@@ -144,7 +163,8 @@ module _ (nodes : List Node) (g : Graph) (is : IsGraph g nodes) where
         (subst E same (subst F at edge), text-is (places_of nodes) q (subst K at (place-among n u low inside)))
 
     places-once : (n m : ℕ) → n < count → m < count → NoneTwice (by_position.places n m)
-    places-once n m low low_ = let P : List (List ℕ) → Type 0 = NoneTwice in subst P (sym (is.places n m low low_)) (places_to-none_twice (name m) (node_at nodes n).uses)
+    places-once n m low low_ = let P : List (List ℕ) → Type 0 = NoneTwice in
+        subst P (sym (is.places n m low low_)) (places_to-none_twice (name m) (node_at nodes n).uses)
 
     from-turned : (n m i : ℕ) → Contains ts (n, m, i) → Contains es (m, n, i)
     from-turned n m i among =
@@ -180,14 +200,19 @@ module _ (nodes : List Node) (g : Graph) (is : IsGraph g nodes) where
       ordered = λ i j known known_.
           let (p, at, same) = numbered i known in
           let (q, at_, same_) = numbered j known_ in
-          ap (λ k. slice_cmp nat_cmp (place nodes k) (place nodes j)) same ∙ ap (λ k. slice_cmp nat_cmp (place nodes (number nodes p)) (place nodes k)) same_
-          ∙ ap (λ (t : List ℕ). slice_cmp nat_cmp t (place nodes (number nodes q))) (text-is (places_of nodes) p at) ∙ ap (slice_cmp nat_cmp p) (text-is (places_of nodes) q at_)
+          ap (λ k. slice_cmp nat_cmp (place nodes k) (place nodes j)) same
+          ∙ ap (λ k. slice_cmp nat_cmp (place nodes (number nodes p)) (place nodes k)) same_
+          ∙ ap (λ (t : List ℕ). slice_cmp nat_cmp t (place nodes (number nodes q))) (text-is (places_of nodes) p at)
+          ∙ ap (slice_cmp nat_cmp p) (text-is (places_of nodes) q at_)
           ∙ ranks-ordered (places_of nodes) p q at at_
           ∙ ap (λ k. nat_cmp k (number nodes q)) (sym same) ∙ ap (nat_cmp i) (sym same_);
-      onto = λ n low. let P : List (ℕ × ℕ) → Type 0 = λ us. Shuffled (map (placed (place nodes)) us) (flat_map (λ m. map (beside m) (by_position.places n m)) (range_with_len 0 count)) in
+      onto = λ n low. let P : List (ℕ × ℕ) → Type 0 = λ us. Shuffled (map (placed (place nodes)) us)
+          (flat_map (λ m. map (beside m) (by_position.places n m)) (range_with_len 0 count)) in
           subst P (sym (each n low)) (edges-stand (place nodes) (number nodes) count n es (λ m. by_position.places n m) (onto-edges n low));
-      from = λ n low. let P : List (ℕ × ℕ) → Type 0 = λ us. Shuffled (map (placed (place nodes)) us) (flat_map (λ m. map (beside m) (by_position.places m n)) (range_with_len 0 count)) in
-          subst P (sym (each_ n low)) (edges-stand (place nodes) (number nodes) count n ts (λ m. by_position.places m n) (from-edges n low));
+      from = λ n low. let P : List (ℕ × ℕ) → Type 0 = λ us. Shuffled (map (placed (place nodes)) us)
+          (flat_map (λ m. map (beside m) (by_position.places m n)) (range_with_len 0 count)) in
+          subst P (sym (each_ n low)) (edges-stand (place nodes) (number nodes) count n ts (λ m. by_position.places m n)
+          (from-edges n low));
     }
       where
         numbered : (i : ℕ) → IsPlace uses users i → (p : List ℕ) × Contains (places_of nodes) p × (i ≡ number nodes p)

@@ -13,7 +13,8 @@ use Rattle.p21_numbering.specs.Joining.{AreAbsorbed, AreJoined, ArePartition, Co
 pub range-push : (n : ℕ) → range_with_len 0 (n + 1) ≡ range_with_len 0 n ++ n ∷ []
 range-push n =
     let none : 0 + n ≡ n = omega arith in
-    sym (map-id (range_with_len 0 (n + 1))) ∙ map-range_with_len_more (λ k. k) 0 n n none ∙ ap (λ (ks : List ℕ). ks ++ n ∷ []) (map-id (range_with_len 0 n))
+    sym (map-id (range_with_len 0 (n + 1))) ∙ map-range_with_len_more (λ k. k) 0 n n none
+    ∙ ap (λ (ks : List ℕ). ks ++ n ∷ []) (map-id (range_with_len 0 n))
 
 range-at : (count k : ℕ) → k < count → number_at (range_with_len 0 count) k ≡ k
 range-at count k low = let none : 0 + k ≡ k = omega arith in get_or-range_with_len 0 count k 0 low ∙ none
@@ -35,7 +36,8 @@ alone count = record {
   within = λ k low. omega (arith, low, own k low);
   listed = λ k low.
       let P : List ℕ → Type 0 = λ xs. Contains xs k in
-      subst P (sym (row (number_at (range_with_len 0 count) k) (omega (arith, low, own k low)) ∙ ap (λ j. j ∷ []) (own k low))) (Contains-first k []);
+      subst P (sym (row (number_at (range_with_len 0 count) k) (omega (arith, low, own k low)) ∙ ap (λ j. j ∷ []) (own k low)))
+      (Contains-first k []);
   only = λ p k low among.
       let P : List ℕ → Type 0 = λ xs. Contains xs k in
       let same : p ≡ k = elim (Contains-cases p [] k (subst P (row p low) among)) [ inl h ↦ h | inr h ↦ absurd (Contains-none k h) ] in
@@ -46,22 +48,30 @@ alone count = record {
     own k low = range-at count k low
 
     row : (k : ℕ) → k < count → row_at (map (λ j. j ∷ []) (range_with_len 0 count)) k ≡ k ∷ []
-    row k low = get_or-map (λ j. j ∷ []) (range_with_len 0 count) k 0 [] (omega (arith, low, length-range_with_len 0 count)) ∙ ap (λ j. j ∷ []) (own k low)
+    row k low = get_or-map (λ j. j ∷ []) (range_with_len 0 count) k 0 [] (omega (arith, low, length-range_with_len 0 count))
+        ∙ ap (λ j. j ∷ []) (own k low)
 
 -- ---- one part goes into another
 
-module _ (of : List ℕ) (members : List (List ℕ)) (small large : ℕ) (are : ArePartition (length of) of members) (low : small < length of) (low_ : large < length of) (differ : small ≢ large) (more_of : List ℕ) (same_long : length more_of ≡ length of) (moved : (k : ℕ) → Contains (row_at members small) k → number_at more_of k ≡ large) (others : (k : ℕ) → ¬ Contains (row_at members small) k → number_at more_of k ≡ number_at of k) (more_members : List (List ℕ)) (more_is : more_members ≡ slice_set (slice_set members small []) large (row_at (slice_set members small []) large ++ row_at members small)) where
+module _ (of : List ℕ) (members : List (List ℕ)) (small large : ℕ) (are : ArePartition (length of) of members) (low : small < length of)
+    (low_ : large < length of) (differ : small ≢ large) (more_of : List ℕ) (same_long : length more_of ≡ length of)
+    (moved : (k : ℕ) → Contains (row_at members small) k → number_at more_of k ≡ large)
+    (others : (k : ℕ) → ¬ Contains (row_at members small) k → number_at more_of k ≡ number_at of k) (more_members : List (List ℕ))
+    (more_is : more_members ≡ slice_set (slice_set members small []) large
+    (row_at (slice_set members small []) large ++ row_at members small)) where
   abbrev emptied : List (List ℕ)
   emptied = slice_set members small []
 
   at_large : row_at more_members large ≡ row_at members large ++ row_at members small
   at_large =
       ap (λ (rows : List (List ℕ)). row_at rows large) more_is
-      ∙ get_or-set_same emptied large (row_at emptied large ++ row_at members small) [] (omega (arith, low_, are.rows, length-set members small []))
+      ∙ get_or-set_same emptied large (row_at emptied large ++ row_at members small) []
+      (omega (arith, low_, are.rows, length-set members small []))
       ∙ ap (λ (xs : List ℕ). xs ++ row_at members small) (get_or-set_other members small large [] [] (λ same. differ (sym same)))
 
   at_other : (p : ℕ) → p ≢ large → row_at more_members p ≡ row_at emptied p
-  at_other p other = ap (λ (rows : List (List ℕ)). row_at rows p) more_is ∙ get_or-set_other emptied large p (row_at emptied large ++ row_at members small) [] other
+  at_other p other = ap (λ (rows : List (List ℕ)). row_at rows p) more_is
+      ∙ get_or-set_other emptied large p (row_at emptied large ++ row_at members small) [] other
 
   at_small : row_at more_members small ≡ []
   at_small = at_other small differ ∙ get_or-set_same members small [] [] (omega (arith, low, are.rows))
@@ -86,7 +96,8 @@ module _ (of : List ℕ) (members : List (List ℕ)) (small large : ℕ) (are : 
   absorbed-is = record { partition = record { long = same_long; rows = rows; within = within; listed = listed; only = only }; each = each }
     where
       rows : length more_members ≡ length of
-      rows = ap length more_is ∙ length-set emptied large (row_at emptied large ++ row_at members small) ∙ length-set members small [] ∙ are.rows
+      rows = ap length more_is ∙ length-set emptied large (row_at emptied large ++ row_at members small) ∙ length-set members small []
+          ∙ are.rows
 
       within : (k : ℕ) → k < length of → number_at more_of k < length of
       within k below = elim (cases_eq (number_at of k) small) [
@@ -100,9 +111,11 @@ module _ (of : List ℕ) (members : List (List ℕ)) (small large : ℕ) (are : 
           let Q : List ℕ → Type 0 = λ xs. Contains xs k in
           let R : ℕ → Type 0 = λ p. Contains (row_at members p) k in
           elim (cases_eq (number_at of k) small) [
-            | inl is ↦ subst P (sym (gone k below is)) (subst Q (sym at_large) (Contains-append_right (row_at members large) (row_at members small) k (subst R is (are.listed k below))))
+            | inl is ↦ subst P (sym (gone k below is)) (subst Q (sym at_large)
+                (Contains-append_right (row_at members large) (row_at members small) k (subst R is (are.listed k below))))
             | inr other ↦ subst P (sym (stayed k other)) (elim (cases_eq (number_at of k) large) [
-              | inl is ↦ subst P (sym is) (subst Q (sym at_large) (Contains-append_left (row_at members large) (row_at members small) k (subst R is (are.listed k below))))
+              | inl is ↦ subst P (sym is) (subst Q (sym at_large)
+                  (Contains-append_left (row_at members large) (row_at members small) k (subst R is (are.listed k below))))
               | inr other_ ↦ subst Q (sym (at_rest (number_at of k) other_ other)) (are.listed k below)
             ])
           ]
@@ -118,13 +131,15 @@ module _ (of : List ℕ) (members : List (List ℕ)) (small large : ℕ) (are : 
             ]
             | inr other ↦ elim (cases_eq p small) [
               | inl is ↦ absurd (Contains-none k (subst Q at_small (subst P is among)))
-              | inr other_ ↦ let (under, own) = are.only p k below (subst Q (at_rest p other other_) among) in (under, stayed k (λ same. other_ (sym own ∙ same)) ∙ own)
+              | inr other_ ↦ let (under, own) = are.only p k below (subst Q (at_rest p other other_) among) in
+                  (under, stayed k (λ same. other_ (sym own ∙ same)) ∙ own)
             ]
           ]
 
 -- ---- so two positions are in one part
 
-module _ (of : List ℕ) (small large : ℕ) (more_of : List ℕ) (more_members : List (List ℕ)) (are : AreAbsorbed small large of more_of more_members) where
+module _ (of : List ℕ) (small large : ℕ) (more_of : List ℕ) (more_members : List (List ℕ))
+    (are : AreAbsorbed small large of more_of more_members) where
   was-small : (k : ℕ) → k < length of → number_at of k ≡ small → number_at more_of k ≡ large
   was-small k below is = are.each k below ∙ ap (λ (b : Bool). if b then large else number_at of k) (eq-eqb (number_at of k) small is)
 
@@ -136,7 +151,8 @@ module _ (of : List ℕ) (small large : ℕ) (more_of : List ℕ) (more_members 
 
   -- what became equal stood in the two
   from-two : (j k : ℕ) → j < length of → k < length of → number_at more_of j ≡ number_at more_of k
-      → (number_at of j ≡ number_at of k) ⊎ (((number_at of j ≡ small) × (number_at of k ≡ large)) ⊎ ((number_at of j ≡ large) × (number_at of k ≡ small)))
+      → (number_at of j ≡ number_at of k) ⊎ (((number_at of j ≡ small) × (number_at of k ≡ large))
+      ⊎ ((number_at of j ≡ large) × (number_at of k ≡ small)))
   from-two j k below below_ same = elim (cases_eq (number_at of j) small) [
     | inl is ↦ elim (cases_eq (number_at of k) small) [
       | inl is_ ↦ inl (is ∙ sym is_)
@@ -148,7 +164,8 @@ module _ (of : List ℕ) (small large : ℕ) (more_of : List ℕ) (more_members 
     ]
   ]
 
-  pub joined-into_second : (one other : ℕ) → one < length of → other < length of → number_at of one ≡ small → number_at of other ≡ large → small ≢ large
+  pub joined-into_second : (one other : ℕ) → one < length of → other < length of → number_at of one ≡ small → number_at of other ≡ large
+      → small ≢ large
       → AreJoined one other of more_of more_members
   joined-into_second one other below below_ is is_ differ = record {
     partition = are.partition;
@@ -161,7 +178,8 @@ module _ (of : List ℕ) (small large : ℕ) (more_of : List ℕ) (more_members 
     ];
   }
 
-  pub joined-into_first : (one other : ℕ) → one < length of → other < length of → number_at of one ≡ large → number_at of other ≡ small → small ≢ large
+  pub joined-into_first : (one other : ℕ) → one < length of → other < length of → number_at of one ≡ large → number_at of other ≡ small
+      → small ≢ large
       → AreJoined one other of more_of more_members
   joined-into_first one other below below_ is is_ differ = record {
     partition = are.partition;
@@ -174,7 +192,8 @@ module _ (of : List ℕ) (small large : ℕ) (more_of : List ℕ) (more_members 
     ];
   }
 
-pub joined-already : (of : List ℕ) (members : List (List ℕ)) (one other : ℕ) → ArePartition (length of) of members → number_at of one ≡ number_at of other
+pub joined-already : (of : List ℕ) (members : List (List ℕ)) (one other : ℕ) → ArePartition (length of) of members
+    → number_at of one ≡ number_at of other
     → AreJoined one other of of members
 joined-already of members one other are same =
     record { partition = are; together = same; kept = λ j k below below_ h. h; nothing_else = λ j k below below_ h. inl h }
@@ -193,8 +212,10 @@ connected-then pairs j k l (by_other n _ _ among more) more_ = by_other n j l am
 
 connected-more : (pairs more : List (ℕ × ℕ)) (j k : ℕ) → Connected pairs j k → Connected (pairs ++ more) j k
 connected-more pairs more j k (itself _) = itself j
-connected-more pairs more j k (by_pair _ t _ among rest) = by_pair j t k (Contains-append_left pairs more (j, t) among) (connected-more pairs more t k rest)
-connected-more pairs more j k (by_other n _ _ among rest) = by_other n j k (Contains-append_left pairs more (n, j) among) (connected-more pairs more n k rest)
+connected-more pairs more j k (by_pair _ t _ among rest) =
+    by_pair j t k (Contains-append_left pairs more (j, t) among) (connected-more pairs more t k rest)
+connected-more pairs more j k (by_other n _ _ among rest) =
+    by_other n j k (Contains-append_left pairs more (n, j) among) (connected-more pairs more n k rest)
 
 pub no-pairs : (count : ℕ) → AreParts count [] (range_with_len 0 count) (map (λ k. k ∷ []) (range_with_len 0 count))
 no-pairs count = record {
@@ -206,7 +227,8 @@ no-pairs count = record {
       subst P one (itself j);
 }
 
-pub one-pair_more : (count : ℕ) (pairs : List (ℕ × ℕ)) (of : List ℕ) (members : List (List ℕ)) (one other : ℕ) (more_of : List ℕ) (more_members : List (List ℕ))
+pub one-pair_more : (count : ℕ) (pairs : List (ℕ × ℕ)) (of : List ℕ) (members : List (List ℕ)) (one other : ℕ) (more_of : List ℕ)
+    (more_members : List (List ℕ))
     → AreParts count pairs of members → ((p : ℕ × ℕ) → Contains pairs p → (p.0 < count) × (p.1 < count)) → one < count → other < count
     → AreJoined one other of more_of more_members → AreParts count (pairs ++ (one, other) ∷ []) more_of more_members
 one-pair_more count pairs of members one other more_of more_members are low below below_ step =
@@ -220,7 +242,8 @@ one-pair_more count pairs of members one other more_of more_members are low belo
 
     joined : (p : ℕ × ℕ) → Contains (pairs ++ (one, other) ∷ []) p → number_at more_of p.0 ≡ number_at more_of p.1
     joined p among = elim (Contains-append_cases pairs ((one, other) ∷ []) p among) [
-      | inl h ↦ let (under, under_) = low p h in step.kept p.0 p.1 (omega (arith, under, long)) (omega (arith, under_, long)) (are.joined p h)
+      | inl h ↦ let (under, under_) = low p h in step.kept p.0 p.1 (omega (arith, under, long)) (omega (arith, under_, long))
+          (are.joined p h)
       | inr h ↦ elim (Contains-cases (one, other) [] p h) [
         | inl is ↦ let P : ℕ × ℕ → Type 0 = λ q. number_at more_of q.0 ≡ number_at more_of q.1 in subst P is step.together
         | inr h_ ↦ absurd (Contains-none p h_)
@@ -236,8 +259,10 @@ one-pair_more count pairs of members one other more_of more_members are low belo
     connected : (j k : ℕ) → j < count → k < count → number_at more_of j ≡ number_at more_of k → Connected (pairs ++ (one, other) ∷ []) j k
     connected j k under under_ same = elim (step.nothing_else j k (omega (arith, under, long)) (omega (arith, under_, long)) same) [
       | inl h ↦ before j k under under_ h
-      | inr (inl (h, h_)) ↦ connected-then (pairs ++ (one, other) ∷ []) j one k (before j one under below h) (by_pair one other k last (before other k below_ under_ (sym h_)))
-      | inr (inr (h, h_)) ↦ connected-then (pairs ++ (one, other) ∷ []) j other k (before j other under below_ h) (by_other one other k last (before one k below under_ (sym h_)))
+      | inr (inl (h, h_)) ↦ connected-then (pairs ++ (one, other) ∷ []) j one k (before j one under below h)
+          (by_pair one other k last (before other k below_ under_ (sym h_)))
+      | inr (inr (h, h_)) ↦ connected-then (pairs ++ (one, other) ∷ []) j other k (before j other under below_ h)
+          (by_other one other k last (before one k below under_ (sym h_)))
     ]
 
 -- ---- positions that got one number
@@ -250,9 +275,11 @@ pub record AreRelabelled (moved : List ℕ) (number : ℕ) (before after : List 
 pub none-relabelled : (number : ℕ) (before : List ℕ) → AreRelabelled [] number before before
 none-relabelled number before = record { size = refl; changed = λ k among. absurd (Contains-none k among); others = λ k none. refl }
 
-pub one-relabelled : (moved : List ℕ) (number : ℕ) (before after : List ℕ) (one : ℕ) → AreRelabelled moved number before after → one < length before
+pub one-relabelled : (moved : List ℕ) (number : ℕ) (before after : List ℕ) (one : ℕ) → AreRelabelled moved number before after
+    → one < length before
     → AreRelabelled (moved ++ one ∷ []) number before (slice_set after one number)
-one-relabelled moved number before after one are low = record { size = length-set after one number ∙ are.size; changed = changed; others = others }
+one-relabelled moved number before after one are low =
+    record { size = length-set after one number ∙ are.size; changed = changed; others = others }
   where
     here : number_at (slice_set after one number) one ≡ number
     here = get_or-set_same after one number 0 (omega (arith, low, are.size))

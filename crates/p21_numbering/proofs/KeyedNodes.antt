@@ -24,15 +24,18 @@ some-left (x ∷ xs) len long e = omega arith
 
 -- no entry, no key
 pub keyed-none : (rank many : ℕ) (c : Ranks) (uses users : List Use) (entries : List Entry) → entries ≡ []
-    → IsPermutation (entries_at 0 c.fresh c.rank uses ++ entries_at 1 c.fresh c.rank users) entries → IsSorted entry_cmp entries → IsKeyed rank many c uses users []
+    → IsPermutation (entries_at 0 c.fresh c.rank uses ++ entries_at 1 c.fresh c.rank users) entries → IsSorted entry_cmp entries
+    → IsKeyed rank many c uses users []
 keyed-none rank many c uses users entries none permuted rises =
     let P : List Entry → Type 0 = λ es. IsPermutation (entries_at 0 c.fresh c.rank uses ++ entries_at 1 c.fresh c.rank users) es in
     let Q : List Entry → Type 0 = λ es. IsSorted entry_cmp es in
     inr (record { entries = []; key_is = refl; entries_are = subst P none permuted; entries_rise = subst Q none rises })
 
 -- the key of what has an entry
-pub keyed-some : (rank many : ℕ) (c : Ranks) (uses users : List Use) (entries : List Entry) (key : List ℕ) → 0 < length entries → key ≡ rank ∷ flat_map numbers entries
-    → IsPermutation (entries_at 0 c.fresh c.rank uses ++ entries_at 1 c.fresh c.rank users) entries → IsSorted entry_cmp entries → IsKeyed rank many c uses users key
+pub keyed-some : (rank many : ℕ) (c : Ranks) (uses users : List Use) (entries : List Entry) (key : List ℕ) → 0 < length entries
+    → key ≡ rank ∷ flat_map numbers entries
+    → IsPermutation (entries_at 0 c.fresh c.rank uses ++ entries_at 1 c.fresh c.rank users) entries → IsSorted entry_cmp entries
+    → IsKeyed rank many c uses users key
 keyed-some rank many c uses users [] key some is permuted rises = absurd (omega (arith, some))
 keyed-some rank many c uses users (e ∷ es) key some is permuted rises =
     let P : List ℕ → Type 0 = λ k. IsKeyed rank many c uses users k in
@@ -40,7 +43,8 @@ keyed-some rank many c uses users (e ∷ es) key some is permuted rises =
 
 -- ---- what a key is
 
-pub keyed-headed : (rank many : ℕ) (c : Ranks) (uses users : List Use) (key : List ℕ) → IsKeyed rank many c uses users key → IsHeaded rank key
+pub keyed-headed : (rank many : ℕ) (c : Ranks) (uses users : List Use) (key : List ℕ) → IsKeyed rank many c uses users key
+    → IsHeaded rank key
 keyed-headed rank many c uses users [] keyed = tt
 keyed-headed rank many c uses users (k ∷ ks) keyed = (first k ks keyed.0.entries keyed.0.key_is, keyed.1)
   where
@@ -55,7 +59,8 @@ keyed-whole rank many c uses users (k ∷ ks) keyed = inl keyed.0
 
 -- ---- one of its rank alone
 
-none-twice-counted : (p : ℕ → Bool) (ms : List ℕ) → NoneTwice ms → (m n : ℕ) → Contains ms m → Contains ms n → m ≢ n → p m ≡ true → p n ≡ true → 1 < how_many p ms
+none-twice-counted : (p : ℕ → Bool) (ms : List ℕ) → NoneTwice ms → (m n : ℕ) → Contains ms m → Contains ms n → m ≢ n → p m ≡ true
+    → p n ≡ true → 1 < how_many p ms
 none-twice-counted p [] none m n among among_ differ pass pass_ = absurd (Contains-none m among)
 none-twice-counted p (k ∷ ks) none m n among among_ differ pass pass_ = elim (Contains-cases k ks m among) [
   | inl same ↦ elim (Contains-cases k ks n among_) [
@@ -88,5 +93,6 @@ alone-is count rank n low few m low_ same = by_test (nat_eq m n) refl
     by_test true e = eqb-true m n e
     by_test false e =
         let differ : m ≢ n = λ h. true≢false (sym (eq-eqb m n h) ∙ e) in
-        let more = none-twice-counted test (range_with_len 0 count) (range-none_twice count) m n (Contains-range count m low_) (Contains-range count n low) differ (eq-eqb (rank m) (rank n) same) (eq-eqb (rank n) (rank n) refl) in
+        let more = none-twice-counted test (range_with_len 0 count) (range-none_twice count) m n (Contains-range count m low_)
+        (Contains-range count n low) differ (eq-eqb (rank m) (rank n) same) (eq-eqb (rank n) (rank n) refl) in
         absurd (omega (arith, more, few))

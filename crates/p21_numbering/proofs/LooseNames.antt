@@ -47,7 +47,8 @@ plain-among : (vs : Values) (t : ℕ) → Contains (plain_names vs) t → Among 
 plain-among no_values t among = absurd (Contains-none t among)
 plain-among (value v vs) t among = by (plain_name v) refl (plain-among vs t) among
   where
-    by : (o : Option ℕ) → plain_name v ≡ o → (Contains (plain_names vs) t → Among (reference t) vs) → Contains (front o (plain_names vs)) t → Among (reference t) (value v vs)
+    by : (o : Option ℕ) → plain_name v ≡ o → (Contains (plain_names vs) t → Among (reference t) vs) → Contains (front o (plain_names vs)) t
+        → Among (reference t) (value v vs)
     by None is more at = there (reference t) v vs (more at)
     by (Some n) is more at = elim (Contains-cases n (plain_names vs) t at) [
       | inl h ↦
@@ -75,7 +76,8 @@ plain-target : (vs : Values) (t : ℕ) → Contains (plain_names vs) t → Conta
 plain-target no_values t among = among
 plain-target (value v vs) t among = by (plain_name v) refl (plain-target vs t) among
   where
-    by : (o : Option ℕ) → plain_name v ≡ o → (Contains (plain_names vs) t → Contains (targets_in vs) t) → Contains (front o (plain_names vs)) t → Contains (targets v ++ targets_in vs) t
+    by : (o : Option ℕ) → plain_name v ≡ o → (Contains (plain_names vs) t → Contains (targets_in vs) t)
+        → Contains (front o (plain_names vs)) t → Contains (targets v ++ targets_in vs) t
     by None is more at = Contains-append_right (targets v) (targets_in vs) t (more at)
     by (Some n) is more at = elim (Contains-cases n (plain_names vs) t at) [
       | inl h ↦
@@ -91,7 +93,11 @@ plain-once (value v vs) apart = by (plain_name v) refl (plain-once vs apart.1)
   where
     by : (o : Option ℕ) → plain_name v ≡ o → NoneTwice (plain_names vs) → NoneTwice (front o (plain_names vs))
     by None is more = more
-    by (Some n) is more = (λ among. apart.0 (let P : Value → Type 0 = λ w. Among w vs in subst P (sym (plain-is v n is)) (plain-among vs n among)), more)
+    by (Some n) is more = (
+      λ among. apart.0 (let P : Value
+          → Type 0 = λ w. Among w vs in subst P (sym (plain-is v n is)) (plain-among vs n among)),
+      more,
+    )
 
 -- ---- counts
 
@@ -147,7 +153,8 @@ module _ (ranking : Ranking) (m : FileMeaning) (proper : IsProper m) where
 
   pub many-shares : (n : ℕ) → 1 < many_in ranking m n → Shares ranking m n
   many-shares n high =
-      let (k, at, differ) = another (like n) n (like-once n) (omega (arith, high, count-filter (λ j. nat_eq (ranking m j) (ranking m n)) (names m))) in
+      let (k, at, differ) = another (like n) n (like-once n)
+      (omega (arith, high, count-filter (λ j. nat_eq (ranking m j) (ranking m n)) (names m))) in
       let (among, one) = like-is n k at in
       (k, among, differ, one)
 
@@ -156,7 +163,8 @@ module _ (ranking : Ranking) (m : FileMeaning) (proper : IsProper m) where
     shared-is n among shared = many-shares n (let P : ℕ → Type 0 = λ k. 1 < k in subst P (are.many n among) (ltb-true 1 (many st n) shared))
 
     pub is-shared : (n : ℕ) → Contains (names m) n → Shares ranking m n → is_shared st n ≡ true
-    is-shared n among shares = lt-ltb 1 (many st n) (let P : ℕ → Type 0 = λ k. 1 < k in subst P (sym (are.many n among)) (shares-many n among shares))
+    is-shared n among shares = lt-ltb 1 (many st n) (let P : ℕ
+        → Type 0 = λ k. 1 < k in subst P (sym (are.many n among)) (shares-many n among shares))
 
     pub not-shared : (n : ℕ) → Contains (names m) n → is_shared st n ≡ false → ¬ Shares ranking m n
     not-shared n among alone shares = true≢false (sym (is-shared n among shares) ∙ alone)
@@ -176,8 +184,10 @@ module _ (ranking : Ranking) (m : FileMeaning) (proper : IsProper m) where
 
       there-like : AreMembers there_ (like t)
       there-like k at =
-          let named : Contains (names m) k = closed k (plain-target all k (Contains-unfiltered (λ n. nat_eq (st.rank n) (st.rank t)) (plain_names all) k at)) in
-          is-like t k named (sym (are.rank k named) ∙ eqb-true (st.rank k) (st.rank t) (passes (λ n. nat_eq (st.rank n) (st.rank t)) (plain_names all) k at) ∙ are.rank t among)
+          let named : Contains (names m) k = closed k (plain-target all k
+          (Contains-unfiltered (λ n. nat_eq (st.rank n) (st.rank t)) (plain_names all) k at)) in
+          is-like t k named (sym (are.rank k named) ∙ eqb-true (st.rank k) (st.rank t)
+          (passes (λ n. nat_eq (st.rank n) (st.rank t)) (plain_names all) k at) ∙ are.rank t among)
 
       counted : (length there_ ≡ of_rank st (plain_names all) (st.rank t)) × (length (like t) ≡ many st t)
       counted = (
@@ -185,28 +195,33 @@ module _ (ranking : Ranking) (m : FileMeaning) (proper : IsProper m) where
         sym (are.many t among ∙ count-filter (λ j. nat_eq (ranking m j) (ranking m t)) (names m)),
       )
 
-      full-whole : fills st (plain_names all) (Some t) ≡ true → (u : ℕ) → Contains (names m) u → ranking m u ≡ ranking m t → Among (reference u) all
+      full-whole : fills st (plain_names all) (Some t) ≡ true → (u : ℕ) → Contains (names m) u → ranking m u ≡ ranking m t
+          → Among (reference u) all
       full-whole full u at one =
           let even = eqb-true (of_rank st (plain_names all) (st.rank t)) (many st t) full in
           let back = all-taken there_ (like t) there-once there-like (omega (arith, even, counted.0, counted.1)) in
           plain-among all u (Contains-unfiltered (λ n. nat_eq (st.rank n) (st.rank t)) (plain_names all) u (back u (is-like t u at one)))
 
-      whole-full : ((u : ℕ) → Contains (names m) u → ranking m u ≡ ranking m t → Among (reference u) all) → fills st (plain_names all) (Some t) ≡ true
+      whole-full : ((u : ℕ) → Contains (names m) u → ranking m u ≡ ranking m t → Among (reference u) all)
+          → fills st (plain_names all) (Some t) ≡ true
       whole-full each =
           let back : AreMembers (like t) there_ = λ u at.
           (let (named, one) = like-is t u at in
-          Contains-filter (λ n. nat_eq (st.rank n) (st.rank t)) (plain_names all) u (eq-eqb (st.rank u) (st.rank t) (are.rank u named ∙ one ∙ sym (are.rank t among))) (among-plain all u (each u named one))) in
+          Contains-filter (λ n. nat_eq (st.rank n) (st.rank t)) (plain_names all) u
+          (eq-eqb (st.rank u) (st.rank t) (are.rank u named ∙ one ∙ sym (are.rank t among))) (among-plain all u (each u named one))) in
           let even = Shuffled-length there_ (like t) (members-shuffled there_ (like t) there-once (like-once t) there-like back) in
           eq-eqb (of_rank st (plain_names all) (st.rank t)) (many st t) (omega (arith, even, counted.0, counted.1))
 
     -- ---- what is found tells
 
-    first-tells : (A B : Type 0) (ts us : List ℕ) (a b : Option ℕ) → Tells (is_shared st) A ts a → Tells (is_shared st) B us b → Tells (is_shared st) (A × B) (ts ++ us) (first_of a b)
+    first-tells : (A B : Type 0) (ts us : List ℕ) (a b : Option ℕ) → Tells (is_shared st) A ts a → Tells (is_shared st) B us b
+        → Tells (is_shared st) (A × B) (ts ++ us) (first_of a b)
     first-tells A B ts us None None holds more = (holds, more)
     first-tells A B ts us None (Some n) holds (at, shared, not_) = (Contains-append_right ts us n at, shared, λ both. not_ both.1)
     first-tells A B ts us (Some n) b (at, shared, not_) more = (Contains-append_left ts us n at, shared, λ both. not_ both.0)
 
-    element-tells : (all : Values) → AreApart all → AreNames (targets_in all) → (v : Value) → AreNames (targets v) → Tells (is_shared st) (Spreads ranking m v) (targets v) (loose_value st v)
+    element-tells : (all : Values) → AreApart all → AreNames (targets_in all) → (v : Value) → AreNames (targets v)
+        → Tells (is_shared st) (Spreads ranking m v) (targets v) (loose_value st v)
         → Tells (is_shared st) (Spreads ranking m v ⊎ IsOfWholeRank ranking m all v) (targets v) (loose_element st (plain_names all) v)
     element-tells all apart complete v own tells = by (fills st (plain_names all) (plain_name v)) refl
       where
@@ -222,19 +237,23 @@ module _ (ranking : Ranking) (m : FileMeaning) (proper : IsProper m) where
 
         not_whole : fills st (plain_names all) (plain_name v) ≡ false → ¬ IsOfWholeRank ranking m all v
         not_whole lacks (t, is, each) =
-            let full : fills st (plain_names all) (plain_name v) ≡ true = ap (λ (w : Value). fills st (plain_names all) (plain_name w)) is ∙ whole-full all apart complete t (named t is) each in
+            let full : fills st (plain_names all) (plain_name v) ≡ true = ap (λ (w : Value). fills st (plain_names all) (plain_name w)) is
+            ∙ whole-full all apart complete t (named t is) each in
             true≢false (sym full ∙ lacks)
 
-        rest : (o : Option ℕ) → ¬ IsOfWholeRank ranking m all v → Tells (is_shared st) (Spreads ranking m v) (targets v) o → Tells (is_shared st) (Spreads ranking m v ⊎ IsOfWholeRank ranking m all v) (targets v) o
+        rest : (o : Option ℕ) → ¬ IsOfWholeRank ranking m all v → Tells (is_shared st) (Spreads ranking m v) (targets v) o
+            → Tells (is_shared st) (Spreads ranking m v ⊎ IsOfWholeRank ranking m all v) (targets v) o
         rest None other tells_ = inl tells_
         rest (Some n) other (at, shared, not_) = (at, shared, λ either. elim either [ inl h ↦ not_ h | inr h ↦ other h ])
 
-        by : (b : Bool) → fills st (plain_names all) (plain_name v) ≡ b → Tells (is_shared st) (Spreads ranking m v ⊎ IsOfWholeRank ranking m all v) (targets v) (cond b None (loose_value st v))
+        by : (b : Bool) → fills st (plain_names all) (plain_name v) ≡ b
+            → Tells (is_shared st) (Spreads ranking m v ⊎ IsOfWholeRank ranking m all v) (targets v) (cond b None (loose_value st v))
         by true full = inr (found (plain_name v) refl full)
         by false lacks = rest (loose_value st v) (not_whole lacks) tells
 
     mutual
-      value-tells : (v : Value) → IsSettled v → AreNames (targets v) → Tells (is_shared st) (Spreads ranking m v) (targets v) (loose_value st v)
+      value-tells : (v : Value) → IsSettled v → AreNames (targets v)
+          → Tells (is_shared st) (Spreads ranking m v) (targets v) (loose_value st v)
       value-tells (whole z) settled closed = tt
       value-tells (real d) settled closed = tt
       value-tells (number d) settled closed = tt
@@ -257,7 +276,8 @@ module _ (ranking : Ranking) (m : FileMeaning) (proper : IsProper m) where
       value-tells (bag vs) settled closed = values-tell vs settled closed
       value-tells (typed t v) settled closed = value-tells v settled closed
 
-      values-tell : (vs : Values) → AreSettled vs → AreNames (targets_in vs) → Tells (is_shared st) (AllSpread ranking m vs) (targets_in vs) (loose_in st vs)
+      values-tell : (vs : Values) → AreSettled vs → AreNames (targets_in vs)
+          → Tells (is_shared st) (AllSpread ranking m vs) (targets_in vs) (loose_in st vs)
       values-tell no_values settled closed = tt
       values-tell (value v vs) settled closed =
           first-tells (Spreads ranking m v) (AllSpread ranking m vs) (targets v) (targets_in vs) (loose_value st v) (loose_in st vs)
@@ -268,16 +288,19 @@ module _ (ranking : Ranking) (m : FileMeaning) (proper : IsProper m) where
           → Tells (is_shared st) (SpreadAmong ranking m all vs) (targets_in vs) (loose_among st (plain_names all) vs)
       among-tell all apart complete no_values settled closed = tt
       among-tell all apart complete (value v vs) settled closed =
-          first-tells (Spreads ranking m v ⊎ IsOfWholeRank ranking m all v) (SpreadAmong ranking m all vs) (targets v) (targets_in vs) (loose_element st (plain_names all) v) (loose_among st (plain_names all) vs)
+          first-tells (Spreads ranking m v ⊎ IsOfWholeRank ranking m all v) (SpreadAmong ranking m all vs) (targets v) (targets_in vs)
+          (loose_element st (plain_names all) v) (loose_among st (plain_names all) vs)
           (element-tells all apart complete v own (value-tells v settled.0 own))
           (among-tell all apart complete vs settled.1 (λ t at. closed t (Contains-append_right (targets v) (targets_in vs) t at)))
         where
           own : AreNames (targets v)
           own t at = closed t (Contains-append_left (targets v) (targets_in vs) t at)
 
-    pub rows-tell : (rows : List Values) → Each AreSettled rows → AreNames (flat_map targets_in rows) → Tells (is_shared st) (Each (AllSpread ranking m) rows) (flat_map targets_in rows) (loose_rows st rows)
+    pub rows-tell : (rows : List Values) → Each AreSettled rows → AreNames (flat_map targets_in rows)
+        → Tells (is_shared st) (Each (AllSpread ranking m) rows) (flat_map targets_in rows) (loose_rows st rows)
     rows-tell [] settled closed = tt
     rows-tell (vs ∷ rows) settled closed =
-        first-tells (AllSpread ranking m vs) (Each (AllSpread ranking m) rows) (targets_in vs) (flat_map targets_in rows) (loose_in st vs) (loose_rows st rows)
+        first-tells (AllSpread ranking m vs) (Each (AllSpread ranking m) rows) (targets_in vs) (flat_map targets_in rows) (loose_in st vs)
+        (loose_rows st rows)
         (values-tell vs settled.0 (λ t at. closed t (Contains-append_left (targets_in vs) (flat_map targets_in rows) t at)))
         (rows-tell rows settled.1 (λ t at. closed t (Contains-append_right (targets_in vs) (flat_map targets_in rows) t at)))

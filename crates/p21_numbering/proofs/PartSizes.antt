@@ -13,7 +13,8 @@ use Rattle.p21_numbering.specs.Largest.{AreSizes}
 pub range-more : (n : ℕ) → range_with_len 0 (n + 1) ≡ range_with_len 0 n ++ n ∷ []
 range-more n =
     let none : 0 + n ≡ n = omega arith in
-    sym (map-id (range_with_len 0 (n + 1))) ∙ map-range_with_len_more (λ k. k) 0 n n none ∙ ap (λ (ks : List ℕ). ks ++ n ∷ []) (map-id (range_with_len 0 n))
+    sym (map-id (range_with_len 0 (n + 1))) ∙ map-range_with_len_more (λ k. k) 0 n n none
+    ∙ ap (λ (ks : List ℕ). ks ++ n ∷ []) (map-id (range_with_len 0 n))
 
 count-joined : {X : Type 0} (p : X → Bool) (xs ys : List X) → how_many p (xs ++ ys) ≡ how_many p xs + how_many p ys
 count-joined p [] ys = omega arith
@@ -34,7 +35,8 @@ count-bound p (x ∷ xs) = by_test (p x) (count-bound p xs)
 pub count-below : {X : Type 0} (p : X → Bool) (xs : List X) (x : X) → Contains xs x → p x ≡ false → how_many p xs < length xs
 count-below p [] x among fail = absurd (Contains-none x among)
 count-below {X} p (y ∷ ys) x among fail = elim (Contains-cases y ys x among) [
-  | inl same ↦ (let P : X → Type 0 = λ z. p z ≡ false in let first : ◌≡◌ {A = ℕ} (cond (p y) 1 0) 0 = ap (λ (b : Bool). cond b 1 0) (subst P (sym same) fail) in let rest = count-bound p ys in omega (arith, first, rest))
+  | inl same ↦ (let P : X → Type 0 = λ z. p z ≡ false in let first : ◌≡◌ {A = ℕ} (cond (p y) 1 0) 0 =
+      ap (λ (b : Bool). cond b 1 0) (subst P (sym same) fail) in let rest = count-bound p ys in omega (arith, first, rest))
   | inr later ↦ by_test (p y) (count-below p ys x later fail)
 ]
   where
@@ -44,13 +46,16 @@ count-below {X} p (y ∷ ys) x among fail = elim (Contains-cases y ys x among) [
 
 -- ---- sizes
 
-pub no-sizes : (count : ℕ) (cell sizes : List ℕ) → length sizes ≡ count → ((c : ℕ) → c < count → rank_at sizes c ≡ 0) → AreSizes count 0 cell sizes
+pub no-sizes : (count : ℕ) (cell sizes : List ℕ) → length sizes ≡ count → ((c : ℕ) → c < count → rank_at sizes c ≡ 0)
+    → AreSizes count 0 cell sizes
 no-sizes count cell sizes long none = record { long = long; each = none }
 
 pub size-bound : (count nodes : ℕ) (cell sizes : List ℕ) → AreSizes count nodes cell sizes → (c : ℕ) → c < count → rank_at sizes c ≤ nodes
-size-bound count nodes cell sizes are c low = omega (arith, are.each c low, count-bound (λ m. nat_eq (rank_at cell m) c) (range_with_len 0 nodes), length-range_with_len 0 nodes)
+size-bound count nodes cell sizes are c low = omega
+    (arith, are.each c low, count-bound (λ m. nat_eq (rank_at cell m) c) (range_with_len 0 nodes), length-range_with_len 0 nodes)
 
-pub sizes-more : (count n : ℕ) (cell sizes : List ℕ) → AreSizes count n cell sizes → rank_at cell n < count → AreSizes count (n + 1) cell (slice_set sizes (rank_at cell n) (rank_at sizes (rank_at cell n) + 1))
+pub sizes-more : (count n : ℕ) (cell sizes : List ℕ) → AreSizes count n cell sizes → rank_at cell n < count
+    → AreSizes count (n + 1) cell (slice_set sizes (rank_at cell n) (rank_at sizes (rank_at cell n) + 1))
 sizes-more count n cell sizes are small = record {
   long = length-set sizes (rank_at cell n) (rank_at sizes (rank_at cell n) + 1) ∙ are.long;
   each = each;
@@ -59,20 +64,26 @@ sizes-more count n cell sizes are small = record {
     part : ℕ
     part = rank_at cell n
 
-    each : (c : ℕ) → c < count → rank_at (slice_set sizes (rank_at cell n) (rank_at sizes (rank_at cell n) + 1)) c ≡ how_many (λ m. nat_eq (rank_at cell m) c) (range_with_len 0 (n + 1))
+    each : (c : ℕ) → c < count → rank_at (slice_set sizes (rank_at cell n) (rank_at sizes (rank_at cell n) + 1)) c ≡ how_many
+        (λ m. nat_eq (rank_at cell m) c) (range_with_len 0 (n + 1))
     each c low = by_test (nat_eq (rank_at cell n) c) refl
       where
-        by_test : (b : Bool) → nat_eq (rank_at cell n) c ≡ b → rank_at (slice_set sizes (rank_at cell n) (rank_at sizes (rank_at cell n) + 1)) c ≡ how_many (λ m. nat_eq (rank_at cell m) c) (range_with_len 0 (n + 1))
+        by_test : (b : Bool) → nat_eq (rank_at cell n) c ≡ b
+            → rank_at (slice_set sizes (rank_at cell n) (rank_at sizes (rank_at cell n) + 1)) c ≡ how_many (λ m. nat_eq (rank_at cell m) c)
+            (range_with_len 0 (n + 1))
         by_test true e =
             let same : rank_at cell n ≡ c = grind (arith, nat_tests) in
             let one : ◌≡◌ {A = ℕ} (cond (nat_eq (rank_at cell n) c) 1 0) 1 = ap (λ (b : Bool). cond b 1 0) e in
             let more = count-more (λ m. nat_eq (rank_at cell m) c) n in
-            let P : ℕ → Type 0 = λ k. rank_at (slice_set sizes (rank_at cell n) (rank_at sizes (rank_at cell n) + 1)) k ≡ rank_at sizes k + 1 in
-            let here = subst P same (get_or-set_same sizes (rank_at cell n) (rank_at sizes (rank_at cell n) + 1) 0 (omega (arith, small, are.long))) in
+            let P : ℕ → Type 0 = λ k. rank_at (slice_set sizes (rank_at cell n) (rank_at sizes (rank_at cell n) + 1)) k ≡ rank_at sizes
+            k + 1 in
+            let here = subst P same (get_or-set_same sizes (rank_at cell n) (rank_at sizes (rank_at cell n) + 1) 0
+            (omega (arith, small, are.long))) in
             omega (arith, one, more, here, are.each c low)
         by_test false e =
             let other : c ≢ rank_at cell n = λ same. grind (arith, nat_tests) in
             let none : ◌≡◌ {A = ℕ} (cond (nat_eq (rank_at cell n) c) 1 0) 0 = ap (λ (b : Bool). cond b 1 0) e in
             let more = count-more (λ m. nat_eq (rank_at cell m) c) n in
-            let there : rank_at (slice_set sizes (rank_at cell n) (rank_at sizes (rank_at cell n) + 1)) c ≡ rank_at sizes c = get_or-set_other sizes (rank_at cell n) c (rank_at sizes (rank_at cell n) + 1) 0 other in
+            let there : rank_at (slice_set sizes (rank_at cell n) (rank_at sizes (rank_at cell n) + 1)) c ≡ rank_at sizes c =
+            get_or-set_other sizes (rank_at cell n) c (rank_at sizes (rank_at cell n) + 1) 0 other in
             omega (arith, none, more, there, are.each c low)

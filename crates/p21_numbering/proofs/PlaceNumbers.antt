@@ -24,7 +24,8 @@ count-less p q (x ∷ xs) more = by_tests (p x) (q x) refl refl (count-less p q 
     by_tests false true e f rest = omega (arith, rest)
     by_tests false false e f rest = omega (arith, rest)
 
-count-strictly : {X : Type 0} (p q : X → Bool) (xs : List X) (x : X) → ((y : X) → p y ≡ true → q y ≡ true) → Contains xs x → p x ≡ false → q x ≡ true → how_many p xs < how_many q xs
+count-strictly : {X : Type 0} (p q : X → Bool) (xs : List X) (x : X) → ((y : X) → p y ≡ true → q y ≡ true) → Contains xs x → p x ≡ false
+    → q x ≡ true → how_many p xs < how_many q xs
 count-strictly p q [] x more among fail pass = absurd (Contains-none x among)
 count-strictly {X} p q (y ∷ ys) x more among fail pass = elim (Contains-cases y ys x among) [
   | inl same ↦ (let P : X → Type 0 = λ z. p z ≡ false in let Q : X → Type 0 = λ z. q z ≡ true in
@@ -44,10 +45,12 @@ module _ (all : List (List ℕ)) where
   rank-less : (p q : List ℕ) → Contains all p → slice_cmp nat_cmp p q ≡ Less → rank_among all p < rank_among all q
   rank-less p q among less =
       count-strictly (λ r. is_below r p) (λ r. is_below r q) all p
-      (λ r below. ap is_lt (nat_list_cmp_total.trans r p q (less_is (slice_cmp nat_cmp r p) below) less)) among (below-itself p) (ap is_lt less)
+      (λ r below. ap is_lt (nat_list_cmp_total.trans r p q (less_is (slice_cmp nat_cmp r p) below) less)) among (below-itself p)
+      (ap is_lt less)
 
   -- ranks are ordered as the texts are
-  pub ranks-ordered : (p q : List ℕ) → Contains all p → Contains all q → slice_cmp nat_cmp p q ≡ nat_cmp (rank_among all p) (rank_among all q)
+  pub ranks-ordered : (p q : List ℕ) → Contains all p → Contains all q
+      → slice_cmp nat_cmp p q ≡ nat_cmp (rank_among all p) (rank_among all q)
   ranks-ordered p q among among_ = by_order (slice_cmp nat_cmp p q) refl
     where
       by_order : (o : Ordering) → slice_cmp nat_cmp p q ≡ o → slice_cmp nat_cmp p q ≡ nat_cmp (rank_among all p) (rank_among all q)
@@ -79,11 +82,14 @@ module _ (all : List (List ℕ)) where
   pub text-is : (p : List ℕ) → Contains all p → text_of (rank_among all p) ≡ p
   text-is p among = found all (λ q h. h) among
     where
-      found : (rest : List (List ℕ)) → ((q : List ℕ) → Contains rest q → Contains all q) → Contains rest p → text_in rest (rank_among all p) ≡ p
+      found : (rest : List (List ℕ)) → ((q : List ℕ) → Contains rest q → Contains all q) → Contains rest p
+          → text_in rest (rank_among all p) ≡ p
       found [] within at = absurd (Contains-none p at)
-      found (q ∷ qs) within at = by_test (nat_eq (rank_among all q) (rank_among all p)) refl (λ later. found qs (λ r h. within r (Contains-later q qs r h)) later)
+      found (q ∷ qs) within at = by_test (nat_eq (rank_among all q) (rank_among all p)) refl
+          (λ later. found qs (λ r h. within r (Contains-later q qs r h)) later)
         where
-          by_test : (b : Bool) → nat_eq (rank_among all q) (rank_among all p) ≡ b → (Contains qs p → text_in qs (rank_among all p) ≡ p) → (if b then q else text_in qs (rank_among all p)) ≡ p
+          by_test : (b : Bool) → nat_eq (rank_among all q) (rank_among all p) ≡ b → (Contains qs p → text_in qs (rank_among all p) ≡ p)
+              → (if b then q else text_in qs (rank_among all p)) ≡ p
           by_test true e more = rank-apart q p (within q (Contains-first q qs)) among (eqb-true (rank_among all q) (rank_among all p) e)
           by_test false e more = elim (Contains-cases q qs p at) [
             | inl same ↦ absurd (true≢false (sym (eq-eqb (rank_among all q) (rank_among all p) (ap (rank_among all) same)) ∙ e))

@@ -28,7 +28,8 @@ use Rattle.p21_numbering.proofs.LooseNames.{Tells, is-shared, not-shared, rows-t
 abbrev with_values : List ℕ → List Values → Typed
 with_values es rows = record { entities = es; values = rows }
 
-module _ (s : Schema) (ranking : Ranking) (m : FileMeaning) (proper : IsProper m) (st : Standing) (are : IsStanding ranking m st) (i : Instance) (stands : IsInstanceOf m i) where
+module _ (s : Schema) (ranking : Ranking) (m : FileMeaning) (proper : IsProper m) (st : Standing) (are : IsStanding ranking m st)
+    (i : Instance) (stands : IsInstanceOf m i) where
   abbrev x : Typed
   x = i.typed
 
@@ -47,15 +48,20 @@ module _ (s : Schema) (ranking : Ranking) (m : FileMeaning) (proper : IsProper m
   -- a reference that shares its rank
   target-shared : (t : ℕ) → Contains (shared_targets st i) t → Contains (typed_targets x) t × Shares ranking m t
   target-shared t among =
-      let (u, at, is) = Contains-unmapped (λ (v : Use). v.1) (typed_uses x) t (Contains-unfiltered (is_shared st) (map (λ (v : Use). v.1) (typed_uses x)) t among) in
+      let (u, at, is) = Contains-unmapped (λ (v : Use). v.1) (typed_uses x) t
+      (Contains-unfiltered (is_shared st) (map (λ (v : Use). v.1) (typed_uses x)) t among) in
       let P : ℕ → Type 0 = λ n. Contains (typed_targets x) n in
-      let target : Contains (typed_targets x) t = subst P is (rows_uses-target 0 x.values u at) in
-      (target, shared-is ranking m proper st are t (closed t target) (passes (is_shared st) (map (λ (v : Use). v.1) (typed_uses x)) t among))
+      let target : Contains (typed_targets x) t = subst P is (rows_uses-target 0 x.values u at) in (
+        target,
+        shared-is ranking m proper st are t (closed t target)
+            (passes (is_shared st) (map (λ (v : Use). v.1) (typed_uses x)) t among),
+      )
 
   shared-target : (t : ℕ) → Contains (typed_targets x) t → Shares ranking m t → Contains (shared_targets st i) t
   shared-target t target shares =
       let (p, at) = rows-use 0 x.values t target in
-      Contains-filter (is_shared st) (map (λ (v : Use). v.1) (typed_uses x)) t (is-shared ranking m proper st are t (closed t target) shares) (Contains-mapped (λ (v : Use). v.1) (typed_uses x) (p, t) at)
+      Contains-filter (is_shared st) (map (λ (v : Use). v.1) (typed_uses x)) t
+      (is-shared ranking m proper st are t (closed t target) shares) (Contains-mapped (λ (v : Use). v.1) (typed_uses x) (p, t) at)
 
   heading-said : said_in s i.heading (renamed_typed st.rank x) ≡ said s stands.section (renamed_typed (ranking m) x)
   heading-said = ap (λ (hs : List (List ℕ)). said_in s hs (renamed_typed st.rank x)) stands.heading_is ∙ ap (said s stands.section) by-rank
@@ -74,7 +80,8 @@ module _ (s : Schema) (ranking : Ranking) (m : FileMeaning) (proper : IsProper m
           at,
           shares_t,
           are.rank t at,
-          λ (decided : IsDecided ranking m). other (are.many t at ∙ sym (decided.as_many i.name t (x, stands.instance, target) shares shares_t) ∙ sym (are.many i.name named)),
+          λ (decided : IsDecided ranking m). other (are.many t at
+              ∙ sym (decided.as_many i.name t (x, stands.instance, target) shares shares_t) ∙ sym (are.many i.name named)),
         )
 
     sharing-ranked : IsRanked s ranking m r
@@ -85,7 +92,8 @@ module _ (s : Schema) (ranking : Ranking) (m : FileMeaning) (proper : IsProper m
         let L : Option (ℕ × ℕ) → Type 0 = λ o. IsLoose ranking m i.name x o in
         let F : List ℕ → Type 0 = λ ns. FindsUneven st (many st i.name) ns is.uneven in
         let S : ℕ → Type 0 = λ n. Shares ranking m n in
-        let B : List ℕ → Type 0 = λ ns. (t : ℕ) → Contains ns t ↔ (Contains (typed_targets x) t × Shares ranking m r.name × Shares ranking m t) in
+        let B : List ℕ → Type 0 = λ ns. (t : ℕ) → Contains ns t
+        ↔ (Contains (typed_targets x) t × Shares ranking m r.name × Shares ranking m t) in
         record {
           typed = x;
           heading = stands.section;
@@ -105,13 +113,21 @@ module _ (s : Schema) (ranking : Ranking) (m : FileMeaning) (proper : IsProper m
 
   module _ (r : Ranked) (is : IsAlone st i r) (alone : ¬ Shares ranking m i.name) where
     rows-loose : (o : Option ℕ) → loose_rows st x.values ≡ o → IsLoose ranking m i.name x (with_rank st o)
-    rows-loose o found = by o (let P : Option ℕ → Type 0 = λ p. Tells (is_shared st) (Each (AllSpread ranking m) x.values) (typed_targets x) p in subst P found (rows-tell ranking m proper st are x.values (proper.1 i.name x stands.instance) closed))
+    rows-loose o found = by o (let P : Option ℕ → Type 0 =
+        λ p. Tells (is_shared st) (Each (AllSpread ranking m) x.values) (typed_targets x) p in
+        subst P found (rows-tell ranking m proper st are x.values (proper.1 i.name x stands.instance) closed))
       where
-        by : (p : Option ℕ) → Tells (is_shared st) (Each (AllSpread ranking m) x.values) (typed_targets x) p → IsLoose ranking m i.name x (with_rank st p)
+        by : (p : Option ℕ) → Tells (is_shared st) (Each (AllSpread ranking m) x.values) (typed_targets x) p
+            → IsLoose ranking m i.name x (with_rank st p)
         by None spread = (λ shares. absurd (alone shares), λ _. spread)
         by (Some n) (target, shared, not_) =
-            let at : Contains (names m) n = closed n target in
-            (at, shared-is ranking m proper st are n at shared, are.rank n at, λ (decided : IsDecided ranking m). not_ (decided.spread i.name x stands.instance alone))
+            let at : Contains (names m) n = closed n target in (
+              at,
+              shared-is ranking m proper st are n at shared,
+              are.rank n at,
+              λ (decided : IsDecided ranking m). not_
+                  (decided.spread i.name x stands.instance alone),
+            )
 
     alone-ranked : IsRanked s ranking m r
     alone-ranked =
@@ -121,7 +137,8 @@ module _ (s : Schema) (ranking : Ranking) (m : FileMeaning) (proper : IsProper m
         let L : Option (ℕ × ℕ) → Type 0 = λ o. IsLoose ranking m i.name x o in
         let A : ℕ → Type 0 = λ n. ¬ Shares ranking m n in
         let alone_r : ¬ Shares ranking m r.name = subst A (sym is.name_is) alone in
-        let B : List ℕ → Type 0 = λ ns. (t : ℕ) → Contains ns t ↔ (Contains (typed_targets x) t × Shares ranking m r.name × Shares ranking m t) in
+        let B : List ℕ → Type 0 = λ ns. (t : ℕ) → Contains ns t
+        ↔ (Contains (typed_targets x) t × Shares ranking m r.name × Shares ranking m t) in
         record {
           typed = x;
           heading = stands.section;
@@ -129,7 +146,11 @@ module _ (s : Schema) (ranking : Ranking) (m : FileMeaning) (proper : IsProper m
           section = subst Q (sym is.name_is) stands.in_section;
           rank_is = is.rank_is ∙ are.rank i.name named ∙ ap (ranking m) (sym is.name_is);
           said_is = λ shares. absurd (alone_r shares);
-          beside_are = subst B (sym is.beside_are) (λ t. (λ among. absurd (Contains-none t among), λ (target, shares, shares_t). absurd (alone_r shares)));
+          beside_are = subst B (sym is.beside_are) (λ t. (
+            λ among. absurd (Contains-none t among),
+            λ (target, shares, shares_t). absurd
+                (alone_r shares),
+          ));
           loose_is = subst R (sym is.name_is) (subst L (sym is.loose_is) (rows-loose (loose_rows st x.values) refl));
         }
 

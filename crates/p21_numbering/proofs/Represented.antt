@@ -21,7 +21,8 @@ NoneTwice-filter {X} p (x ∷ xs) none = by_test (p x) (NoneTwice-filter p xs no
     by_test true rest = (λ among. none.0 (Contains-unfiltered p xs x among), rest)
     by_test false rest = rest
 
-pub NoneTwice-mapped : {X Y : Type 0} (f : X → Y) (xs : List X) → ((x y : X) → Contains xs x → Contains xs y → f x ≡ f y → x ≡ y) → NoneTwice xs → NoneTwice (map f xs)
+pub NoneTwice-mapped : {X Y : Type 0} (f : X → Y) (xs : List X) → ((x y : X) → Contains xs x → Contains xs y → f x ≡ f y → x ≡ y)
+    → NoneTwice xs → NoneTwice (map f xs)
 NoneTwice-mapped f [] apart none = tt
 NoneTwice-mapped {X} f (x ∷ xs) apart none = (
   λ among. let (y, at, is) = Contains-unmapped f xs (f x) among in
@@ -30,7 +31,8 @@ NoneTwice-mapped {X} f (x ∷ xs) apart none = (
   NoneTwice-mapped f xs (λ y z at at_ same. apart y z (Contains-later x xs y at) (Contains-later x xs z at_) same) none.1,
 )
 
-NoneTwice-joined : {X : Type 0} (xs ys : List X) → NoneTwice xs → NoneTwice ys → ((x : X) → Contains xs x → Contains ys x → ⊥) → NoneTwice (xs ++ ys)
+NoneTwice-joined : {X : Type 0} (xs ys : List X) → NoneTwice xs → NoneTwice ys → ((x : X) → Contains xs x → Contains ys x → ⊥)
+    → NoneTwice (xs ++ ys)
 NoneTwice-joined [] ys none none_ apart = none_
 NoneTwice-joined {X} (x ∷ xs) ys none none_ apart = (
   λ among. elim (Contains-append_cases xs ys x among) [ inl h ↦ none.0 h | inr h ↦ apart x (Contains-first x xs) h ],
@@ -38,7 +40,8 @@ NoneTwice-joined {X} (x ∷ xs) ys none none_ apart = (
 )
 
 -- beside different nodes stand different uses
-pub NoneTwice-beside : (at : ℕ → List (List ℕ)) (nodes : List ℕ) → NoneTwice nodes → ((m : ℕ) → Contains nodes m → NoneTwice (at m)) → NoneTwice (flat_map (λ m. map (beside m) (at m)) nodes)
+pub NoneTwice-beside : (at : ℕ → List (List ℕ)) (nodes : List ℕ) → NoneTwice nodes → ((m : ℕ) → Contains nodes m → NoneTwice (at m))
+    → NoneTwice (flat_map (λ m. map (beside m) (at m)) nodes)
 NoneTwice-beside at [] none each = tt
 NoneTwice-beside at (m ∷ nodes) none each =
     NoneTwice-joined (map (beside m) (at m)) (flat_map (λ k. map (beside k) (at k)) nodes)
@@ -63,10 +66,12 @@ module _ (place : ℕ → List ℕ) (number : List ℕ → ℕ) (count n : ℕ) 
     pub sound : (m i : ℕ) → Contains edges (n, m, i) → (m < count) × Contains (at m) (place i) × (number (place i) ≡ i)
     pub complete : (m : ℕ) (q : List ℕ) → m < count → Contains (at m) q → Contains edges (n, m, number q) × (place (number q) ≡ q)
 
-  pub edges-stand : HasEdges → Shuffled (map (placed place) (map other_end own)) (flat_map (λ m. map (beside m) (at m)) (range_with_len 0 count))
+  pub edges-stand : HasEdges → Shuffled (map (placed place) (map other_end own))
+      (flat_map (λ m. map (beside m) (at m)) (range_with_len 0 count))
   edges-stand has =
       members-shuffled (map (placed place) (map other_end own)) (flat_map (λ m. map (beside m) (at m)) (range_with_len 0 count))
-      (NoneTwice-mapped (placed place) (map other_end own) apart (NoneTwice-mapped other_end own ends-apart (NoneTwice-filter (λ (e : Edge). nat_eq e.0 n) edges has.once)))
+      (NoneTwice-mapped (placed place) (map other_end own) apart
+      (NoneTwice-mapped other_end own ends-apart (NoneTwice-filter (λ (e : Edge). nat_eq e.0 n) edges has.once)))
       (NoneTwice-beside at (range_with_len 0 count) (range-none_twice count) (λ m among. has.at_once m (range-below count m among)))
       to back
     where
@@ -79,7 +84,8 @@ module _ (place : ℕ → List ℕ) (number : List ℕ → ℕ) (count n : ℕ) 
 
       ends-apart : (e f : Edge) → Contains own e → Contains own f → other_end e ≡ other_end f → e ≡ f
       ends-apart e f among among_ same =
-          let first : e.0 ≡ f.0 = eqb-true e.0 n (passes (λ (d : Edge). nat_eq d.0 n) edges e among) ∙ sym (eqb-true f.0 n (passes (λ (d : Edge). nat_eq d.0 n) edges f among_)) in
+          let first : e.0 ≡ f.0 = eqb-true e.0 n (passes (λ (d : Edge). nat_eq d.0 n) edges e among)
+          ∙ sym (eqb-true f.0 n (passes (λ (d : Edge). nat_eq d.0 n) edges f among_)) in
           ap (λ k. (k, e.1, e.2)) first ∙ ap (λ (u : Use). (f.0, u.0, u.1)) same
 
       apart : (u v : Use) → Contains (map other_end own) u → Contains (map other_end own) v → placed place u ≡ placed place v → u ≡ v
@@ -88,7 +94,9 @@ module _ (place : ℕ → List ℕ) (number : List ℕ → ℕ) (count n : ℕ) 
           let (f, at_f, is_) = Contains-unmapped other_end own v among_ in
           let here = (has.sound e.1 e.2 (own-edge e at_e)).2 in
           let there = (has.sound f.1 f.2 (own-edge f at_f)).2 in
-          let second : u.1 ≡ v.1 = ap (λ (w : Use). w.1) (sym is) ∙ sym here ∙ ap (λ (w : Use). number (place w.1)) is ∙ ap (λ (w : PlacedUse). number w.1) same ∙ ap (λ (w : Use). number (place w.1)) (sym is_) ∙ there ∙ ap (λ (w : Use). w.1) is_ in
+          let second : u.1 ≡ v.1 = ap (λ (w : Use). w.1) (sym is) ∙ sym here ∙ ap (λ (w : Use). number (place w.1)) is
+          ∙ ap (λ (w : PlacedUse). number w.1) same ∙ ap (λ (w : Use). number (place w.1)) (sym is_) ∙ there
+          ∙ ap (λ (w : Use). w.1) is_ in
           ap (λ k. (k, u.1)) (ap (λ (w : PlacedUse). w.0) same) ∙ ap (λ k. (v.0, k)) second
 
       to : AreMembers (map (placed place) (map other_end own)) (flat_map (λ m. map (beside m) (at m)) (range_with_len 0 count))
@@ -97,13 +105,16 @@ module _ (place : ℕ → List ℕ) (number : List ℕ → ℕ) (count n : ℕ) 
           let (e, at_e, is_) = Contains-unmapped other_end own u at_u in
           let (low, found, same) = has.sound e.1 e.2 (own-edge e at_e) in
           let P : PlacedUse → Type 0 = λ y. Contains (flat_map (λ m. map (beside m) (at m)) (range_with_len 0 count)) y in
-          subst P (ap (placed place) is_ ∙ is) (Contains-flat_map (λ m. map (beside m) (at m)) (range_with_len 0 count) e.1 (e.1, place e.2) (Contains-range count e.1 low) (Contains-mapped (beside e.1) (at e.1) (place e.2) found))
+          subst P (ap (placed place) is_ ∙ is) (Contains-flat_map (λ m. map (beside m) (at m)) (range_with_len 0 count) e.1 (e.1, place e.2)
+          (Contains-range count e.1 low) (Contains-mapped (beside e.1) (at e.1) (place e.2) found))
 
       back : AreMembers (flat_map (λ m. map (beside m) (at m)) (range_with_len 0 count)) (map (placed place) (map other_end own))
       back x among =
           let (m, at_m, inside) = Contains-one_of (λ m. map (beside m) (at m)) (range_with_len 0 count) x among in
           let (q, at_q, is) = Contains-unmapped (beside m) (at m) x inside in
           let (edge, same) = has.complete m q (range-below count m at_m) at_q in
-          let kept : Contains own (n, m, number q) = Contains-filter (λ (e : Edge). nat_eq e.0 n) edges (n, m, number q) (eq-eqb n n refl) edge in
+          let kept : Contains own (n, m, number q) = Contains-filter (λ (e : Edge). nat_eq e.0 n) edges (n, m, number q) (eq-eqb n n refl)
+          edge in
           let P : PlacedUse → Type 0 = λ y. Contains (map (placed place) (map other_end own)) y in
-          subst P (ap (λ (p : List ℕ). (m, p)) same ∙ is) (Contains-mapped (placed place) (map other_end own) (m, number q) (Contains-mapped other_end own (n, m, number q) kept))
+          subst P (ap (λ (p : List ℕ). (m, p)) same ∙ is) (Contains-mapped (placed place) (map other_end own) (m, number q)
+          (Contains-mapped other_end own (n, m, number q) kept))

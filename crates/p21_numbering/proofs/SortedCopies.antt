@@ -42,7 +42,8 @@ second-low e f not_ same = elim (either e.1 f.1) [
   | inr down ↦
       let equal : Equal ≡ nat_cmp f.0 e.0 = nat_cmp_is f.0 e.0 Equal (sym same) in
       let below : Less ≡ nat_cmp f.1 e.1 = nat_cmp_is f.1 e.1 Less down in
-      absurd (true≢false (ap (λ (o : Ordering). is_lt (ordering_then (ordering_then Equal o) (nat_cmp f.2 e.2))) below ∙ ap (λ (o : Ordering). is_lt (ordering_then (ordering_then o (nat_cmp f.1 e.1)) (nat_cmp f.2 e.2))) equal ∙ not_))
+      absurd (true≢false (ap (λ (o : Ordering). is_lt (ordering_then (ordering_then Equal o) (nat_cmp f.2 e.2))) below
+      ∙ ap (λ (o : Ordering). is_lt (ordering_then (ordering_then o (nat_cmp f.1 e.1)) (nat_cmp f.2 e.2))) equal ∙ not_))
 ]
 
 -- the first has no higher rank, and in one rank its part has a lower number and it says the same
@@ -54,7 +55,8 @@ record IsLower (all : List Ranked) (e f : Entry) : Type 0 where
 lower-then : (all : List Ranked) (e f g : Entry) → IsLower all e f → IsLower all f g → IsLower all e g
 lower-then all e f g low low_ = record {
   rank = omega (arith, low.rank, low_.rank);
-  part = λ same. let one = low.part (omega (arith, low.rank, low_.rank, same)) in let two = low_.part (omega (arith, low.rank, low_.rank, same)) in omega (arith, one, two);
+  part = λ same. let one = low.part (omega (arith, low.rank, low_.rank, same)) in let two =
+      low_.part (omega (arith, low.rank, low_.rank, same)) in omega (arith, one, two);
   said = λ same. low.said (omega (arith, low.rank, low_.rank, same)) ∙ low_.said (omega (arith, low.rank, low_.rank, same));
 }
 
@@ -70,7 +72,8 @@ abbrev AreLower : List Ranked → List Entry → Type 0
 AreLower all [] = Unit {0}
 AreLower all (e ∷ es) = Each (λ f. IsLower all e f) es × AreLower all es
 
-all-lower : (all : List Ranked) (es : List Entry) → ((k : ℕ) → k + 1 < length es → IsLower all (entry_at es k) (entry_at es (k + 1))) → AreLower all es
+all-lower : (all : List Ranked) (es : List Entry) → ((k : ℕ) → k + 1 < length es → IsLower all (entry_at es k) (entry_at es (k + 1)))
+    → AreLower all es
 all-lower all [] next = tt
 all-lower all (e ∷ []) next = (tt, tt)
 all-lower all (e ∷ f ∷ es) next =
@@ -105,14 +108,18 @@ two-lower all (x ∷ xs) lower e f among among_ differ same = elim (Contains-cas
 
 -- ---- a clash, and none so far
 
-pub clash-at : (all : List Ranked) (sorted : List Entry) (k next : ℕ) → k + 1 ≡ next → next < length sorted → ¬ NoClash all (entry_at sorted k) (entry_at sorted next)
+pub clash-at : (all : List Ranked) (sorted : List Entry) (k next : ℕ) → k + 1 ≡ next → next < length sorted
+    → ¬ NoClash all (entry_at sorted k) (entry_at sorted next)
     → FindsClash all sorted (Some ((entry_at sorted k).2, (entry_at sorted next).2))
 clash-at all sorted k next is low clash =
-    let P : ℕ → Type 0 = λ j. j < length sorted → ¬ NoClash all (entry_at sorted k) (entry_at sorted j) → FindsClash all sorted (Some ((entry_at sorted k).2, (entry_at sorted j).2)) in
+    let P : ℕ → Type 0 = λ j. j < length sorted → ¬ NoClash all (entry_at sorted k) (entry_at sorted j)
+    → FindsClash all sorted (Some ((entry_at sorted k).2, (entry_at sorted j).2)) in
     subst P is (λ low_ clash_. (k, low_, refl, clash_)) low clash
 
-pub no-clash_more : (all : List Ranked) (sorted : List Entry) (k next : ℕ) → k + 1 ≡ next → ((i : ℕ) → i + 1 < next → NoClash all (entry_at sorted i) (entry_at sorted (i + 1)))
-    → NoClash all (entry_at sorted k) (entry_at sorted next) → (i : ℕ) → i + 1 < next + 1 → NoClash all (entry_at sorted i) (entry_at sorted (i + 1))
+pub no-clash_more : (all : List Ranked) (sorted : List Entry) (k next : ℕ) → k + 1 ≡ next
+    → ((i : ℕ) → i + 1 < next → NoClash all (entry_at sorted i) (entry_at sorted (i + 1)))
+    → NoClash all (entry_at sorted k) (entry_at sorted next) → (i : ℕ) → i + 1 < next + 1
+    → NoClash all (entry_at sorted i) (entry_at sorted (i + 1))
 no-clash_more all sorted k next is so_far last i low = elim (cases_eq i k) [
   | inl same ↦
       let P : ℕ → Type 0 = λ j. NoClash all (entry_at sorted j) (entry_at sorted (j + 1)) in
@@ -122,8 +129,13 @@ no-clash_more all sorted k next is so_far last i low = elim (cases_eq i k) [
 ]
 
 -- the same of instances that are equal
-pub clash-between : (e f : Entry) (r q r_ q_ : Ranked) → r ≡ r_ → q ≡ q_ → (e.0 ≡ f.0 → (e.1 ≢ f.1) × (r.said ≡ q.said)) → e.0 ≡ f.0 → (e.1 ≢ f.1) × (r_.said ≡ q_.said)
-clash-between e f r q r_ q_ is is_ none same = ((none same).0, sym (ap (λ (x : Ranked). x.said) is) ∙ (none same).1 ∙ ap (λ (x : Ranked). x.said) is_)
+pub clash-between : (e f : Entry) (r q r_ q_ : Ranked) → r ≡ r_ → q ≡ q_ → (e.0 ≡ f.0 → (e.1 ≢ f.1) × (r.said ≡ q.said)) → e.0 ≡ f.0
+    → (e.1 ≢ f.1) × (r_.said ≡ q_.said)
+clash-between e f r q r_ q_ is is_ none same = (
+  (none same).0,
+  sym (ap (λ (x : Ranked). x.said) is) ∙ (none same).1
+      ∙ ap (λ (x : Ranked). x.said) is_,
+)
 
 -- ---- the names of entries
 
@@ -150,7 +162,8 @@ module _ (all : List Ranked) (r part : ℕ → ℕ) where
   rises : (es : List Entry) → ((e : Entry) → Contains es e → IsOf e) → AreLower all es → RisesByPart r part (map name es)
   rises [] of lower = tt
   rises (e ∷ es) of lower = (
-    Each-mapped (λ n. r (name e) ≡ r n → part (name e) < part n) name es (Each-of_members (λ f. r (name e) ≡ r (name f) → part (name e) < part (name f)) es (λ f among same.
+    Each-mapped (λ n. r (name e) ≡ r n → part (name e) < part n) name es
+        (Each-of_members (λ f. r (name e) ≡ r (name f) → part (name e) < part (name f)) es (λ f among same.
         let low = Each-member (λ g. IsLower all e g) es f lower.0 among in
         let first = of e (Contains-first e es) in
         let second = of f (Contains-later e es f among) in
@@ -161,29 +174,36 @@ module _ (all : List Ranked) (r part : ℕ → ℕ) where
 
 module _ (all : List Ranked) (parts : List ℕ) (sorted : List Entry) (permuted : IsPermutation (entries_of all parts) sorted) where
   pub entry-among : (k : ℕ) → k < length all → Contains sorted (entry_of all parts k)
-  entry-among k low = Contains-permutation (entries_of all parts) sorted (entry_of all parts k) permuted (Contains-mapped (entry_of all parts) (range_with_len 0 (length all)) k (Contains-range (length all) k low))
+  entry-among k low = Contains-permutation (entries_of all parts) sorted (entry_of all parts k) permuted
+      (Contains-mapped (entry_of all parts) (range_with_len 0 (length all)) k (Contains-range (length all) k low))
 
   pub entry-is : (e : Entry) → Contains sorted e → (e.2 < length all) × (e ≡ entry_of all parts e.2)
   entry-is e among =
       let back = IsPermutation-sym (entries_of all parts) sorted permuted in
-      let (k, at, is) = Contains-unmapped (entry_of all parts) (range_with_len 0 (length all)) e (Contains-permutation sorted (entries_of all parts) e back among) in
+      let (k, at, is) = Contains-unmapped (entry_of all parts) (range_with_len 0 (length all)) e
+      (Contains-permutation sorted (entries_of all parts) e back among) in
       let same : k ≡ e.2 = ap (λ (f : Entry). f.2) is in
       (omega (arith, same, range-below (length all) k at), sym is ∙ ap (entry_of all parts) same)
 
   positions-once : NoneTwice (map (λ (e : Entry). e.2) sorted)
   positions-once =
-      let own : map (λ (e : Entry). e.2) (entries_of all parts) ≡ range_with_len 0 (length all) = map-mapped (λ (e : Entry). e.2) (entry_of all parts) (range_with_len 0 (length all)) ∙ map-id (range_with_len 0 (length all)) in
+      let own : map (λ (e : Entry). e.2) (entries_of all parts) ≡ range_with_len 0 (length all) =
+      map-mapped (λ (e : Entry). e.2) (entry_of all parts) (range_with_len 0 (length all)) ∙ map-id (range_with_len 0 (length all)) in
       let P : List ℕ → Type 0 = λ ks. NoneTwice ks in
       let before : NoneTwice (map (λ (e : Entry). e.2) (entries_of all parts)) = subst P (sym own) (range-none_twice (length all)) in
       distinct-none_twice (map (λ (e : Entry). e.2) sorted)
-      (IsDistinct-IsPermutation nat_eq (λ x y. grind (arith, nat_tests)) (map (λ (e : Entry). e.2) (entries_of all parts)) (map (λ (e : Entry). e.2) sorted) (IsPermutation-map (λ (e : Entry). e.2) (entries_of all parts) sorted permuted) (none_twice-distinct (map (λ (e : Entry). e.2) (entries_of all parts)) before))
+      (IsDistinct-IsPermutation nat_eq (λ x y. grind (arith, nat_tests)) (map (λ (e : Entry). e.2) (entries_of all parts))
+      (map (λ (e : Entry). e.2) sorted) (IsPermutation-map (λ (e : Entry). e.2) (entries_of all parts) sorted permuted)
+      (none_twice-distinct (map (λ (e : Entry). e.2) (entries_of all parts)) before))
 
   -- the names of the entries, each once
   pub names-once : NoneTwice (names_of all) → NoneTwice (map (λ (e : Entry). name_of all e.2) sorted)
   names-once own =
       let P : List ℕ → Type 0 = λ ks. NoneTwice ks in
       subst P (map-mapped (name_of all) (λ (e : Entry). e.2) sorted)
-      (none_twice-mapped (name_of all) (map (λ (e : Entry). e.2) sorted) (λ j k among among_ same. once-at (λ (r : Ranked). r.name) no_instance all own j k (below j among) (below k among_) same) positions-once)
+      (none_twice-mapped (name_of all) (map (λ (e : Entry). e.2) sorted)
+      (λ j k among among_ same. once-at (λ (r : Ranked). r.name) no_instance all own j k (below j among) (below k among_) same)
+      positions-once)
     where
       below : (k : ℕ) → Contains (map (λ (e : Entry). e.2) sorted) k → k < length all
       below k among =
@@ -201,17 +221,25 @@ module _ (all : List Ranked) (parts : List ℕ) (sorted : List Entry) (permuted 
 
   module _ (in_order : IsSorted entry_cmp sorted) where
     no-clash_lower : FindsClash all sorted None → AreLower all sorted
-    no-clash_lower none = all-lower all sorted (λ k low. lower-next all (entry_at sorted k) (entry_at sorted (k + 1)) (in_order k (0, 0, 0) (omega arith) low) (none k low))
+    no-clash_lower none = all-lower all sorted (λ k low. lower-next all (entry_at sorted k) (entry_at sorted (k + 1))
+        (in_order k (0, 0, 0) (omega arith) low) (none k low))
 
-    pub told : FindsClash all sorted None → (j k : ℕ) → j < length all → k < length all → j ≢ k → (ranked_at all j).rank ≡ (ranked_at all k).rank
+    pub told : FindsClash all sorted None → (j k : ℕ) → j < length all → k < length all → j ≢ k
+        → (ranked_at all j).rank ≡ (ranked_at all k).rank
         → (number_at parts j ≢ number_at parts k) × ((ranked_at all j).said ≡ (ranked_at all k).said)
-    told none j k low low_ differ same = two-lower all sorted (no-clash_lower none) (entry_of all parts j) (entry_of all parts k) (entry-among j low) (entry-among k low_) differ same
+    told none j k low low_ differ same = two-lower all sorted (no-clash_lower none) (entry_of all parts j) (entry_of all parts k)
+        (entry-among j low) (entry-among k low_) differ same
 
-    module _ (r part : ℕ → ℕ) (rank_is : (k : ℕ) → k < length all → (ranked_at all k).rank ≡ r (name_of all k)) (part_is : (k : ℕ) → k < length all → part (name_of all k) ≡ number_at parts k) where
+    module _ (r part : ℕ → ℕ) (rank_is : (k : ℕ) → k < length all → (ranked_at all k).rank ≡ r (name_of all k))
+        (part_is : (k : ℕ) → k < length all → part (name_of all k) ≡ number_at parts k) where
       of-all : (e : Entry) → Contains sorted e → IsOf all r part e
       of-all e among =
           let (low, is) = entry-is e among in
-          record { rank = sym (rank_is e.2 low) ∙ sym (ap (λ (f : Entry). f.0) is); in_part = part_is e.2 low ∙ sym (ap (λ (f : Entry). f.1) is) }
+          record {
+            rank = sym (rank_is e.2 low) ∙ sym (ap (λ (f : Entry). f.0) is);
+            in_part = part_is e.2 low
+                ∙ sym (ap (λ (f : Entry). f.1) is);
+          }
 
       pub names-ascend : FindsClash all sorted None → Ascends r (map (λ (e : Entry). name_of all e.2) sorted)
       names-ascend none = ascends all r part sorted of-all (no-clash_lower none)
@@ -243,7 +271,8 @@ module _ (all : List Ranked) (parts : List ℕ) (sorted : List Entry) (permuted 
       subst J (sym first) (subst K (sym second) (record {
         low = low;
         low_other = low_;
-        differ = λ same. let one : a ≡ a + 1 = once-at (λ (g : Entry). g.2) (0, 0, 0) sorted positions-once a (a + 1) (omega (arith, below)) below same in omega (arith, one);
+        differ = λ same. let one : a ≡ a + 1 = once-at (λ (g : Entry). g.2) (0, 0, 0) sorted positions-once a (a + 1) (omega (arith, below))
+            below same in omega (arith, one);
         one_rank = sym (ap (λ (g : Entry). g.0) own) ∙ same_rank ∙ ap (λ (g : Entry). g.0) own_;
         why = elim (cases_eq e.1 f.1) [
           | inl equal ↦ inl (sym (ap (λ (g : Entry). g.1) own) ∙ equal ∙ ap (λ (g : Entry). g.1) own_)

@@ -25,19 +25,24 @@ use Rattle.p21_numbering.proofs.Decisions.{got}
 
 pub name-at : (nodes : List Code) (k : ℕ) (d : Code) → k < length nodes → get_or (names_of (held_nodes nodes)) k 0 ≡ (get_or nodes k d).name
 name-at nodes k d low =
-    get_or-map (λ (n : Node). n.name) (held_nodes nodes) k (held_node d) 0 (omega (arith, low, length-map nodes held_node)) ∙ ap (λ (n : Node). n.name) (get_or-map held_node nodes k d (held_node d) low)
+    get_or-map (λ (n : Node). n.name) (held_nodes nodes) k (held_node d) 0 (omega (arith, low, length-map nodes held_node))
+    ∙ ap (λ (n : Node). n.name) (get_or-map held_node nodes k d (held_node d) low)
 
 -- ---- of a file
 
-module _ (ranking : Ranking) (m : FileMeaning) (whole_ : IsWhole m) (nodes : List Node) (names_are : Shuffled (names_of nodes) (names m)) (ranks : List ℕ)
-    (long : length ranks ≡ length nodes) (within : (k : ℕ) → k < length ranks → rank_at ranks k < length ranks) (have : HaveRanks (ranking m) nodes ranks)
-    (st : Standings) (found : NamesGet st.ranks (names_of nodes) ranks) (sizes : AreSizes (length ranks) (length ranks) ranks st.sizes.items)
+module _ (ranking : Ranking) (m : FileMeaning) (whole_ : IsWhole m) (nodes : List Node) (names_are : Shuffled (names_of nodes) (names m))
+    (ranks : List ℕ)
+    (long : length ranks ≡ length nodes) (within : (k : ℕ) → k < length ranks → rank_at ranks k < length ranks)
+    (have : HaveRanks (ranking m) nodes ranks)
+    (st : Standings) (found : NamesGet st.ranks (names_of nodes) ranks)
+    (sizes : AreSizes (length ranks) (length ranks) ranks st.sizes.items)
   where
     size : length (names_of nodes) ≡ length nodes
     size = length-map nodes (λ (n : Node). n.name)
 
     once : NoneTwice (names_of nodes)
-    once = Shuffled-none_twice (names m) (names_of nodes) (Shuffled-symmetric (names_of nodes) (names m) names_are) (names-none_twice m whole_)
+    once = Shuffled-none_twice (names m) (names_of nodes) (Shuffled-symmetric (names_of nodes) (names m) names_are)
+        (names-none_twice m whole_)
 
     pub record Stands (n : ℕ) : Type 0 where
       pub at : ℕ
@@ -46,7 +51,8 @@ module _ (ranking : Ranking) (m : FileMeaning) (whole_ : IsWhole m) (nodes : Lis
 
     pub stands : (n : ℕ) → Contains (names m) n → Stands n
     stands n among =
-        let (node, at, is) = Contains-unmapped (λ (r : Node). r.name) nodes n (Shuffled-members (names m) (names_of nodes) (Shuffled-symmetric (names_of nodes) (names m) names_are) n among) in
+        let (node, at, is) = Contains-unmapped (λ (r : Node). r.name) nodes n
+        (Shuffled-members (names m) (names_of nodes) (Shuffled-symmetric (names_of nodes) (names m) names_are) n among) in
         let (k, found_) = Contains-at nodes node at in
         let (low, same) = got nodes k node no_node found_ in
         record { at = k; low = low; is = ap (λ (q : Node). q.name) same ∙ is }
@@ -67,7 +73,8 @@ module _ (ranking : Ranking) (m : FileMeaning) (whole_ : IsWhole m) (nodes : Lis
         )
 
     names-listed : names_of nodes ≡ map (name_at nodes) (range_with_len 0 (length nodes))
-    names-listed = fill_by_all (name_at nodes) (names_of nodes) (length nodes) 0 size (λ k low. get_or-map (λ (n : Node). n.name) nodes k no_node 0 low)
+    names-listed = fill_by_all (name_at nodes) (names_of nodes) (length nodes) 0 size
+        (λ k low. get_or-map (λ (n : Node). n.name) nodes k no_node 0 low)
 
     many-is : (n : ℕ) → Contains (names m) n → rank_at st.sizes.items (new_name st.ranks n) ≡ many_in ranking m n
     many-is n among =
@@ -75,8 +82,10 @@ module _ (ranking : Ranking) (m : FileMeaning) (whole_ : IsWhole m) (nodes : Lis
         let of_rank : ℕ → Bool = λ j. nat_eq (ranking m j) (ranking m n) in
         sizes.each (new_name st.ranks n) low
         ∙ ap (λ count. how_many (λ j. nat_eq (rank_at ranks j) (new_name st.ranks n)) (range_with_len 0 count)) long
-        ∙ count-agree (λ j. nat_eq (rank_at ranks j) (new_name st.ranks n)) (λ j. of_rank (name_at nodes j)) (range_with_len 0 (length nodes))
-        (λ j at. ap (λ r. nat_eq r (new_name st.ranks n)) (have j (range-below (length nodes) j at)) ∙ ap (nat_eq (ranking m (name_at nodes j))) rank)
+        ∙ count-agree (λ j. nat_eq (rank_at ranks j) (new_name st.ranks n)) (λ j. of_rank (name_at nodes j))
+        (range_with_len 0 (length nodes))
+        (λ j at. ap (λ r. nat_eq r (new_name st.ranks n)) (have j (range-below (length nodes) j at))
+        ∙ ap (nat_eq (ranking m (name_at nodes j))) rank)
         ∙ sym (count-mapped of_rank (name_at nodes) (range_with_len 0 (length nodes)))
         ∙ ap (how_many of_rank) (sym names-listed)
         ∙ count-shuffled of_rank (names_of nodes) (names m) names_are

@@ -28,10 +28,13 @@ sucs-compare i j = elim (three i j) [
 ]
 
 -- numbers from 1 on, and behind them 0 and more
-pub ends-compare : (x y a b : List ℕ) → slice_cmp nat_cmp (map suc x ++ (0 ∷ a)) (map suc y ++ (0 ∷ b)) ≡ ordering_then (slice_cmp nat_cmp x y) (slice_cmp nat_cmp a b)
+pub ends-compare : (x y a b : List ℕ) → slice_cmp nat_cmp (map suc x ++ (0 ∷ a)) (map suc y ++ (0 ∷ b)) ≡ ordering_then
+    (slice_cmp nat_cmp x y) (slice_cmp nat_cmp a b)
 ends-compare [] [] a b = refl
-ends-compare [] (y ∷ ys) a b = ap (λ (o : Ordering). ordering_then o (slice_cmp nat_cmp a (map suc ys ++ (0 ∷ b)))) (sym (nat_cmp_is 0 (suc y) Less (omega arith)))
-ends-compare (x ∷ xs) [] a b = ap (λ (o : Ordering). ordering_then o (slice_cmp nat_cmp (map suc xs ++ (0 ∷ a)) b)) (sym (nat_cmp_is (suc x) 0 Greater (omega arith)))
+ends-compare [] (y ∷ ys) a b = ap (λ (o : Ordering). ordering_then o (slice_cmp nat_cmp a (map suc ys ++ (0 ∷ b))))
+    (sym (nat_cmp_is 0 (suc y) Less (omega arith)))
+ends-compare (x ∷ xs) [] a b = ap (λ (o : Ordering). ordering_then o (slice_cmp nat_cmp (map suc xs ++ (0 ∷ a)) b))
+    (sym (nat_cmp_is (suc x) 0 Greater (omega arith)))
 ends-compare (x ∷ xs) (y ∷ ys) a b =
     ap (λ (o : Ordering). ordering_then o (slice_cmp nat_cmp (map suc xs ++ (0 ∷ a)) (map suc ys ++ (0 ∷ b)))) (sucs-compare x y)
     ∙ ap (ordering_then (nat_cmp x y)) (ends-compare xs ys a b)

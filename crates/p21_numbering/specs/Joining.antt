@@ -34,4 +34,5 @@ pub record AreJoined (one other : ℕ) (of more_of : List ℕ) (more_members : L
   pub together : number_at more_of one ≡ number_at more_of other
   pub kept : (j k : ℕ) → j < length of → k < length of → number_at of j ≡ number_at of k → number_at more_of j ≡ number_at more_of k
   pub nothing_else : (j k : ℕ) → j < length of → k < length of → number_at more_of j ≡ number_at more_of k
-      → (number_at of j ≡ number_at of k) ⊎ (((number_at of j ≡ number_at of one) × (number_at of k ≡ number_at of other)) ⊎ ((number_at of j ≡ number_at of other) × (number_at of k ≡ number_at of one)))
+      → (number_at of j ≡ number_at of k) ⊎ (((number_at of j ≡ number_at of one) × (number_at of k ≡ number_at of other))
+      ⊎ ((number_at of j ≡ number_at of other) × (number_at of k ≡ number_at of one)))

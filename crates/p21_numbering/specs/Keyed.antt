@@ -34,4 +34,5 @@ pub record AreTellable (rank sizes : List ℕ) (keys sorted : List (List ℕ)) :
   pub keys_are : length keys ≡ length rank
   pub within : (n : ℕ) → n < length rank → rank_at rank n < length rank
   pub rise : AreTextsRising sorted
-  pub each : (n : ℕ) → n < length rank → IsTellable (length rank) (rank_at rank n) (rank_at sizes (rank_at rank n)) (slice_index_or keys n []) sorted
+  pub each : (n : ℕ) → n < length rank → IsTellable (length rank) (rank_at rank n) (rank_at sizes (rank_at rank n))
+      (slice_index_or keys n []) sorted

@@ -66,7 +66,8 @@ NoClash all e f = e.0 ≡ f.0 → (e.1 ≢ f.1) × ((ranked_at all e.2).said ≡
 abbrev pub FindsClash : List Ranked → List Entry → Option (ℕ × ℕ) → Type 0
 FindsClash all sorted None = (k : ℕ) → k + 1 < length sorted → NoClash all (entry_at sorted k) (entry_at sorted (k + 1))
 FindsClash all sorted (Some found) =
-    (k : ℕ) × (k + 1 < length sorted) × (found ≡ ((entry_at sorted k).2, (entry_at sorted (k + 1)).2)) × ¬ NoClash all (entry_at sorted k) (entry_at sorted (k + 1))
+    (k : ℕ) × (k + 1 < length sorted) × (found ≡ ((entry_at sorted k).2, (entry_at sorted (k + 1)).2))
+    × ¬ NoClash all (entry_at sorted k) (entry_at sorted (k + 1))
 
 -- the first that is loose, if there is one
 abbrev pub FindsLoose : List Ranked → Option (ℕ × ℕ) → Type 0

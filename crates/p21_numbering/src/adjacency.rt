@@ -30,7 +30,8 @@ impl Adjacency {
         requires within { (e : EdgeOf) → Contains edges.now e → e.1 < count }
         ensures are { IfOk result (λ all. AreUses count all) }
         ensures uses { IfOk result (λ all. all.uses.items ≡ map other_end edges.now) }
-        ensures each { IfOk result (λ all. (n : ℕ) → n < count → uses_of all n ≡ map other_end (filter (λ (e : EdgeOf). nat_eq e.0 n) edges.now)) }
+        ensures each { IfOk result (λ all. (n : ℕ) → n < count
+            → uses_of all n ≡ map other_end (filter (λ (e : EdgeOf). nat_eq e.0 n) edges.now)) }
     {
         let starts = starts(alloc, count, edges)?;
         let uses = other_ends(alloc, edges)?;

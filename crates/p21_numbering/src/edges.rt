@@ -75,7 +75,8 @@ fn all_edges(
     places: &[&[u64]],
 ) -> Result<Vec<Edge>, AllocError>
     requires { AreTextsRising (lent_rows places.now) }
-    ensures { IfOk result (λ edges. edges.items ≡ flat_map (edges_from positions.now (lent_rows places.now) (held_nodes nodes.now)) (range_with_len 0 (length nodes.now))) }
+    ensures { IfOk result (λ edges. edges.items ≡ flat_map (edges_from positions.now (lent_rows places.now) (held_nodes nodes.now))
+        (range_with_len 0 (length nodes.now))) }
 {
     let mut edges = Vec::new(alloc);
     for k in 0..nodes.len() {
@@ -93,7 +94,8 @@ fn with_edges(
     places: &[&[u64]],
 ) -> Result<Vec<Edge>, AllocError>
     requires { AreTextsRising (lent_rows places.now) }
-    ensures { IfOk result (λ more. more.items ≡ edges.items ++ flat_map (edge_of positions.now (lent_rows places.now) node) (held_uses uses.now)) }
+    ensures { IfOk result (λ more. more.items ≡ edges.items
+        ++ flat_map (edge_of positions.now (lent_rows places.now) node) (held_uses uses.now)) }
 {
     let mut more = edges;
     for one in uses {

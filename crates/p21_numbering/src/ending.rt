@@ -26,7 +26,9 @@ pub fn final_ranks(
     requires counted { AreCounted (length labelled.items) (rank_at labelled.items) }
     ensures size { IfOk result (λ rank. length rank.items ≡ length labelled.items) }
     ensures within { IfOk result (λ rank. (n : ℕ) → n < length labelled.items → rank_at rank.items n < length labelled.items) }
-    ensures ended { IfOk result (λ rank. (g : Graph) (place : ℕ → List ℕ) → Represents g place (length labelled.items) uses.now users.now → AreRanksBy (rank_by g.label g.nodes) (length labelled.items) labelled.items → AreRanksBy (final_rank g) (length labelled.items) rank.items) }
+    ensures ended { IfOk result (λ rank. (g : Graph) (place : ℕ → List ℕ) → Represents g place (length labelled.items) uses.now users.now
+        → AreRanksBy (rank_by g.label g.nodes) (length labelled.items) labelled.items
+        → AreRanksBy (final_rank g) (length labelled.items) rank.items) }
 {
     let count = labelled.len();
     let fresh = vec![in alloc; true; count]?;

@@ -33,7 +33,8 @@ pub fn file_order(
     instances: &[Instance<'_>],
 ) -> Result<Vec<u64>, Unordered>
     requires { Each (λ (i : InstanceOf). HasKnownParts schema.now i.typed) (file_instances instances.now) }
-    ensures { (bytes : List ℕ) (m : FileMeaning) → Reads schema.now bytes m → AreInstancesOf m (file_instances instances.now) → Orders (ranking_of schema.now) m result }
+    ensures { (bytes : List ℕ) (m : FileMeaning) → Reads schema.now bytes m → AreInstancesOf m (file_instances instances.now)
+        → Orders (ranking_of schema.now) m result }
 {
     schema.well_formed();
     let nodes = nodes(alloc, schema, instances)?;
@@ -51,7 +52,9 @@ fn nodes(alloc: Global, schema: &Schema, instances: &[Instance<'_>]) -> Result<V
     requires { Each (λ (i : InstanceOf). HasKnownParts schema.now i.typed) (file_instances instances.now) }
     ensures size { IfOk result (λ nodes. length nodes.items ≡ length instances.now) }
     ensures names { IfOk result (λ nodes. names (held_nodes nodes.items) ≡ names_of (file_instances instances.now)) }
-    ensures each { IfOk result (λ nodes. (k : ℕ) → k < length instances.now → IsNodeFor schema.now (instance_at (file_instances instances.now) k).name (instance_at (file_instances instances.now) k).typed (instance_at (file_instances instances.now) k).heading (node_at (held_nodes nodes.items) k)) }
+    ensures each { IfOk result (λ nodes. (k : ℕ) → k < length instances.now
+        → IsNodeFor schema.now (instance_at (file_instances instances.now) k).name (instance_at (file_instances instances.now) k).typed
+        (instance_at (file_instances instances.now) k).heading (node_at (held_nodes nodes.items) k)) }
 {
     let mut nodes = Vec::with_capacity(alloc, instances.len())?;
     for k in 0..instances.len() {
@@ -71,7 +74,9 @@ fn ranked_instances(
 ) -> Result<Vec<RankedInstance>, NoMemory>
     requires { Each (λ (i : InstanceOf). HasKnownParts schema.now i.typed) (file_instances instances.now) }
     ensures size { IfOk result (λ all. length all.items ≡ length instances.now) }
-    ensures each { IfOk result (λ all. (k : ℕ) → k < length instances.now → IsRankedBy schema.now (standing_of standings.now) (instance_at (file_instances instances.now) k) (ranked_at (held_instances all.items) k)) }
+    ensures each { IfOk result (λ all. (k : ℕ) → k < length instances.now
+        → IsRankedBy schema.now (standing_of standings.now) (instance_at (file_instances instances.now) k)
+        (ranked_at (held_instances all.items) k)) }
 {
     let mut all = Vec::with_capacity(alloc, instances.len())?;
     for k in 0..instances.len() {

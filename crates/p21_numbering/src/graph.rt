@@ -34,8 +34,10 @@ pub struct Node {
 pub fn ranks(alloc: Global, nodes: &[Node]) -> Result<Vec<usize>, AllocError>
     ensures size { IfOk result (λ ranks. length ranks.items ≡ length nodes.now) }
     ensures within { IfOk result (λ ranks. (k : ℕ) → k < length ranks.items → rank_at ranks.items k < length ranks.items) }
-    ensures ranking { IfOk result (λ ranks. (s : SchemaOf) (m : FileMeaning) → IsWhole m → AreNodesOf s m (held_nodes nodes.now) → HaveRanks (ranking_of s m) (held_nodes nodes.now) ranks.items) }
-    ensures ranks { IfOk result (λ ranks. (g : Graph) → IsGraph g (held_nodes nodes.now) → HaveRanks (final_rank g) (held_nodes nodes.now) ranks.items) }
+    ensures ranking { IfOk result (λ ranks. (s : SchemaOf) (m : FileMeaning) → IsWhole m → AreNodesOf s m (held_nodes nodes.now)
+        → HaveRanks (ranking_of s m) (held_nodes nodes.now) ranks.items) }
+    ensures ranks { IfOk result (λ ranks. (g : Graph) → IsGraph g (held_nodes nodes.now)
+        → HaveRanks (final_rank g) (held_nodes nodes.now) ranks.items) }
 {
     let labels = labels(alloc, nodes)?;
     let labelled = ranks_of_rows(alloc, &labels)?;

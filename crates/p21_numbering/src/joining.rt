@@ -27,7 +27,8 @@ pub fn joined_parts(
     requires { (p : ℕ × ℕ) → Contains pairs.now p → (p.0 < count) × (p.1 < count) }
     ensures size { IfOk result (λ of. length of.items ≡ count) }
     ensures joined { IfOk result (λ of. (p : ℕ × ℕ) → Contains pairs.now p → number_at of.items p.0 ≡ number_at of.items p.1) }
-    ensures connected { IfOk result (λ of. (j k : ℕ) → j < count → k < count → number_at of.items j ≡ number_at of.items k → Connected pairs.now j k) }
+    ensures connected { IfOk result (λ of. (j k : ℕ) → j < count → k < count → number_at of.items j ≡ number_at of.items k
+        → Connected pairs.now j k) }
 {
     let of = numbers_below(alloc, count)?;
     let members = single_rows(alloc, count)?;

@@ -28,7 +28,9 @@ pub fn keys(
     requires uses { AreUses (length rank.now) uses.now }
     requires users { AreUses (length rank.now) users.now }
     ensures size { IfOk result (λ keys. length keys.items ≡ length rank.now) }
-    ensures each { IfOk result (λ keys. (n : ℕ) → n < length rank.now → IsKeyed (rank_at rank.now n) (rank_at sizes.now (rank_at rank.now n)) (ranks_of rank.now fresh.now) (uses_of uses.now n) (uses_of users.now n) (slice_index_or (held_rows keys.items) n [])) }
+    ensures each { IfOk result (λ keys. (n : ℕ) → n < length rank.now
+        → IsKeyed (rank_at rank.now n) (rank_at sizes.now (rank_at rank.now n)) (ranks_of rank.now fresh.now) (uses_of uses.now n)
+        (uses_of users.now n) (slice_index_or (held_rows keys.items) n [])) }
 {
     let count = rank.len();
     let mut keys = Vec::with_capacity(alloc, count)?;
@@ -101,7 +103,9 @@ fn sorted_entries(
     requires long { length fresh.now ≡ length rank.now }
     requires uses { (u : UseOf) → Contains uses.now u → u.0 < length rank.now }
     requires users { (u : UseOf) → Contains users.now u → u.0 < length rank.now }
-    ensures permutation { IfOk result (λ entries. IsPermutation (entries_at 0 (marked fresh.now) (rank_at rank.now) uses.now ++ entries_at 1 (marked fresh.now) (rank_at rank.now) users.now) entries.items) }
+    ensures permutation { IfOk result (λ entries. IsPermutation
+        (entries_at 0 (marked fresh.now) (rank_at rank.now) uses.now ++ entries_at 1 (marked fresh.now) (rank_at rank.now) users.now)
+        entries.items) }
     ensures rises { IfOk result (λ entries. IsSorted entry_cmp entries.items) }
 {
     let onto = with_entries(Vec::new(alloc), 0, uses, rank, fresh)?;

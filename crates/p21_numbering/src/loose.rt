@@ -106,7 +106,8 @@ fn loose_element(
     counts: &BTreeMap<u64, usize>,
     standings: &Standings,
 ) -> Result<Option<u64>, AllocError>
-    ensures { IfOk result (λ found. (names : List ℕ) → IsCount (standing_of standings.now) names counts.now → found ≡ loose_element_of (standing_of standings.now) names (view value.now)) }
+    ensures { IfOk result (λ found. (names : List ℕ) → IsCount (standing_of standings.now) names counts.now
+        → found ≡ loose_element_of (standing_of standings.now) names (view value.now)) }
 {
     if is_full(plain_name(value), counts, standings) {
         return Ok(None);
@@ -116,7 +117,8 @@ fn loose_element(
 
 /// Whether there are as many plain references of the rank of this name as there are instances.
 fn is_full(name: Option<u64>, counts: &BTreeMap<u64, usize>, standings: &Standings) -> bool
-    ensures { (names : List ℕ) → IsCount (standing_of standings.now) names counts.now → result ≡ fills (standing_of standings.now) names name }
+    ensures { (names : List ℕ) → IsCount (standing_of standings.now) names counts.now
+        → result ≡ fills (standing_of standings.now) names name }
 {
     match name {
         Some(name) => count(counts, standings.rank(name)) == standings.many(name),

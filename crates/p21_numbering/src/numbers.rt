@@ -13,7 +13,8 @@ use std::collections::BTreeMap;
 ///
 /// Where memory runs out.
 pub fn numbers_in(alloc: Global, order: &[u64]) -> Result<BTreeMap<u64, u64>, AllocError>
-    ensures { IfOk result (λ numbers. IsDistinct nat_eq order.now → (n : ℕ) → Contains order.now n → new_name numbers n ≡ number_in order.now n) }
+    ensures { IfOk result (λ numbers. IsDistinct nat_eq order.now → (n : ℕ) → Contains order.now n
+        → new_name numbers n ≡ number_in order.now n) }
 {
     let mut numbers = BTreeMap::new(alloc);
     for k in 0..order.len() {

@@ -58,7 +58,8 @@ type Entry = (u64, usize, usize);
 ///
 /// `Alike`, with two names of one rank, where the model isn't decided; `NoMemory`.
 pub fn order(alloc: Global, instances: &[RankedInstance]) -> Result<Vec<u64>, Unordered>
-    ensures { (s : SchemaOf) → IsWellFormed s → (bytes : List ℕ) (m : FileMeaning) → Reads s bytes m → (ranking : Ranking) → AreRanked s ranking m (held_instances instances.now) → Orders ranking m result }
+    ensures { (s : SchemaOf) → IsWellFormed s → (bytes : List ℕ) (m : FileMeaning) → Reads s bytes m → (ranking : Ranking)
+        → AreRanked s ranking m (held_instances instances.now) → Orders ranking m result }
 {
     match first_loose(instances) {
         Some(found) => Err(alike(found.0, other_of(instances, found.0, found.1))),
@@ -69,7 +70,8 @@ pub fn order(alloc: Global, instances: &[RankedInstance]) -> Result<Vec<u64>, Un
 /// The same, where none is loose.
 fn tight_order(alloc: Global, instances: &[RankedInstance]) -> Result<Vec<u64>, Unordered>
     requires { FindsLoose (held_instances instances.now) None }
-    ensures { (s : SchemaOf) → IsWellFormed s → (bytes : List ℕ) (m : FileMeaning) → Reads s bytes m → (ranking : Ranking) → AreRanked s ranking m (held_instances instances.now) → Orders ranking m result }
+    ensures { (s : SchemaOf) → IsWellFormed s → (bytes : List ℕ) (m : FileMeaning) → Reads s bytes m → (ranking : Ranking)
+        → AreRanked s ranking m (held_instances instances.now) → Orders ranking m result }
 {
     let positions = positions(alloc, instances)?;
     let pairs = pairs(alloc, instances, &positions)?;
@@ -152,7 +154,8 @@ fn pairs(
     instances: &[RankedInstance],
     positions: &BTreeMap<u64, usize>,
 ) -> Result<Vec<(usize, usize)>, AllocError>
-    ensures { IfOk result (λ pairs. pairs.items ≡ flat_map (pairs_from positions.now (held_instances instances.now)) (range_with_len 0 (length instances.now))) }
+    ensures { IfOk result (λ pairs. pairs.items ≡ flat_map (pairs_from positions.now (held_instances instances.now))
+        (range_with_len 0 (length instances.now))) }
 {
     let mut pairs = Vec::new(alloc);
     for k in 0..instances.len() {
@@ -244,8 +247,10 @@ fn clash(instances: &[RankedInstance], sorted: &[Entry]) -> Option<(usize, usize
 
 /// Whether two entries are of one rank, and the instances are in one part or say different things.
 fn do_clash(one: &RankedInstance, other: &RankedInstance, first: Entry, second: Entry) -> bool
-    ensures yes { result ≡ true → ¬ (first.0 ≡ second.0 → (first.1 ≢ second.1) × ((held_instance one.now).said ≡ (held_instance other.now).said)) }
-    ensures no { result ≡ false → first.0 ≡ second.0 → (first.1 ≢ second.1) × ((held_instance one.now).said ≡ (held_instance other.now).said) }
+    ensures yes { result ≡ true → ¬ (first.0 ≡ second.0
+        → (first.1 ≢ second.1) × ((held_instance one.now).said ≡ (held_instance other.now).said)) }
+    ensures no { result ≡ false → first.0 ≡ second.0 → (first.1 ≢ second.1)
+        × ((held_instance one.now).said ≡ (held_instance other.now).said) }
 {
     if first.0 != second.0 {
         return false;

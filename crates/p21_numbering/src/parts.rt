@@ -14,7 +14,8 @@ pub fn fresh_nodes(alloc: Global, old: &[usize], new: &[usize]) -> Result<Vec<bo
     requires old_within { (n : ℕ) → n < length new.now → rank_at old.now n < length new.now }
     requires new_within { (n : ℕ) → n < length new.now → rank_at new.now n < length new.now }
     ensures size { IfOk result (λ fresh. length fresh.items ≡ length new.now) }
-    ensures each { IfOk result (λ fresh. (g : Graph) → g.nodes ≡ range_with_len 0 (length new.now) → (n : ℕ) → n < length new.now → marked fresh.items n ≡ not (is_largest g (rank_at old.now) (rank_at new.now) n)) }
+    ensures each { IfOk result (λ fresh. (g : Graph) → g.nodes ≡ range_with_len 0 (length new.now) → (n : ℕ) → n < length new.now
+        → marked fresh.items n ≡ not (is_largest g (rank_at old.now) (rank_at new.now) n)) }
 {
     let sizes = sizes(alloc, new)?;
     let largest = largest(alloc, old, new, &sizes)?;
@@ -59,7 +60,8 @@ fn largest(
     requires old_within { (n : ℕ) → n < length new.now → rank_at old.now n < length new.now }
     requires new_within { (n : ℕ) → n < length new.now → rank_at new.now n < length new.now }
     ensures size { IfOk result (λ largest. length largest.items ≡ length new.now) }
-    ensures each { IfOk result (λ largest. (o : ℕ) → o < length new.now → IsLargestAmong (length new.now) (length new.now) old.now new.now sizes.now o (rank_at largest.items o)) }
+    ensures each { IfOk result (λ largest. (o : ℕ) → o < length new.now
+        → IsLargestAmong (length new.now) (length new.now) old.now new.now sizes.now o (rank_at largest.items o)) }
 {
     let mut largest = vec![in alloc; new.len(); new.len()]?;
     for n in 0..new.len() {

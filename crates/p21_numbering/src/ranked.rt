@@ -101,7 +101,8 @@ fn shared_targets(
     uses: &[PlacedUse],
     standings: &Standings,
 ) -> Result<Vec<u64>, AllocError>
-    ensures { IfOk result (λ names. names.items ≡ filter (is_shared (standing_of standings.now)) (map (λ (u : Use). u.1) (held_uses uses.now))) }
+    ensures { IfOk result (λ names. names.items ≡ filter (is_shared (standing_of standings.now))
+        (map (λ (u : Use). u.1) (held_uses uses.now))) }
 {
     let mut names = Vec::new(alloc);
     for k in 0..uses.len() {

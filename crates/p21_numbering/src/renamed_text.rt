@@ -59,7 +59,8 @@ pub fn write_list(
     out: &mut Vec<u8>,
 ) -> Result<(), NoMemory>
     requires { HaveKnownTypes schema.now (views values.now) }
-    ensures { OnOk result (out.new.items ≡ out.old.items ++ list_text (value_texts schema.now (renamed_values (new_name names.now) (views values.now)))) }
+    ensures { OnOk result (out.new.items ≡ out.old.items
+        ++ list_text (value_texts schema.now (renamed_values (new_name names.now) (views values.now)))) }
 {
     out.push(b'(')?;
     for i in 0..values.len() {
@@ -79,7 +80,8 @@ fn write_element(
     out: &mut Vec<u8>,
 ) -> Result<(), NoMemory>
     requires { HasKnownTypes schema.now (view value.now) }
-    ensures { OnOk result (out.new.items ≡ out.old.items ++ element_text first (value_text schema.now (renamed_value (new_name names.now) (view value.now)))) }
+    ensures { OnOk result (out.new.items ≡ out.old.items
+        ++ element_text first (value_text schema.now (renamed_value (new_name names.now) (view value.now)))) }
 {
     if !first {
         out.push(b',')?;
@@ -96,7 +98,8 @@ fn write_unordered(
     out: &mut Vec<u8>,
 ) -> Result<(), NoMemory>
     requires { HaveKnownTypes schema.now (views values.now) }
-    ensures { OnOk result (out.new.items ≡ out.old.items ++ list_text (sort_texts (value_texts schema.now (renamed_values (new_name names.now) (views values.now))))) }
+    ensures { OnOk result (out.new.items ≡ out.old.items
+        ++ list_text (sort_texts (value_texts schema.now (renamed_values (new_name names.now) (views values.now))))) }
 {
     let alloc = *out.allocator();
     let mut bytes = Vec::new(alloc);

@@ -34,7 +34,8 @@ pub fn next_ranks(
     requires uses { AreUses (length rank.now) uses.now }
     requires users { AreUses (length rank.now) users.now }
     ensures ranks { IfOk result (λ next. AreRanks (length rank.now) next.rank.items next.fresh.items) }
-    ensures told { IfOk result (λ next. (g : Graph) (place : ℕ → List ℕ) → Represents g place (length rank.now) uses.now users.now → AgreeBelow (length rank.now) (ranks_of next.rank.items next.fresh.items) (tell g (ranks_of rank.now fresh.now))) }
+    ensures told { IfOk result (λ next. (g : Graph) (place : ℕ → List ℕ) → Represents g place (length rank.now) uses.now users.now
+        → AgreeBelow (length rank.now) (ranks_of next.rank.items next.fresh.items) (tell g (ranks_of rank.now fresh.now))) }
 {
     let sizes = sizes(alloc, rank)?;
     let keys = keys(alloc, uses, users, rank, fresh, &sizes)?;

@@ -28,7 +28,8 @@ pub fn said(
     names: &BTreeMap<u64, u64>,
 ) -> Result<Vec<u64>, NoMemory>
     requires { HasKnownParts schema.now (typed_view typed.now) }
-    ensures { IfOk result (λ row. row.items ≡ row_of_texts (said_in schema.now (lent_rows heading.now) (renamed_typed (new_name names.now) (typed_view typed.now)))) }
+    ensures { IfOk result (λ row. row.items ≡ row_of_texts
+        (said_in schema.now (lent_rows heading.now) (renamed_typed (new_name names.now) (typed_view typed.now)))) }
 {
     let mut row = entity_row(alloc, typed.parts.items())?;
     for values in typed.values.items() {
@@ -57,7 +58,8 @@ fn with_values(
     row: Vec<u64>,
 ) -> Result<Vec<u64>, NoMemory>
     requires { HaveKnownTypes schema.now (views values.now) }
-    ensures { IfOk result (λ more. more.items ≡ row.items ++ row_of_texts (value_texts schema.now (renamed_values (new_name names.now) (views values.now)))) }
+    ensures { IfOk result (λ more. more.items ≡ row.items
+        ++ row_of_texts (value_texts schema.now (renamed_values (new_name names.now) (views values.now)))) }
 {
     let mut more = row;
     for value in values {

@@ -22,7 +22,9 @@ pub fn told_ranks(
 ) -> Result<Vec<usize>, AllocError>
     requires { AreTellable rank.now sizes.now (held_rows keys.now) (lent_rows sorted.now) }
     ensures size { IfOk result (λ ranks. length ranks.items ≡ length rank.now) }
-    ensures each { IfOk result (λ ranks. (n : ℕ) → n < length rank.now → rank_at ranks.items n ≡ rank_told (lent_rows sorted.now) (rank_at rank.now n) (rank_at sizes.now (rank_at rank.now n)) (slice_index_or (held_rows keys.now) n [])) }
+    ensures each { IfOk result (λ ranks. (n : ℕ) → n < length rank.now
+        → rank_at ranks.items n ≡ rank_told (lent_rows sorted.now) (rank_at rank.now n) (rank_at sizes.now (rank_at rank.now n))
+        (slice_index_or (held_rows keys.now) n [])) }
 {
     let mut ranks = Vec::with_capacity(alloc, rank.len())?;
     for n in 0..rank.len() {

@@ -42,7 +42,8 @@ fn add_value(
     place: &mut Vec<u64>,
     uses: &mut Vec<PlacedUse>,
 ) -> Result<(), AllocError>
-    ensures uses { OnOk result (held_uses uses.new.items ≡ held_uses uses.old.items ++ map (behind place.old.items) (value_uses (view value.now))) }
+    ensures uses { OnOk result (held_uses uses.new.items ≡ held_uses uses.old.items
+        ++ map (behind place.old.items) (value_uses (view value.now))) }
     ensures place { OnOk result (place.new.items ≡ place.old.items) }
 {
     match value {
@@ -65,7 +66,8 @@ fn add_in_order(
     uses: &mut Vec<PlacedUse>,
 ) -> Result<(), AllocError>
     requires { first ≤ 1 }
-    ensures uses { OnOk result (held_uses uses.new.items ≡ held_uses uses.old.items ++ map (behind place.old.items) (uses_from first (views values.now))) }
+    ensures uses { OnOk result (held_uses uses.new.items ≡ held_uses uses.old.items
+        ++ map (behind place.old.items) (uses_from first (views values.now))) }
     ensures place { OnOk result (place.new.items ≡ place.old.items) }
 {
     for i in 0..values.len() {
@@ -83,7 +85,8 @@ fn add_among(
     place: &mut Vec<u64>,
     uses: &mut Vec<PlacedUse>,
 ) -> Result<(), AllocError>
-    ensures uses { OnOk result (held_uses uses.new.items ≡ held_uses uses.old.items ++ map (behind place.old.items) (uses_among (views values.now))) }
+    ensures uses { OnOk result (held_uses uses.new.items ≡ held_uses uses.old.items
+        ++ map (behind place.old.items) (uses_among (views values.now))) }
     ensures place { OnOk result (place.new.items ≡ place.old.items) }
 {
     place.push(0)?;

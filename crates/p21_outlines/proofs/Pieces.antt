@@ -37,7 +37,8 @@ buffer-long text left old new count takes =
     let counted = takes.counted in
     omega (arith, both, behind, new_is, dropped, counted)
 
-module _ (size : ℕ) (some : 0 < size) (text left old new : List ℕ) (count : ℕ) (other rest before after : List ℕ) (many : ℕ) (takes : Takes text left old new count) (takes_ : Takes other rest before after many)
+module _ (size : ℕ) (some : 0 < size) (text left old new : List ℕ) (count : ℕ) (other rest before after : List ℕ) (many : ℕ)
+    (takes : Takes text left old new count) (takes_ : Takes other rest before after many)
     (long : length old ≡ size) (long_ : length before ≡ size) where
   first : take count new ≡ take size text
   first = piece-is text left old new count takes ∙ ap (λ (n : ℕ). take n text) long
@@ -61,7 +62,8 @@ module _ (size : ℕ) (some : 0 < size) (text left old new : List ℕ) (count : 
   -- behind pieces that are equal
   pub pieces-same : take count new ≡ take many after → (left ≡ rest) ↔ (text ≡ other)
   pieces-same same = (
-    λ equal. sym (take-append-drop size text) ∙ ap₂ (λ (xs ys : List ℕ). xs ++ ys) (sym first ∙ same ∙ second) (sym left-is ∙ equal ∙ rest-is) ∙ take-append-drop size other,
+    λ equal. sym (take-append-drop size text) ∙ ap₂ (λ (xs ys : List ℕ). xs ++ ys) (sym first ∙ same ∙ second)
+        (sym left-is ∙ equal ∙ rest-is) ∙ take-append-drop size other,
     λ equal. left-is ∙ ap (drop size) equal ∙ sym rest-is,
   )
 

@@ -15,21 +15,27 @@ use Rattle.p21_stream_statements.specs.declared.fault.Fault.TheVariants.{WrongTa
 use Rattle.p21_stream_store.specs.Memberships.{Membership}
 use Rattle.p21_stream_store.specs.StoredInstance.{StoredInstance}
 
-serves-among : (s : Schema) (wanted : Member) (some all : List ℕ) → ((e : ℕ) → Contains some e → Contains all e) → Serves s wanted some → Serves s wanted all
+serves-among : (s : Schema) (wanted : Member) (some all : List ℕ) → ((e : ℕ) → Contains some e → Contains all e) → Serves s wanted some
+    → Serves s wanted all
 serves-among s (entity_member e) some all are serves = are e serves
 serves-among s (type_member t) some all are (e, offers, among) = (e, offers, are e among)
 
 -- where an entity serves, so does the set in which it stands
-pub serves-by_one : (s : Schema) (wanted : Member) (entities : List EntityId) (place : ℕ) (entity : EntityId) → slice_get entities place ≡ Some entity → Serves s wanted (ids_view (entity ∷ [])) → Serves s wanted (ids_view entities)
-serves-by_one s wanted entities place entity at = serves-among s wanted (ids_view (entity ∷ [])) (ids_view entities) (λ e there. elim (Contains-cases entity.0 [] e there) [
-  | inl is ↦ subst (λ (n : ℕ). Contains (ids_view entities) n) is (Contains-mapped (λ (x : EntityId). x.0) entities entity (Contains-found entities place entity at))
-  | inr none ↦ absurd (Contains-none e none)
-])
+pub serves-by_one : (s : Schema) (wanted : Member) (entities : List EntityId) (place : ℕ) (entity : EntityId)
+    → slice_get entities place ≡ Some entity → Serves s wanted (ids_view (entity ∷ [])) → Serves s wanted (ids_view entities)
+serves-by_one s wanted entities place entity at = serves-among s wanted (ids_view (entity ∷ [])) (ids_view entities)
+    (λ e there. elim (Contains-cases entity.0 [] e there) [
+      | inl is ↦ subst (λ (n : ℕ). Contains (ids_view entities) n) is
+          (Contains-mapped (λ (x : EntityId). x.0) entities entity (Contains-found entities place entity at))
+      | inr none ↦ absurd (Contains-none e none)
+    ])
 
 -- where the instance that a need names is stored, its set tells whether the need is served
-pub set-tells : (s : Schema) (memberships : List Membership) (instances : List StoredInstance) (need : Need) (name number : ℕ) (text : List ℕ) → name ≡ need.target → Contains instances (record { name = name; membership = number; text = text })
+pub set-tells : (s : Schema) (memberships : List Membership) (instances : List StoredInstance) (need : Need) (name number : ℕ)
+    (text : List ℕ) → name ≡ need.target → Contains instances (record { name = name; membership = number; text = text })
     → (own : Membership) → slice_get memberships number ≡ Some own → (serves : Bool) → IsTrue serves ↔ Serves s need.wanted own.entities
-    → (serves ≡ true → IsServedBy s (stored_of memberships instances) need) × (serves ≡ false → RefusesNeed s (stored_of memberships instances) need WrongTarget)
+    → (serves ≡ true → IsServedBy s (stored_of memberships instances) need)
+    × (serves ≡ false → RefusesNeed s (stored_of memberships instances) need WrongTarget)
 set-tells s memberships instances need name number text same among own at serves tells =
     let x : StoredInstance = record { name = name; membership = number; text = text } in
     let there = stored-found memberships instances x own among at in (

@@ -18,7 +18,8 @@ pub record IsEarlier (a : Inside) : Type 0 where
   pub sections : AreOfSections (length a.sections) a.memberships
 
 -- Each line was one of the earlier file, the header lines are the same bytes, and there are as many instances and headings
-pub record HasCounts (earlier : Earlier) (equal : Bool) (header : List ℕ) (headings : List Heading) (names : List StoredInstance) : Type 0 where
+pub record HasCounts (earlier : Earlier) (equal : Bool) (header : List ℕ) (headings : List Heading) (names : List StoredInstance) : Type
+    0 where
   pub lines_are : IsTrue equal
   pub as_many_lines : length names ≡ length earlier.stored
   pub header_is : header ≡ earlier.header

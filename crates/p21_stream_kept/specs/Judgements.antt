@@ -13,7 +13,8 @@ use Rattle.p21_stream_store.specs.Memberships.{Membership}
 
 -- whether the set of the membership of a number serves what is wanted
 abbrev pub Serving : Schema → List Membership → Member → ℕ → Bool → Type 0
-Serving s memberships wanted number serves = (own : Membership) → slice_get memberships number ≡ Some own → IsTrue serves ↔ Serves s wanted own.entities
+Serving s memberships wanted number serves = (own : Membership) → slice_get memberships number ≡ Some own → IsTrue serves
+    ↔ Serves s wanted own.entities
 
 -- each judgement is right
 abbrev pub AreRight : Schema → List Membership → List Judgement → Type 0

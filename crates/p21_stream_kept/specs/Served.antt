@@ -24,7 +24,8 @@ AnswersNeed s stored need (Some fault) = RefusesNeed s stored need fault
 abbrev pub LeavesUnserved : {X : Type 0} → Schema → List StoredEntry → (X → Need) → List X → List X → Type 0
 LeavesUnserved s stored need [] left = left ≡ []
 LeavesUnserved {X} s stored need (x ∷ xs) left =
-    (IsServedBy s stored (need x) × LeavesUnserved s stored need xs left) ⊎ (IsServedByNone s stored (need x) × ((rest : List X) × (left ≡ x ∷ rest) × LeavesUnserved s stored need xs rest))
+    (IsServedBy s stored (need x) × LeavesUnserved s stored need xs left)
+    ⊎ (IsServedByNone s stored (need x) × ((rest : List X) × (left ≡ x ∷ rest) × LeavesUnserved s stored need xs rest))
 
 -- the references that none serves are left, in their order
 abbrev pub DropsServed : Schema → List StoredEntry → List Reference → List Reference → Type 0

@@ -18,8 +18,10 @@ FitsLimits limits so_far size = (size ≤ limits.record_canonical) × (so_far + 
 
 -- what a statement gives, for all statements of which this is kept: the statement is kept too, or it is refused by its number
 abbrev pub StepGives : Schema → Limits → Kept → Statement → Result (Unit {0}) Fault → Kept → Type 0
-StepGives s limits old statement (Ok done) new = (given : List Statement) → Keeps s limits given old → Keeps s limits (given ++ statement ∷ []) new
-StepGives s limits old statement (Err fault) new = fault ≢ NoMemory → (given : List Statement) → Keeps s limits given old → Offends s limits given (old.bytes + old.framing) statement (fault_number fault)
+StepGives s limits old statement (Ok done) new = (given : List Statement) → Keeps s limits given old
+    → Keeps s limits (given ++ statement ∷ []) new
+StepGives s limits old statement (Err fault) new = fault ≢ NoMemory → (given : List Statement) → Keeps s limits given old
+    → Offends s limits given (old.bytes + old.framing) statement (fault_number fault)
 
 -- the same of a section line without a name, whatever the schema
 abbrev pub TakesLine : Limits → Kept → SectionLine → Result (Unit {0}) Fault → Kept → Type 0
@@ -27,7 +29,8 @@ TakesLine limits old line result new = (s : Schema) → StepGives s limits old (
 
 -- the same of an instance, by what is found of it
 abbrev pub FoundGives : Schema → Limits → Kept → ℕ → List ℕ → List Need → List ℕ → Result (Unit {0}) Fault → Kept → Type 0
-FoundGives s limits old n entities needs text result new = (record_ : Record) → HasFound s n record_ entities needs text → StepGives s limits old (instance n record_) result new
+FoundGives s limits old n entities needs text result new = (record_ : Record) → HasFound s n record_ entities needs text
+    → StepGives s limits old (instance n record_) result new
 
 -- the bytes that are kept stay within the limit of a file
 abbrev pub StepKeepsBound : Limits → Kept → Kept → Type 0

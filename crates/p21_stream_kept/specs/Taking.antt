@@ -21,7 +21,8 @@ pub record Follows (s : Schema) (limits : Limits) (kept : Kept) (statement : Sta
   pub few : length (flat_map statement_tokens (given ++ statement ∷ [])) < 2 ^ 64
 
 -- An instance of this name stands there, and this is found of it
-pub record FollowsFound (s : Schema) (limits : Limits) (kept : Kept) (n : ℕ) (entities : List ℕ) (needs : List Need) (text : List ℕ) : Type 0 where
+pub record FollowsFound (s : Schema) (limits : Limits) (kept : Kept) (n : ℕ) (entities : List ℕ) (needs : List Need) (text : List ℕ) : Type
+    0 where
   pub record_ : Record
   pub found : HasFound s n record_ entities needs text
   pub follows : Follows s limits kept (instance n record_)

@@ -44,10 +44,12 @@ impl Beside {
     /// `NoMemory`, which changes nothing.
     pub(crate) fn push(&mut self, name: u64, membership: usize, line: &[u8]) -> Result<(), NoMemory>
         requires { Contains (instance_names self.old.names) name → ⊥ }
-        ensures ok { OnOk result (IsPermutation (record { name = name; membership = membership; text = [] } ∷ self.old.names) self.new.names) }
+        ensures ok { OnOk result (IsPermutation (record { name = name; membership = membership; text = [] } ∷ self.old.names)
+            self.new.names) }
         ensures err { OnErr result (self.new ≡ self.old) }
         ensures earlier { self.new.earlier ≡ self.old.earlier }
-        ensures equal { OnOk result (IsTrue self.new.equal ↔ (IsTrue self.old.equal × Contains (lines_of self.old.earlier.stored) (name, line.now))) }
+        ensures equal { OnOk result (IsTrue self.new.equal
+            ↔ (IsTrue self.old.equal × Contains (lines_of self.old.earlier.stored) (name, line.now))) }
     {
         let Ok(()) = self.names.push(name, membership) else {
             return Err(NoMemory);
@@ -71,7 +73,8 @@ impl Beside {
         requires once { IsDistinct nat_eq (instance_names self.now.names) }
         requires memberships { HaveMemberships memberships.now self.now.names }
         requires sections { AreOfSections (length sections.now) memberships.now }
-        ensures { IfOk result (λ same. IsTrue same ↔ IsSameBeside self.now.earlier self.now.equal header.now sections.now (stored_of memberships.now self.now.names)) }
+        ensures { IfOk result (λ same. IsTrue same ↔ IsSameBeside self.now.earlier self.now.equal header.now sections.now
+            (stored_of memberships.now self.now.names)) }
     {
         if !self.has_counts(header, sections) {
             return Ok(false);

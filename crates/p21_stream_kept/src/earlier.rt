@@ -112,7 +112,9 @@ impl Earlier {
     ) -> bool
         requires once { IsDistinct nat_eq (instance_names names.now) }
         requires memberships { HaveMemberships memberships.now names.now }
-        ensures { (headings : List Heading) → HaveNumbers self.now.headings headings numbers.now → AreOfSections (length headings) memberships.now → IsTrue result ↔ ((y : StoredEntry) → Contains self.now.stored y → IsInSameSection self.now headings (stored_of memberships.now names.now) y) }
+        ensures { (headings : List Heading) → HaveNumbers self.now.headings headings numbers.now
+            → AreOfSections (length headings) memberships.now → IsTrue result
+            ↔ ((y : StoredEntry) → Contains self.now.stored y → IsInSameSection self.now headings (stored_of memberships.now names.now) y) }
     {
         let mut least = 0;
         loop {
@@ -140,10 +142,13 @@ impl Earlier {
         names: &NamedMemberships,
     ) -> bool
         requires own { own < length self.now.headings }
-        requires stored { (entities : List ℕ) × (text : List ℕ) × Contains self.now.stored (record { name = name; section = own; entities = entities; text = text }) }
+        requires stored { (entities : List ℕ) × (text : List ℕ)
+            × Contains self.now.stored (record { name = name; section = own; entities = entities; text = text }) }
         requires once { IsDistinct nat_eq (instance_names names.now) }
         requires memberships { HaveMemberships memberships.now names.now }
-        ensures { (headings : List Heading) → HaveNumbers self.now.headings headings numbers.now → AreOfSections (length headings) memberships.now → (y : StoredEntry) → Contains self.now.stored y → y.name ≡ name → IsTrue result ↔ IsInSameSection self.now headings (stored_of memberships.now names.now) y }
+        ensures { (headings : List Heading) → HaveNumbers self.now.headings headings numbers.now
+            → AreOfSections (length headings) memberships.now → (y : StoredEntry) → Contains self.now.stored y → y.name ≡ name
+            → IsTrue result ↔ IsInSameSection self.now headings (stored_of memberships.now names.now) y }
     {
         let Some(later) = names.membership_of(name) else {
             return true;

@@ -121,7 +121,8 @@ impl Judgements {
         wanted: Member,
         membership: usize,
     ) -> Option<bool>
-        ensures { (s : Meant) → AreRight s memberships.now self.now.all.items → IfSome result (Serving s memberships.now (member wanted) membership) }
+        ensures { (s : Meant) → AreRight s memberships.now self.now.all.items
+            → IfSome result (Serving s memberships.now (member wanted) membership) }
     {
         let number = *self.numbers.get(&key)?;
         let judgement = *self.all.get(number)?;

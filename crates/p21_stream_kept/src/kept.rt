@@ -190,7 +190,8 @@ impl Kept {
     /// `CanonicalTooLong`, `NoMemory`.
     #[tactic(auto, using(crate::proofs::ByMembership::sections_wider))]
     pub fn take_heading(&mut self, schema: &Schema, limits: Limits, part: Part) -> Result<(), Fault>
-        ensures gives { StepGives schema.now limits self.old (section (data_start (heading_of (views (items_of part.params))))) result self.new }
+        ensures gives { StepGives schema.now limits self.old (section (data_start (heading_of (views (items_of part.params))))) result
+            self.new }
         ensures bound { StepKeepsBound limits self.old self.new }
         ensures lines { self.new.lines ≡ self.old.lines }
         ensures kind { IfErr result (λ fault. IsOfStatement fault) }
@@ -314,8 +315,10 @@ impl Kept {
         limits: Limits,
         found: &FoundInstance<'_>,
     ) -> Result<(), Fault>
-        requires { FollowsFound schema.now limits self.old found.now.name (ids_view found.now.entities.now) (needs_view found.now.needs.now) found.now.line.now }
-        ensures gives { FoundGives schema.now limits self.old found.now.name (ids_view found.now.entities.now) (needs_view found.now.needs.now) found.now.line.now result self.new }
+        requires { FollowsFound schema.now limits self.old found.now.name (ids_view found.now.entities.now) (needs_view found.now.needs.now)
+            found.now.line.now }
+        ensures gives { FoundGives schema.now limits self.old found.now.name (ids_view found.now.entities.now)
+            (needs_view found.now.needs.now) found.now.line.now result self.new }
         ensures bound { StepKeepsBound limits self.old self.new }
         ensures lines { self.new.lines ≡ self.old.lines }
         ensures kind { IfErr result (λ fault. IsOfStatement fault) }
@@ -346,8 +349,10 @@ impl Kept {
         found: &FoundInstance<'_>,
     ) -> Result<(), Fault>
         requires another { Contains (map (λ (x : StoredEntry). x.name) self.old.stored) found.now.name → ⊥ }
-        requires found { FollowsFound schema.now limits self.old found.now.name (ids_view found.now.entities.now) (needs_view found.now.needs.now) found.now.line.now }
-        ensures gives { FoundGives schema.now limits self.old found.now.name (ids_view found.now.entities.now) (needs_view found.now.needs.now) found.now.line.now result self.new }
+        requires found { FollowsFound schema.now limits self.old found.now.name (ids_view found.now.entities.now)
+            (needs_view found.now.needs.now) found.now.line.now }
+        ensures gives { FoundGives schema.now limits self.old found.now.name (ids_view found.now.entities.now)
+            (needs_view found.now.needs.now) found.now.line.now result self.new }
         ensures bound { StepKeepsBound limits self.old self.new }
         ensures lines { self.new.lines ≡ self.old.lines }
         ensures kind { IfErr result (λ fault. IsOfStatement fault) }
@@ -456,7 +461,8 @@ impl Kept {
     /// `NoMemory`.
     pub fn is_same(&self) -> Result<bool, NoMemory>
         requires { IsDistinct nat_eq (map (λ (x : StoredEntry). x.name) self.now.stored) }
-        ensures { (earlier : MeantEarlier) → self.now.lines ≡ beside earlier → IfOk result (λ same. IsTrue same ↔ IsSameAs earlier self.now) }
+        ensures { (earlier : MeantEarlier) → self.now.lines ≡ beside earlier
+            → IfOk result (λ same. IsTrue same ↔ IsSameAs earlier self.now) }
     {
         match &self.stored.instances {
             KeptInstances::Beside(later) => {
@@ -479,7 +485,8 @@ impl Kept {
     /// `NoMemory`.
     pub fn into_accepted(self, statement: u64) -> Result<Accepted, NoMemory>
         requires { IsKeptOfFile self }
-        ensures kept { IfOk result (λ file. (s : MeantSchema) (limits : MeantLimits) (given : List Statement) → Keeps s limits given self → IsFileOfKept self file) }
+        ensures kept { IfOk result (λ file. (s : MeantSchema) (limits : MeantLimits) (given : List Statement) → Keeps s limits given self
+            → IsFileOfKept self file) }
         ensures statement { IfOk result (λ file. file.statement ≡ statement) }
     {
         let Kept {

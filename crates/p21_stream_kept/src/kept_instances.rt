@@ -33,7 +33,8 @@ impl KeptInstances {
     /// The number of the membership of the instance of this name, if there is one.
     #[inline(always)]
     pub(crate) fn membership_of(&self, name: u64) -> Option<usize>
-        ensures some { IfSome result (λ membership. (text : List ℕ) × Contains (instances_of self.now) (record { name = name; membership = membership; text = text })) }
+        ensures some { IfSome result (λ membership. (text : List ℕ)
+            × Contains (instances_of self.now) (record { name = name; membership = membership; text = text })) }
         ensures none { IsNone result → Contains (instance_names (instances_of self.now)) name → ⊥ }
     {
         match self {
@@ -63,10 +64,16 @@ impl KeptInstances {
     /// `NoMemory`, which changes nothing.
     pub(crate) fn push(&mut self, name: u64, membership: usize, line: &[u8]) -> Result<(), NoMemory>
         requires { Contains (instance_names (instances_of self.old)) name → ⊥ }
-        ensures ok { OnOk result (IsPermutation (record { name = name; membership = membership; text = kept_text (lines_kept self.old) line.now } ∷ instances_of self.old) (instances_of self.new)) }
+        ensures ok { OnOk result (IsPermutation (record {
+          name = name;
+          membership = membership;
+          text = kept_text (lines_kept self.old)
+              line.now;
+        } ∷ instances_of self.old) (instances_of self.new)) }
         ensures err { OnErr result (instances_of self.new ≡ instances_of self.old) }
         ensures lines { lines_kept self.new ≡ lines_kept self.old }
-        ensures equal { OnOk result (IsTrue (are_equal self.new) ↔ (IsTrue (are_equal self.old) × IsAmongEarlier (lines_kept self.old) (name, line.now))) }
+        ensures equal { OnOk result (IsTrue (are_equal self.new)
+            ↔ (IsTrue (are_equal self.old) × IsAmongEarlier (lines_kept self.old) (name, line.now))) }
         ensures unequal { OnErr result (are_equal self.new ≡ are_equal self.old) }
     {
         match self {

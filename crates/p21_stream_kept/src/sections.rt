@@ -129,7 +129,8 @@ impl Sections {
 
     /// Whether the sections of two numbers begin alike. No two sections have one name, so no names are compared.
     pub fn begin_alike(&self, number: usize, other: usize) -> bool
-        ensures { (own its : Heading) → slice_get self.now number ≡ Some own → slice_get self.now other ≡ Some its → IsTrue result ↔ (own ≡ its) }
+        ensures { (own its : Heading) → slice_get self.now number ≡ Some own → slice_get self.now other ≡ Some its → IsTrue result
+            ↔ (own ≡ its) }
     {
         // Looked at, so that the proof knows that each name leads to one section.
         let _numbers = &self.numbers;
@@ -172,7 +173,8 @@ impl Sections {
 
     /// Adds the section that the record begins, under a name that none has yet.
     pub fn add(&mut self, alloc: Global, part: Part) -> Result<(), NoMemory>
-        requires { (name : List ℕ) → Contains (heading_names (heading_of (views (items_of part.params)))) name → Contains (section_names self.old) name → ⊥ }
+        requires { (name : List ℕ) → Contains (heading_names (heading_of (views (items_of part.params)))) name
+            → Contains (section_names self.old) name → ⊥ }
         ensures ok { OnOk result (self.new ≡ self.old ++ heading_of (views (items_of part.params)) ∷ []) }
         ensures more { length self.old ≤ length self.new }
     {

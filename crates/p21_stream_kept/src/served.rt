@@ -116,7 +116,8 @@ pub(crate) fn drop_served(
     requires stored { AreStored stored.now }
     requires from { from ≤ length waiting.old.items }
     ensures short { waiting.new.items ≡ [] → vec_capacity waiting.new ≤ 2048 }
-    ensures drops { DropsBehind schema.now (stored_in stored.now) (references_of (take from waiting.old.items)) (references_of (drop from waiting.old.items)) (references_of waiting.new.items) }
+    ensures drops { DropsBehind schema.now (stored_in stored.now) (references_of (take from waiting.old.items))
+        (references_of (drop from waiting.old.items)) (references_of waiting.new.items) }
 {
     let mut judgements = Judgements::new(*waiting.allocator());
     let mut left = from;

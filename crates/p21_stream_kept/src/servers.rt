@@ -145,7 +145,8 @@ impl Servers {
         entities: &[EntityId],
     ) -> bool
         ensures served { IsTrue result → Serves schema.now (member need.now.wanted) (ids_view entities.now) }
-        ensures unserved { result ≡ false → length entities.now ≤ 16 → ¬ Serves schema.now (member need.now.wanted) (ids_view entities.now) }
+        ensures unserved { result ≡ false → length entities.now ≤ 16
+            → ¬ Serves schema.now (member need.now.wanted) (ids_view entities.now) }
     {
         if entities.len() <= MOST_LOOKED_THROUGH {
             return serves(schema, need, entities);

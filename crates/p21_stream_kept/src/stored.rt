@@ -51,10 +51,20 @@ impl Stored {
         requires another { Contains (instance_names (instances_of self.old.instances)) found.now.name → ⊥ }
         ensures memberships { AreStored self.new }
         ensures sections { (many : ℕ) → section < many → AreOfSections many self.old.memberships → AreOfSections many self.new.memberships }
-        ensures named { AreNamed (instances_of self.old.instances) → IsNamed found.now.name (kept_text (lines_kept self.old.instances) found.now.line.now) → AreNamed (instances_of self.new.instances) }
+        ensures named { AreNamed (instances_of self.old.instances)
+            → IsNamed found.now.name (kept_text (lines_kept self.old.instances) found.now.line.now)
+            → AreNamed (instances_of self.new.instances) }
         ensures lines { lines_kept self.new.instances ≡ lines_kept self.old.instances }
-        ensures equal { OnOk result (IsTrue (are_equal self.new.instances) ↔ (IsTrue (are_equal self.old.instances) × IsAmongEarlier (lines_kept self.old.instances) (found.now.name, found.now.line.now))) }
-        ensures ok { OnOk result (IsPermutation (record { name = found.now.name; section = section; entities = ids_view found.now.entities.now; text = kept_text (lines_kept self.old.instances) found.now.line.now } ∷ stored_in self.old) (stored_in self.new)) }
+        ensures equal { OnOk result (IsTrue (are_equal self.new.instances)
+            ↔ (IsTrue (are_equal self.old.instances) × IsAmongEarlier (lines_kept self.old.instances) (found.now.name, found.now.line.now))) }
+        ensures ok { OnOk result (IsPermutation (record {
+          name = found.now.name;
+          section = section;
+          entities = ids_view
+              found.now.entities.now;
+          text = kept_text (lines_kept self.old.instances) found.now.line.now;
+        } ∷ stored_in self.old)
+            (stored_in self.new)) }
     {
         let name = found.name;
         let membership = match self.memberships.add(alloc, section, found.entities) {

@@ -72,7 +72,8 @@ impl Waiting {
     #[inline(always)]
     pub(crate) fn add(&mut self, found: &FoundInstance<'_>) -> Result<(), NoMemory>
         requires { HasLooked self.old }
-        ensures ok { OnOk result (references_of self.new.references.items ≡ with_needs found.now.name (needs_view found.now.needs.now) (references_of self.old.references.items)) }
+        ensures ok { OnOk result (references_of self.new.references.items ≡ with_needs found.now.name (needs_view found.now.needs.now)
+            (references_of self.old.references.items)) }
         ensures full { OnErr result (vec_capacity self.old.references < vec_len self.old.references + length found.now.needs.now) }
         ensures looked { HasLooked self.new }
         ensures due { self.new.due ≡ self.old.due }
@@ -98,9 +99,13 @@ impl Waiting {
     ) -> Result<(), NoMemory>
         requires stored { AreStored stored.now }
         requires looked { HasLooked self.old }
-        ensures early { come ≤ self.old.due → length self.old.references.items < self.old.looked + 1024 → self.new.references.items ≡ self.old.references.items }
-        ensures together { come ≤ self.old.due → self.old.looked + 1024 ≤ length self.old.references.items → DropsBehind schema.now (stored_in stored.now) (references_of (take self.old.looked self.old.references.items)) (references_of (drop self.old.looked self.old.references.items)) (references_of self.new.references.items) }
-        ensures left { self.old.due < come → DropsServed schema.now (stored_in stored.now) (references_of self.old.references.items) (references_of self.new.references.items) }
+        ensures early { come ≤ self.old.due → length self.old.references.items < self.old.looked + 1024
+            → self.new.references.items ≡ self.old.references.items }
+        ensures together { come ≤ self.old.due → self.old.looked + 1024 ≤ length self.old.references.items
+            → DropsBehind schema.now (stored_in stored.now) (references_of (take self.old.looked self.old.references.items))
+            (references_of (drop self.old.looked self.old.references.items)) (references_of self.new.references.items) }
+        ensures left { self.old.due < come → DropsServed schema.now (stored_in stored.now) (references_of self.old.references.items)
+            (references_of self.new.references.items) }
         ensures quiet { come ≤ self.old.due → length self.old.references.items < self.old.looked + 1024 → IsOk result }
         ensures short { self.old.due < come → self.new.references.items ≡ [] → vec_capacity self.new.references ≤ 2048 }
         ensures next { self.old.due < come → self.new.due ≡ min (come + max 1024 (length self.new.references.items)) (2 ^ 64 - 1) }
@@ -134,7 +139,8 @@ impl Waiting {
     ) -> Result<(), NoMemory>
         requires stored { AreStored stored.now }
         requires from { from ≤ length self.old.references.items }
-        ensures drops { DropsBehind schema.now (stored_in stored.now) (references_of (take from self.old.references.items)) (references_of (drop from self.old.references.items)) (references_of self.new.references.items) }
+        ensures drops { DropsBehind schema.now (stored_in stored.now) (references_of (take from self.old.references.items))
+            (references_of (drop from self.old.references.items)) (references_of self.new.references.items) }
         ensures short { self.new.references.items ≡ [] → vec_capacity self.new.references ≤ 2048 }
         ensures looked { self.new.looked ≡ length self.new.references.items }
         ensures due { self.new.due ≡ self.old.due }
@@ -154,7 +160,8 @@ impl Waiting {
 /// `NoMemory`, which changes nothing.
 #[inline(always)]
 fn add_needs(found: &FoundInstance<'_>, references: &mut Vec<Reference>) -> Result<(), NoMemory>
-    ensures ok { OnOk result (references_of references.new.items ≡ with_needs found.now.name (needs_view found.now.needs.now) (references_of references.old.items)) }
+    ensures ok { OnOk result (references_of references.new.items ≡ with_needs found.now.name (needs_view found.now.needs.now)
+        (references_of references.old.items)) }
     ensures full { OnErr result (vec_capacity references.old < vec_len references.old + length found.now.needs.now) }
     ensures more { length references.old.items ≤ length references.new.items }
 {

@@ -49,7 +49,8 @@ module _ (s : Schema) (formed : IsWellFormed s) (limits : Limits) where
   both bytes text only =
       let (own, own_means, canonical) = only.is_canonical in
       let (its, its_means) = only.is_accepted in
-      let one : canonical.canonical.meaning ≡ its = one-meaning s formed text canonical.canonical.meaning its canonical.canonical.reads its_means.reads in
+      let one : canonical.canonical.meaning ≡ its = one-meaning s formed text canonical.canonical.meaning its canonical.canonical.reads
+      its_means.reads in
       let P : FileMeaning → Type 0 = λ m. SameFileMeaning m own in
       record { own = own; own_means = own_means; its = its; its_means = its_means; same = subst P one canonical.same }
 
@@ -61,32 +62,57 @@ module _ (s : Schema) (formed : IsWellFormed s) (limits : Limits) where
 
   -- ---- one file
 
-  pub file-numbered : (old new : Option (List ℕ)) (text : List ℕ) (output : Output) → IsCanonicalOfRead s limits old new text → IsNumberedFile s limits (ranking_of s) text (output_text output) → IsNumberedInput s limits old new output
+  pub file-numbered : (old new : Option (List ℕ)) (text : List ℕ) (output : Output) → IsCanonicalOfRead s limits old new text
+      → IsNumberedFile s limits (ranking_of s) text (output_text output) → IsNumberedInput s limits old new output
   file-numbered old new text output read numbered =
       let b = both read.bytes text read.canonical in
-      record { bytes = read.bytes; read = read.read; numbered = numbered-on s formed limits text read.bytes b.its b.own b.its_means b.own_means (alike read.bytes text b) (output_text output) numbered }
+      record {
+        bytes = read.bytes;
+        read = read.read;
+        numbered =
+            numbered-on s formed limits text read.bytes b.its b.own b.its_means b.own_means (alike read.bytes text b) (output_text output)
+            numbered;
+      }
 
-  pub file-long : (old new : Option (List ℕ)) (text : List ℕ) → IsCanonicalOfRead s limits old new text → IsTooLong s limits text → IsLongInput s limits old new
+  pub file-long : (old new : Option (List ℕ)) (text : List ℕ) → IsCanonicalOfRead s limits old new text → IsTooLong s limits text
+      → IsLongInput s limits old new
   file-long old new text read long =
       let b = both read.bytes text read.canonical in
-      record { bytes = read.bytes; read = read.read; too_long = long-on s formed limits text read.bytes b.its b.own b.its_means b.own_means (alike read.bytes text b) long }
+      record {
+        bytes = read.bytes;
+        read = read.read;
+        too_long =
+            long-on s formed limits text read.bytes b.its b.own b.its_means b.own_means (alike read.bytes text b) long;
+      }
 
-  pub file-alike : (old new : Option (List ℕ)) (text : List ℕ) (j k : ℕ) → IsCanonicalOfRead s limits old new text → IsAlike s limits text j k → IsAlikeInput s limits old new j k
+  pub file-alike : (old new : Option (List ℕ)) (text : List ℕ) (j k : ℕ) → IsCanonicalOfRead s limits old new text
+      → IsAlike s limits text j k → IsAlikeInput s limits old new j k
   file-alike old new text j k read is =
       let b = both read.bytes text read.canonical in
-      record { bytes = read.bytes; read = read.read; alike = alike-on s formed limits text read.bytes b.its b.own b.its_means b.own_means (alike read.bytes text b) b.same j k is }
+      record {
+        bytes = read.bytes;
+        read = read.read;
+        alike =
+            alike-on s formed limits text read.bytes b.its b.own b.its_means b.own_means (alike read.bytes text b) b.same j k is;
+      }
 
-  pub none-numbered : (old new : Option (List ℕ)) (text : List ℕ) (fault : Unnumbered) (refusal : NumberingRefusal) → IsCanonicalOfRead s limits old new text → HasNone s limits text fault → IsRefusalOf fault refusal → RefusesNumbers s limits old new refusal
-  none-numbered old new text (unnumbered.Alike j k) refusal read none is = let P : NumberingRefusal → Type 0 = λ r. RefusesNumbers s limits old new r in subst P (sym is) (file-alike old new text j k read none)
+  pub none-numbered : (old new : Option (List ℕ)) (text : List ℕ) (fault : Unnumbered) (refusal : NumberingRefusal)
+      → IsCanonicalOfRead s limits old new text → HasNone s limits text fault → IsRefusalOf fault refusal
+      → RefusesNumbers s limits old new refusal
+  none-numbered old new text (unnumbered.Alike j k) refusal read none is = let P : NumberingRefusal
+      → Type 0 = λ r. RefusesNumbers s limits old new r in subst P (sym is) (file-alike old new text j k read none)
   none-numbered old new text unnumbered.TooLong (Refused refusal) read none is = inr (is, file-long old new text read none)
   none-numbered old new text unnumbered.TooLong (Alike j k) read none is = absurd is
-  none-numbered old new text unnumbered.NoMemory (Refused refusal) read none is = inl (let P : Fault → Type 0 = λ f. RefusesRead s limits old new f in subst P (sym is) tt)
+  none-numbered old new text unnumbered.NoMemory (Refused refusal) read none is =
+      inl (let P : Fault → Type 0 = λ f. RefusesRead s limits old new f in subst P (sym is) tt)
   none-numbered old new text unnumbered.NoMemory (Alike j k) read none is = absurd is
 
   -- ---- two files
 
-  module _ (first_old first_new second_old second_new : Option (List ℕ)) (one other : List ℕ) (first : IsCanonicalOfRead s limits first_old first_new one) (second : IsCanonicalOfRead s limits second_old second_new other) where
-    pub files-told : (same : Bool) → TellsTexts s limits one other (Ok same) → ComparesButForNames s limits first_old first_new second_old second_new same
+  module _ (first_old first_new second_old second_new : Option (List ℕ)) (one other : List ℕ)
+      (first : IsCanonicalOfRead s limits first_old first_new one) (second : IsCanonicalOfRead s limits second_old second_new other) where
+    pub files-told : (same : Bool) → TellsTexts s limits one other (Ok same)
+        → ComparesButForNames s limits first_old first_new second_old second_new same
     files-told same tells =
         let a = both first.bytes one first.canonical in
         let b = both second.bytes other second.canonical in
@@ -100,16 +126,20 @@ module _ (s : Schema) (formed : IsWellFormed s) (limits : Limits) where
           first = record { bytes = first.bytes; read = first.read; meaning = a.own; means = a.own_means };
           second = record { bytes = second.bytes; read = second.read; meaning = b.own; means = b.own_means };
           if_same = (
-            λ yes. law.transitive a.own a.its b.own proper (law.symmetric a.its a.own its (alike first.bytes one a)) (law.transitive a.its b.its b.own its (told.0 yes) (alike second.bytes other b)),
-            λ same_. told.1 (law.transitive a.its a.own b.its its (alike first.bytes one a) (law.transitive a.own b.own b.its proper same_ (law.symmetric b.its b.own its_ (alike second.bytes other b)))),
+            λ yes. law.transitive a.own a.its b.own proper (law.symmetric a.its a.own its (alike first.bytes one a))
+                (law.transitive a.its b.its b.own its (told.0 yes) (alike second.bytes other b)),
+            λ same_. told.1 (law.transitive a.its a.own b.its its (alike first.bytes one a)
+                (law.transitive a.own b.own b.its proper same_ (law.symmetric b.its b.own its_ (alike second.bytes other b)))),
           );
         }
 
-    pub files-untold : (fault : Unnumbered) (which : Which) (refusal : NumberingRefusal) → TellsTexts s limits one other (Err fault) → IsFileOf fault which → IsRefusalOf fault refusal → FailsToTell s limits first_old first_new second_old second_new which refusal
+    pub files-untold : (fault : Unnumbered) (which : Which) (refusal : NumberingRefusal) → TellsTexts s limits one other (Err fault)
+        → IsFileOf fault which → IsRefusalOf fault refusal → FailsToTell s limits first_old first_new second_old second_new which refusal
     files-untold (unnumbered.Alike j k) which refusal (x, (i, l, y)) of is =
         let P : NumberingRefusal → Type 0 = λ r. FailsToTell s limits first_old first_new second_old second_new which r in
         subst P (sym is) (of, file-alike first_old first_new one j k first x, (i, l, file-alike second_old second_new other i l second y))
-    files-untold unnumbered.TooLong which (Refused refusal) (x, y) of is = inr (of, is, file-long first_old first_new one first x, file-long second_old second_new other second y)
+    files-untold unnumbered.TooLong which (Refused refusal) (x, y) of is =
+        inr (of, is, file-long first_old first_new one first x, file-long second_old second_new other second y)
     files-untold unnumbered.TooLong which (Alike j k) (x, y) of is = absurd is
     files-untold unnumbered.NoMemory which (Refused refusal) tells of is =
         let P : Fault → Type 0 = λ f. FailsToCompare s limits first_old first_new second_old second_new Second f in
@@ -119,39 +149,60 @@ module _ (s : Schema) (formed : IsWellFormed s) (limits : Limits) where
 
 -- ---- counted
 
-pub counted-apart : (s : Schema) → IsWellFormed s → (limits : Limits) → AreLimits limits → (old new : Option (List ℕ)) (accepted : Output) (counted : Counted) (file : Output) → IsAcceptedInput s limits old new accepted
-    → counted.instances ≡ length accepted.kept → counted.bytes ≡ length (output_text accepted) → IsNumberedFile s limits (ranking_of s) (output_text accepted) (output_text file) → IsCountedApart s limits old new counted
+pub counted-apart : (s : Schema) → IsWellFormed s → (limits : Limits) → AreLimits limits
+    → (old new : Option (List ℕ)) (accepted : Output) (counted : Counted) (file : Output) → IsAcceptedInput s limits old new accepted
+    → counted.instances ≡ length accepted.kept → counted.bytes ≡ length (output_text accepted)
+    → IsNumberedFile s limits (ranking_of s) (output_text accepted) (output_text file) → IsCountedApart s limits old new counted
 counted-apart s formed limits are old new accepted counted file is instances bytes numbered =
-    let b = both s formed limits is.bytes (output_text accepted) (only-canonical s formed limits are is.bytes (output_text accepted) is.accepted.is_canonical) in
+    let b = both s formed limits is.bytes (output_text accepted)
+    (only-canonical s formed limits are is.bytes (output_text accepted) is.accepted.is_canonical) in
     record {
-      counts = record { bytes = is.bytes; read = is.read; is_counted = record { output = accepted; accepted = is.accepted; instances_are = instances; bytes_are = bytes } };
+      counts = record {
+        bytes = is.bytes;
+        read = is.read;
+        is_counted =
+            record { output = accepted; accepted = is.accepted; instances_are = instances; bytes_are = bytes };
+      };
       file = output_text file;
-      numbered = numbered-on s formed limits (output_text accepted) is.bytes b.its b.own b.its_means b.own_means (alike s formed limits is.bytes (output_text accepted) b) (output_text file) numbered;
+      numbered = numbered-on s formed limits (output_text accepted) is.bytes b.its b.own b.its_means b.own_means
+          (alike s formed limits is.bytes (output_text accepted) b) (output_text file) numbered;
     }
 
 -- ---- failures
 
-pub no-failure : (count : ℕ) (fault : Unnumbered) (refusal : NumberingRefusal) → IsRefusalOf fault refusal → numbering_failures count refusal ≡ count
-no-failure count (unnumbered.Alike j k) refusal is = let P : NumberingRefusal → Type 0 = λ r. numbering_failures count r ≡ count in subst P (sym is) refl
-no-failure count unnumbered.TooLong (Refused refusal) is = let P : Fault → Type 0 = λ f. read_failures count f ≡ count in subst P (sym is) refl
+pub no-failure : (count : ℕ) (fault : Unnumbered) (refusal : NumberingRefusal) → IsRefusalOf fault refusal
+    → numbering_failures count refusal ≡ count
+no-failure count (unnumbered.Alike j k) refusal is = let P : NumberingRefusal
+    → Type 0 = λ r. numbering_failures count r ≡ count in subst P (sym is) refl
+no-failure count unnumbered.TooLong (Refused refusal) is = let P : Fault
+    → Type 0 = λ f. read_failures count f ≡ count in subst P (sym is) refl
 no-failure count unnumbered.TooLong (Alike j k) is = absurd is
-no-failure count unnumbered.NoMemory (Refused refusal) is = let P : Fault → Type 0 = λ f. read_failures count f ≡ count in subst P (sym is) refl
+no-failure count unnumbered.NoMemory (Refused refusal) is = let P : Fault
+    → Type 0 = λ f. read_failures count f ≡ count in subst P (sym is) refl
 no-failure count unnumbered.NoMemory (Alike j k) is = absurd is
 
-pub no-first_failure : (count : ℕ) (which : Which) (fault : Unnumbered) (refusal : NumberingRefusal) → IsRefusalOf fault refusal → first_numbering_failures count which refusal ≡ count
-no-first_failure count which (unnumbered.Alike j k) refusal is = let P : NumberingRefusal → Type 0 = λ r. first_numbering_failures count which r ≡ count in subst P (sym is) refl
-no-first_failure count First unnumbered.TooLong (Refused refusal) is = let P : Fault → Type 0 = λ f. read_failures count f ≡ count in subst P (sym is) refl
+pub no-first_failure : (count : ℕ) (which : Which) (fault : Unnumbered) (refusal : NumberingRefusal) → IsRefusalOf fault refusal
+    → first_numbering_failures count which refusal ≡ count
+no-first_failure count which (unnumbered.Alike j k) refusal is = let P : NumberingRefusal
+    → Type 0 = λ r. first_numbering_failures count which r ≡ count in subst P (sym is) refl
+no-first_failure count First unnumbered.TooLong (Refused refusal) is = let P : Fault
+    → Type 0 = λ f. read_failures count f ≡ count in subst P (sym is) refl
 no-first_failure count Second unnumbered.TooLong (Refused refusal) is = refl
 no-first_failure count which unnumbered.TooLong (Alike j k) is = absurd is
-no-first_failure count First unnumbered.NoMemory (Refused refusal) is = let P : Fault → Type 0 = λ f. read_failures count f ≡ count in subst P (sym is) refl
+no-first_failure count First unnumbered.NoMemory (Refused refusal) is = let P : Fault
+    → Type 0 = λ f. read_failures count f ≡ count in subst P (sym is) refl
 no-first_failure count Second unnumbered.NoMemory (Refused refusal) is = refl
 no-first_failure count which unnumbered.NoMemory (Alike j k) is = absurd is
 
-pub no-second_failure : (count : ℕ) (which : Which) (fault : Unnumbered) (refusal : NumberingRefusal) → IsRefusalOf fault refusal → second_numbering_failures count which refusal ≡ count
-no-second_failure count which (unnumbered.Alike j k) refusal is = let P : NumberingRefusal → Type 0 = λ r. second_numbering_failures count which r ≡ count in subst P (sym is) refl
-no-second_failure count Second unnumbered.TooLong (Refused refusal) is = let P : Fault → Type 0 = λ f. read_failures count f ≡ count in subst P (sym is) refl
+pub no-second_failure : (count : ℕ) (which : Which) (fault : Unnumbered) (refusal : NumberingRefusal) → IsRefusalOf fault refusal
+    → second_numbering_failures count which refusal ≡ count
+no-second_failure count which (unnumbered.Alike j k) refusal is = let P : NumberingRefusal
+    → Type 0 = λ r. second_numbering_failures count which r ≡ count in subst P (sym is) refl
+no-second_failure count Second unnumbered.TooLong (Refused refusal) is = let P : Fault
+    → Type 0 = λ f. read_failures count f ≡ count in subst P (sym is) refl
 no-second_failure count First unnumbered.TooLong (Refused refusal) is = refl
 no-second_failure count which unnumbered.TooLong (Alike j k) is = absurd is
-no-second_failure count Second unnumbered.NoMemory (Refused refusal) is = let P : Fault → Type 0 = λ f. read_failures count f ≡ count in subst P (sym is) refl
+no-second_failure count Second unnumbered.NoMemory (Refused refusal) is = let P : Fault
+    → Type 0 = λ f. read_failures count f ≡ count in subst P (sym is) refl
 no-second_failure count First unnumbered.NoMemory (Refused refusal) is = refl
 no-second_failure count which unnumbered.NoMemory (Alike j k) is = absurd is

@@ -24,7 +24,8 @@ pub record IsMeantInput (s : Schema) (limits : Limits) (old new : Option (List �
   pub means : Means s limits bytes meaning
 
 -- both were read to their ends; the answer is whether they mean the same but for the names of their instances
-pub record ComparesButForNames (s : Schema) (limits : Limits) (first_old first_new second_old second_new : Option (List ℕ)) (same : Bool) : Type 0 where
+pub record ComparesButForNames (s : Schema) (limits : Limits) (first_old first_new second_old second_new : Option (List ℕ))
+    (same : Bool) : Type 0 where
   pub first : IsMeantInput s limits first_old first_new
   pub second : IsMeantInput s limits second_old second_new
   pub if_same : IsTrue same ↔ SameButForNames first.meaning second.meaning
@@ -34,10 +35,12 @@ abbrev pub HasCanonical : Schema → Limits → Option (List ℕ) → Option (Li
 HasCanonical s limits old new = (text : List ℕ) × IsCanonicalOfRead s limits old new text
 
 -- a file is refused as by `same_meaning`; or the numbered files of both are too long; or neither is decided. Of both the first is named
-abbrev pub FailsToTell : Schema → Limits → Option (List ℕ) → Option (List ℕ) → Option (List ℕ) → Option (List ℕ) → Which → NumberingRefusal → Type 0
+abbrev pub FailsToTell : Schema → Limits → Option (List ℕ) → Option (List ℕ) → Option (List ℕ) → Option (List ℕ) → Which → NumberingRefusal
+    → Type 0
 FailsToTell s limits first_old first_new second_old second_new which (Refused refusal) =
     FailsToCompare s limits first_old first_new second_old second_new which refusal.fault
-    ⊎ ((which ≡ First) × (refusal.fault ≡ CanonicalTooLong) × IsLongInput s limits first_old first_new × IsLongInput s limits second_old second_new)
+    ⊎ ((which ≡ First) × (refusal.fault ≡ CanonicalTooLong) × IsLongInput s limits first_old first_new
+    × IsLongInput s limits second_old second_new)
 FailsToTell s limits first_old first_new second_old second_new which (Alike j k) =
     (which ≡ First) × IsAlikeInput s limits first_old first_new j k × ((i : ℕ) × (l : ℕ) × IsAlikeInput s limits second_old second_new i l)
 

@@ -40,7 +40,8 @@ pub record IsAlikeInput (s : Schema) (limits : Limits) (old new : Option (List �
 
 -- what a refusal says: a file is refused as by `accept`, or its numbered file is too long, or it isn't decided
 abbrev pub RefusesNumbers : Schema → Limits → Option (List ℕ) → Option (List ℕ) → NumberingRefusal → Type 0
-RefusesNumbers s limits old new (Refused refusal) = RefusesRead s limits old new refusal.fault ⊎ ((refusal.fault ≡ CanonicalTooLong) × IsLongInput s limits old new)
+RefusesNumbers s limits old new (Refused refusal) = RefusesRead s limits old new refusal.fault
+    ⊎ ((refusal.fault ≡ CanonicalTooLong) × IsLongInput s limits old new)
 RefusesNumbers s limits old new (Alike j k) = IsAlikeInput s limits old new j k
 
 -- the failures of a reader behind a refusal: one more where a read failed

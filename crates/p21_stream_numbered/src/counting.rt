@@ -25,8 +25,10 @@ pub fn count_numbered<R: Read>(
     limits: Limits,
     reader: &mut Watched<R>,
 ) -> Result<Counted, NumberingRefusal>
-    ensures ok { IfOk result (λ counted. IsCountedApart schema.now limits (R.remaining reader.old.inner) (R.remaining reader.new.inner) counted) }
-    ensures err { IfErr result (λ refusal. RefusesNumbers schema.now limits (R.remaining reader.old.inner) (R.remaining reader.new.inner) refusal) }
+    ensures ok { IfOk result (λ counted. IsCountedApart schema.now limits (R.remaining reader.old.inner) (R.remaining reader.new.inner)
+        counted) }
+    ensures err { IfErr result (λ refusal. RefusesNumbers schema.now limits (R.remaining reader.old.inner) (R.remaining reader.new.inner)
+        refusal) }
     ensures consumed { ConsumesAtMost limits (R.remaining reader.old.inner) (R.remaining reader.new.inner) }
     ensures claim { NumberingClaim schema.now limits (ranking_of schema.now) }
 

@@ -29,7 +29,8 @@ pub fn numbered<R: Read>(
     reader: &mut Watched<R>,
 ) -> Result<Accepted, NumberingRefusal>
     ensures ok { IfOk result (λ file. IsNumberedInput schema.now limits (R.remaining reader.old.inner) (R.remaining reader.new.inner) file) }
-    ensures err { IfErr result (λ refusal. RefusesNumbers schema.now limits (R.remaining reader.old.inner) (R.remaining reader.new.inner) refusal) }
+    ensures err { IfErr result (λ refusal. RefusesNumbers schema.now limits (R.remaining reader.old.inner) (R.remaining reader.new.inner)
+        refusal) }
     ensures consumed { ConsumesAtMost limits (R.remaining reader.old.inner) (R.remaining reader.new.inner) }
     ensures claim { NumberingClaim schema.now limits (ranking_of schema.now) }
 
@@ -60,8 +61,10 @@ pub(crate) fn canonical_text<R: Read>(
     limits: Limits,
     reader: &mut Watched<R>,
 ) -> Result<Vec<u8>, Refusal>
-    ensures ok { IfOk result (λ text. IsCanonicalOfRead schema.now limits (R.remaining reader.old.inner) (R.remaining reader.new.inner) text.items) }
-    ensures err { IfErr result (λ refusal. RefusesRead schema.now limits (R.remaining reader.old.inner) (R.remaining reader.new.inner) refusal.fault) }
+    ensures ok { IfOk result (λ text. IsCanonicalOfRead schema.now limits (R.remaining reader.old.inner) (R.remaining reader.new.inner)
+        text.items) }
+    ensures err { IfErr result (λ refusal. RefusesRead schema.now limits (R.remaining reader.old.inner) (R.remaining reader.new.inner)
+        refusal.fault) }
     ensures consumed { ConsumesAtMost limits (R.remaining reader.old.inner) (R.remaining reader.new.inner) }
 
     ensures moved { reader.new.moved ≤ reader.old.moved + (limits.file_source + 1) }

@@ -16,16 +16,20 @@ lines-are (l ∷ ls) = ap (λ (xs : List ℕ). line_of l.1 ++ xs) (lines-are ls)
 section-is : (w : WrittenSection) (b : Block) → IsWrittenBlock w b → section_text w ≡ block_bytes b
 section-is w b is =
     ap (λ (l : List ℕ). line_of l ++ (lines_of w.texts ++ line_of (codes "ENDSEC;"))) is.line_is
-    ∙ ap (λ (ts : List (List ℕ)). line_of (statement_text (section (data_start b.heading))) ++ (lines_of ts ++ line_of (codes "ENDSEC;"))) is.texts_are
-    ∙ ap (λ (xs : List ℕ). line_of (statement_text (section (data_start b.heading))) ++ (xs ++ line_of (codes "ENDSEC;"))) (lines-are b.lines)
+    ∙ ap (λ (ts : List (List ℕ)). line_of (statement_text (section (data_start b.heading))) ++ (lines_of ts ++ line_of (codes "ENDSEC;")))
+    is.texts_are
+    ∙ ap (λ (xs : List ℕ). line_of (statement_text (section (data_start b.heading))) ++ (xs ++ line_of (codes "ENDSEC;")))
+    (lines-are b.lines)
 
 sections-are : (ws : List WrittenSection) (bs : List Block) → AllZip IsWrittenBlock ws bs → sections_text ws ≡ flat_map block_bytes bs
 sections-are [] [] all = refl
 sections-are [] (b ∷ bs) all = absurd all
 sections-are (w ∷ ws) [] all = absurd all
-sections-are (w ∷ ws) (b ∷ bs) all = ap (λ (xs : List ℕ). xs ++ sections_text ws) (section-is w b all.0) ∙ ap (λ (xs : List ℕ). block_bytes b ++ xs) (sections-are ws bs all.1)
+sections-are (w ∷ ws) (b ∷ bs) all = ap (λ (xs : List ℕ). xs ++ sections_text ws) (section-is w b all.0)
+    ∙ ap (λ (xs : List ℕ). block_bytes b ++ xs) (sections-are ws bs all.1)
 
-pub output-is : (header : List ℕ) (ws : List WrittenSection) (bs : List Block) → AllZip IsWrittenBlock ws bs → written_text header ws ≡ text_with_header header bs
+pub output-is : (header : List ℕ) (ws : List WrittenSection) (bs : List Block) → AllZip IsWrittenBlock ws bs
+    → written_text header ws ≡ text_with_header header bs
 output-is header ws bs all =
     let end : List ℕ = line_of (codes "END-ISO-10303-21;") in
     let first : List ℕ = line_of (codes "ISO-10303-21;") ++ line_of (codes "HEADER;") in

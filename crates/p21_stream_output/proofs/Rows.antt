@@ -12,34 +12,49 @@ use Rattle.p21_stream_output.specs.declared.named_sections.NamedSection.{NamedSe
 use Rattle.p21_stream_store.specs.Memberships.{Membership}
 use Rattle.p21_stream_store.specs.StoredInstance.{StoredInstance}
 
-filed-more : (f : ℕ → ℕ) (order : List ℕ) (place : ℕ) (rows : List (List ℕ)) → filed_rows f (order ++ place ∷ []) rows ≡ with_position (f place) place (filed_rows f order rows)
+filed-more : (f : ℕ → ℕ) (order : List ℕ) (place : ℕ) (rows : List (List ℕ))
+    → filed_rows f (order ++ place ∷ []) rows ≡ with_position (f place) place (filed_rows f order rows)
 filed-more f [] place rows = refl
 filed-more f (x ∷ order) place rows = filed-more f order place (with_position (f x) x rows)
 
 -- one more position is filed
-pub more-filed : (f : ℕ → ℕ) (order : List ℕ) (k place section : ℕ) (old now new : List (List ℕ)) → slice_get order k ≡ Some place → now ≡ filed_rows f (take k order) old → section ≡ f place → new ≡ with_position section place now → new ≡ filed_rows f (take (k + 1) order) old
+pub more-filed : (f : ℕ → ℕ) (order : List ℕ) (k place section : ℕ) (old now new : List (List ℕ)) → slice_get order k ≡ Some place
+    → now ≡ filed_rows f (take k order) old → section ≡ f place → new ≡ with_position section place now
+    → new ≡ filed_rows f (take (k + 1) order) old
 more-filed f order k place section old now new at so_far is more =
-    more ∙ ap (λ (n : ℕ). with_position n place now) is ∙ ap (with_position (f place) place) so_far ∙ sym (filed-more f (take k order) place old)
+    more ∙ ap (λ (n : ℕ). with_position n place now) is ∙ ap (with_position (f place) place) so_far
+    ∙ sym (filed-more f (take k order) place old)
     ∙ ap (λ (p : ℕ). filed_rows f (take k order ++ p ∷ []) old) (sym (get_or_from_slice_get order k place place at))
     ∙ ap (λ (o : List ℕ). filed_rows f o old) (sym (take_more order k place (slice_get_within order k place at)))
 
 -- ---- one row is longer, and the names and lines are as before
 
-pub row-put : (parts : List NamedSection) (section place : ℕ) (old new : NamedSection) → section < length parts → ((d : NamedSection) → old ≡ get_or parts section d) → new.instance_positions ≡ old.instance_positions ++ place ∷ [] → section_positions (slice_set parts section new) ≡ with_position section place (section_positions parts)
+pub row-put : (parts : List NamedSection) (section place : ℕ) (old new : NamedSection) → section < length parts
+    → ((d : NamedSection) → old ≡ get_or parts section d) → new.instance_positions ≡ old.instance_positions ++ place ∷ []
+    → section_positions (slice_set parts section new) ≡ with_position section place (section_positions parts)
 row-put [] section place old new low at longer = absurd (omega (arith, low))
-row-put (part ∷ parts) zero place old new low at longer = ap (λ (ns : List ℕ). ns ∷ section_positions parts) (longer ∙ ap (λ (x : NamedSection). x.instance_positions ++ place ∷ []) (at part))
-row-put (part ∷ parts) (suc section) place old new low at longer = ap (λ (more : List (List ℕ)). part.instance_positions ∷ more) (row-put parts section place old new (omega (arith, low)) (λ d. at d) longer)
+row-put (part ∷ parts) zero place old new low at longer =
+    ap (λ (ns : List ℕ). ns ∷ section_positions parts) (longer ∙ ap (λ (x : NamedSection). x.instance_positions ++ place ∷ []) (at part))
+row-put (part ∷ parts) (suc section) place old new low at longer =
+    ap (λ (more : List (List ℕ)). part.instance_positions ∷ more)
+    (row-put parts section place old new (omega (arith, low)) (λ d. at d) longer)
 
-pub row-none : (parts : List NamedSection) (section place : ℕ) → length parts ≤ section → section_positions parts ≡ with_position section place (section_positions parts)
+pub row-none : (parts : List NamedSection) (section place : ℕ) → length parts ≤ section
+    → section_positions parts ≡ with_position section place (section_positions parts)
 row-none [] section place above = refl
 row-none (part ∷ parts) zero place above = absurd (omega (arith, above))
-row-none (part ∷ parts) (suc section) place above = ap (λ (more : List (List ℕ)). part.instance_positions ∷ more) (row-none parts section place (omega (arith, above)))
+row-none (part ∷ parts) (suc section) place above =
+    ap (λ (more : List (List ℕ)). part.instance_positions ∷ more) (row-none parts section place (omega (arith, above)))
 
-pub heads-put : (parts : List NamedSection) (section : ℕ) (old new : NamedSection) → ((d : NamedSection) → old ≡ get_or parts section d) → new.name.items ≡ old.name.items → new.line.items ≡ old.line.items → heads_of (slice_set parts section new) ≡ heads_of parts
+pub heads-put : (parts : List NamedSection) (section : ℕ) (old new : NamedSection) → ((d : NamedSection) → old ≡ get_or parts section d)
+    → new.name.items ≡ old.name.items → new.line.items ≡ old.line.items → heads_of (slice_set parts section new) ≡ heads_of parts
 heads-put [] section old new at name line = refl
 heads-put (part ∷ parts) zero old new at name line =
-    ap (λ (n : List ℕ). (n, new.line.items) ∷ heads_of parts) (name ∙ ap (λ (x : NamedSection). x.name.items) (at part)) ∙ ap (λ (l : List ℕ). (part.name.items, l) ∷ heads_of parts) (line ∙ ap (λ (x : NamedSection). x.line.items) (at part))
-heads-put (part ∷ parts) (suc section) old new at name line = ap (λ (more : List (List ℕ × List ℕ)). (part.name.items, part.line.items) ∷ more) (heads-put parts section old new (λ d. at d) name line)
+    ap (λ (n : List ℕ). (n, new.line.items) ∷ heads_of parts) (name ∙ ap (λ (x : NamedSection). x.name.items) (at part))
+    ∙ ap (λ (l : List ℕ). (part.name.items, l) ∷ heads_of parts) (line ∙ ap (λ (x : NamedSection). x.line.items) (at part))
+heads-put (part ∷ parts) (suc section) old new at name line =
+    ap (λ (more : List (List ℕ × List ℕ)). (part.name.items, part.line.items) ∷ more)
+    (heads-put parts section old new (λ d. at d) name line)
 
 -- ---- what each row holds at the end
 
@@ -66,7 +81,8 @@ other-row (suc s) zero place (row ∷ rows) differ = refl
 other-row (suc s) (suc i) place (row ∷ rows) differ = other-row s i place rows (λ same. differ (ap suc same))
 
 -- each row holds the positions of its section, in their order, behind what it held
-pub row-filed : (f : ℕ → ℕ) (order : List ℕ) (rows : List (List ℕ)) (i : ℕ) → i < length rows → get_or (filed_rows f order rows) i [] ≡ get_or rows i [] ++ filter (λ (place : ℕ). nat_eq (f place) i) order
+pub row-filed : (f : ℕ → ℕ) (order : List ℕ) (rows : List (List ℕ)) (i : ℕ) → i < length rows
+    → get_or (filed_rows f order rows) i [] ≡ get_or rows i [] ++ filter (λ (place : ℕ). nat_eq (f place) i) order
 row-filed f [] rows i low = sym (append-nil (get_or rows i []))
 row-filed f (place ∷ order) rows i low =
     let size = with_position-size (f place) place rows in
@@ -77,13 +93,16 @@ row-filed f (place ∷ order) rows i low =
           subst P (sym same) (own-row i place rows low) in
           ap (λ (xs : List ℕ). xs ++ filter (λ (p : ℕ). nat_eq (f p) i) order) own
           ∙ append_assoc (get_or rows i []) (place ∷ []) (filter (λ (p : ℕ). nat_eq (f p) i) order)
-          ∙ ap (λ (b : Bool). get_or rows i [] ++ cond b (place ∷ filter (λ (p : ℕ). nat_eq (f p) i) order) (filter (λ (p : ℕ). nat_eq (f p) i) order)) (sym equal)
+          ∙ ap (λ (b : Bool). get_or rows i [] ++ cond b (place ∷ filter (λ (p : ℕ). nat_eq (f p) i) order)
+          (filter (λ (p : ℕ). nat_eq (f p) i) order)) (sym equal)
       | inr (other, differ) ↦
           ap (λ (xs : List ℕ). xs ++ filter (λ (p : ℕ). nat_eq (f p) i) order) (other-row (f place) i place rows differ)
-          ∙ ap (λ (b : Bool). get_or rows i [] ++ cond b (place ∷ filter (λ (p : ℕ). nat_eq (f p) i) order) (filter (λ (p : ℕ). nat_eq (f p) i) order)) (sym other)
+          ∙ ap (λ (b : Bool). get_or rows i [] ++ cond b (place ∷ filter (λ (p : ℕ). nat_eq (f p) i) order)
+          (filter (λ (p : ℕ). nat_eq (f p) i) order)) (sym other)
     ]
 
-row-at : (parts : List NamedSection) (i : ℕ) (part : NamedSection) → slice_get parts i ≡ Some part → (part.instance_positions ≡ get_or (section_positions parts) i []) × (i < length (section_positions parts))
+row-at : (parts : List NamedSection) (i : ℕ) (part : NamedSection) → slice_get parts i ≡ Some part
+    → (part.instance_positions ≡ get_or (section_positions parts) i []) × (i < length (section_positions parts))
 row-at [] i part at = cc
 row-at (x ∷ parts) zero part at = let same : x ≡ part = cc in (ap (λ (y : NamedSection). y.instance_positions) (sym same), omega arith)
 row-at (x ∷ parts) (suc i) part at = let rest = row-at parts i part at in (rest.0, let below = rest.1 in omega (arith, below))
@@ -94,7 +113,9 @@ row-empty (x ∷ parts) zero none = none.0
 row-empty (x ∷ parts) (suc i) none = row-empty parts i none.1
 
 -- the same, where the rows held no position
-pub part-filed : (f : ℕ → ℕ) (order : List ℕ) (old new : List NamedSection) → AreEmpty old → section_positions new ≡ filed_rows f order (section_positions old) → (i : ℕ) (part : NamedSection) → slice_get new i ≡ Some part → part.instance_positions ≡ filter (λ (place : ℕ). nat_eq (f place) i) order
+pub part-filed : (f : ℕ → ℕ) (order : List ℕ) (old new : List NamedSection) → AreEmpty old
+    → section_positions new ≡ filed_rows f order (section_positions old) → (i : ℕ) (part : NamedSection) → slice_get new i ≡ Some part
+    → part.instance_positions ≡ filter (λ (place : ℕ). nat_eq (f place) i) order
 part-filed f order old new none are i part at =
     let (row, low) = row-at new i part at in
     let many = ap length are ∙ filed-size f order (section_positions old) in
@@ -105,30 +126,39 @@ part-filed f order old new none are i part at =
 
 -- ---- one section alone
 
-pub row-given : (parts : List NamedSection) (part : NamedSection) (instance_positions : List ℕ) → length parts ≡ 1 → part.instance_positions ≡ instance_positions → section_positions (slice_set parts 0 part) ≡ instance_positions ∷ []
+pub row-given : (parts : List NamedSection) (part : NamedSection) (instance_positions : List ℕ) → length parts ≡ 1
+    → part.instance_positions ≡ instance_positions → section_positions (slice_set parts 0 part) ≡ instance_positions ∷ []
 row-given [] part instance_positions one are = absurd (omega (arith, one))
 row-given (x ∷ []) part instance_positions one are = ap (λ (ns : List ℕ). ns ∷ []) are
 row-given (x ∷ y ∷ parts) part instance_positions one are = absurd (omega (arith, one))
 
 -- each position is in the first section, where each membership is of it
-first-section : (memberships : List Membership) (kept : List StoredInstance) → AreOfSections 1 memberships → (place : ℕ) → section_at memberships kept place ≡ 0
+first-section : (memberships : List Membership) (kept : List StoredInstance) → AreOfSections 1 memberships → (place : ℕ)
+    → section_at memberships kept place ≡ 0
 first-section memberships kept all place = of_instance (slice_get kept place) where
-  of_kind : (number : ℕ) (membership : Option Membership) → slice_get memberships number ≡ membership → ◌≡◌ {A = ℕ} (elim membership [ Some k ↦ k.section | None ↦ 0 ]) 0
+  of_kind : (number : ℕ) (membership : Option Membership) → slice_get memberships number ≡ membership
+      → ◌≡◌ {A = ℕ} (elim membership [ Some k ↦ k.section | None ↦ 0 ]) 0
   of_kind number None is = refl
-  of_kind number (Some membership) is = let below = Each-at (λ (x : Membership). x.section < 1) memberships number membership all is in omega (arith, below)
+  of_kind number (Some membership) is = let below = Each-at (λ (x : Membership). x.section < 1) memberships number membership all is in
+      omega (arith, below)
 
-  of_instance : (found : Option StoredInstance) → ◌≡◌ {A = ℕ} (elim found [ Some x ↦ section_of_membership memberships x.membership | None ↦ 0 ]) 0
+  of_instance : (found : Option StoredInstance) → ◌≡◌ {A = ℕ}
+      (elim found [ Some x ↦ section_of_membership memberships x.membership | None ↦ 0 ]) 0
   of_instance None = refl
   of_instance (Some x) = of_kind x.membership (slice_get memberships x.membership) refl
 
 filed-first : (f : ℕ → ℕ) → ((place : ℕ) → f place ≡ 0) → (order row : List ℕ) → filed_rows f order (row ∷ []) ≡ (row ++ order) ∷ []
 filed-first f first [] row = ap (λ (ns : List ℕ). ns ∷ []) (sym (append-nil row))
 filed-first f first (place ∷ order) row =
-    ap (λ (n : ℕ). filed_rows f order (with_position n place (row ∷ []))) (first place) ∙ filed-first f first order (row ++ place ∷ []) ∙ ap (λ (ns : List ℕ). ns ∷ []) (append_assoc row (place ∷ []) order)
+    ap (λ (n : ℕ). filed_rows f order (with_position n place (row ∷ []))) (first place) ∙ filed-first f first order (row ++ place ∷ [])
+    ∙ ap (λ (ns : List ℕ). ns ∷ []) (append_assoc row (place ∷ []) order)
 
 -- so the first section gets all positions in their order
-pub one-filed : (memberships : List Membership) (kept : List StoredInstance) (order : List ℕ) (parts : List NamedSection) → AreOfSections (length parts) memberships → AreEmpty parts → length parts ≡ 1 → order ∷ [] ≡ filed_rows (section_at memberships kept) order (section_positions parts)
+pub one-filed : (memberships : List Membership) (kept : List StoredInstance) (order : List ℕ) (parts : List NamedSection)
+    → AreOfSections (length parts) memberships → AreEmpty parts → length parts ≡ 1
+    → order ∷ [] ≡ filed_rows (section_at memberships kept) order (section_positions parts)
 one-filed memberships kept order [] all none one = absurd (omega (arith, one))
 one-filed memberships kept order (x ∷ []) all none one =
-    sym (ap (λ (ns : List ℕ). filed_rows (section_at memberships kept) order (ns ∷ [])) none.0 ∙ filed-first (section_at memberships kept) (first-section memberships kept all) order [])
+    sym (ap (λ (ns : List ℕ). filed_rows (section_at memberships kept) order (ns ∷ [])) none.0
+    ∙ filed-first (section_at memberships kept) (first-section memberships kept all) order [])
 one-filed memberships kept order (x ∷ y ∷ parts) all none one = absurd (omega (arith, one))

@@ -14,7 +14,8 @@ use Rattle.p21_spec_laws.proofs.Output.{lines-by_section}
 use Rattle.p21_spec_laws.specs.OutputLaws.{lines_of, stored_at}
 use Rattle.p21_spec_laws.specs.Stored.{AreLinesOf, StoredEntry}
 
-mapped-rises_on : {X Y : Type 0} (f : X → Y) (n : Y → ℕ) (xs : List X) → IsNonDecreasingBy (λ (x : X). n (f x)) xs → IsNonDecreasingBy n (map f xs)
+mapped-rises_on : {X Y : Type 0} (f : X → Y) (n : Y → ℕ) (xs : List X) → IsNonDecreasingBy (λ (x : X). n (f x)) xs
+    → IsNonDecreasingBy n (map f xs)
 mapped-rises_on f n [] rises i j d before below = absurd (omega (arith, below))
 mapped-rises_on {X} f n (x ∷ xs) rises i j d before below =
     let size = length-map (x ∷ xs) f in
@@ -25,17 +26,20 @@ mapped-rises_on {X} f n (x ∷ xs) rises i j d before below =
     let b = ap n (get_or-map f (x ∷ xs) j x d within) in
     omega (arith, least, a, b)
 
-filter-mapped : (at : ℕ → StoredEntry) (number : ℕ) (order : List ℕ) → stored_at number (map at order) ≡ map at (filter (λ (p : ℕ). nat_eq (at p).section number) order)
+filter-mapped : (at : ℕ → StoredEntry) (number : ℕ) (order : List ℕ)
+    → stored_at number (map at order) ≡ map at (filter (λ (p : ℕ). nat_eq (at p).section number) order)
 filter-mapped at number [] = refl
 filter-mapped at number (p ∷ order) = by (nat_eq (at p).section number) (filter-mapped at number order)
   where
     by : (b : Bool) → stored_at number (map at order) ≡ map at (filter (λ (q : ℕ). nat_eq (at q).section number) order)
-        → cond b (at p ∷ stored_at number (map at order)) (stored_at number (map at order)) ≡ map at (cond b (p ∷ filter (λ (q : ℕ). nat_eq (at q).section number) order) (filter (λ (q : ℕ). nat_eq (at q).section number) order))
+        → cond b (at p ∷ stored_at number (map at order)) (stored_at number (map at order)) ≡ map at
+        (cond b (p ∷ filter (λ (q : ℕ). nat_eq (at q).section number) order) (filter (λ (q : ℕ). nat_eq (at q).section number) order))
     by true rest = ap (λ (xs : List StoredEntry). at p ∷ xs) rest
     by false rest = rest
 
 -- what stands at the positions is what is stored, and the positions rise by names: those of a section are its lines, rising
-pub section-lines : (stored : List StoredEntry) → IsDistinct nat_eq (map (λ (x : StoredEntry). x.name) stored) → (at : ℕ → StoredEntry) (order : List ℕ) → IsPermutation stored (map at order) → IsNonDecreasingBy (λ (p : ℕ). (at p).name) order
+pub section-lines : (stored : List StoredEntry) → IsDistinct nat_eq (map (λ (x : StoredEntry). x.name) stored)
+    → (at : ℕ → StoredEntry) (order : List ℕ) → IsPermutation stored (map at order) → IsNonDecreasingBy (λ (p : ℕ). (at p).name) order
     → (number : ℕ) → AreLinesOf stored number (lines_of (map at (filter (λ (p : ℕ). nat_eq (at p).section number) order)))
     × IsStrictlySortedBy nat_cmp (map (λ (l : Line). l.0) (lines_of (map at (filter (λ (p : ℕ). nat_eq (at p).section number) order))))
 section-lines stored differ at order are rises number = ((onto, back), found.1)
@@ -45,10 +49,14 @@ section-lines stored differ at order are rises number = ((onto, back), found.1)
 
     found : AreLinesOf (map at order) number (lines_of own) × IsStrictlySortedBy nat_cmp (map (λ (l : Line). l.0) (lines_of own))
     found =
-        let differ_ = IsDistinct-IsPermutation nat_eq nat_eq-turned (map (λ (x : StoredEntry). x.name) stored) (map (λ (x : StoredEntry). x.name) (map at order)) (IsPermutation-map (λ (x : StoredEntry). x.name) stored (map at order) are) differ in
+        let differ_ = IsDistinct-IsPermutation nat_eq nat_eq-turned (map (λ (x : StoredEntry). x.name) stored)
+        (map (λ (x : StoredEntry). x.name) (map at order)) (IsPermutation-map (λ (x : StoredEntry). x.name) stored (map at order) are)
+        differ in
         let P : List StoredEntry → Type 0 = λ xs. IsPermutation xs own in
         let same = subst P (sym (filter-mapped at number order)) (IsPermutation-refl own) in
-        lines-by_section (map at order) differ_ number own same (mapped-rises_on at (λ (x : StoredEntry). x.name) (filter (λ (p : ℕ). nat_eq (at p).section number) order) (IsNonDecreasingBy-filter (λ (p : ℕ). (at p).name) (λ (p : ℕ). nat_eq (at p).section number) order rises))
+        lines-by_section (map at order) differ_ number own same
+        (mapped-rises_on at (λ (x : StoredEntry). x.name) (filter (λ (p : ℕ). nat_eq (at p).section number) order)
+        (IsNonDecreasingBy-filter (λ (p : ℕ). (at p).name) (λ (p : ℕ). nat_eq (at p).section number) order rises))
 
     onto : (x : StoredEntry) → Contains stored x → x.section ≡ number → Contains (lines_of own) (x.name, x.text)
     onto x among is = found.0.0 x (Contains-permutation stored (map at order) x are among) is

@@ -25,17 +25,25 @@ module _ {X Y : Type 0} (R : X → Y → Type 0) where
   zip-swap [] (y ∷ ys) i j all = absurd all
   zip-swap (x ∷ xs) [] i j all = absurd all
   zip-swap (x ∷ xs) (y ∷ ys) i j all =
-      zip-set (slice_set (x ∷ xs) i (get_or (x ∷ xs) j x)) (slice_set (y ∷ ys) i (get_or (y ∷ ys) j y)) j (get_or (x ∷ xs) i x) (get_or (y ∷ ys) i y)
-      (zip-set (x ∷ xs) (y ∷ ys) i (get_or (x ∷ xs) j x) (get_or (y ∷ ys) j y) all (zip-at (x ∷ xs) (y ∷ ys) j x y all all.0)) (zip-at (x ∷ xs) (y ∷ ys) i x y all all.0)
+      zip-set (slice_set (x ∷ xs) i (get_or (x ∷ xs) j x)) (slice_set (y ∷ ys) i (get_or (y ∷ ys) j y)) j (get_or (x ∷ xs) i x)
+      (get_or (y ∷ ys) i y)
+      (zip-set (x ∷ xs) (y ∷ ys) i (get_or (x ∷ xs) j x) (get_or (y ∷ ys) j y) all (zip-at (x ∷ xs) (y ∷ ys) j x y all all.0))
+      (zip-at (x ∷ xs) (y ∷ ys) i x y all all.0)
 
   abbrev Along : List Y → List X → Type 0
   Along ys xs = (zs : List Y) × IsPermutation ys zs × AllZip R xs zs
 
   -- the other is put in the same order
-  pub zip-permuted : (xs sorted : List X) (ys : List Y) → AllZip R xs ys → IsPermutation xs sorted → (zs : List Y) × IsPermutation ys zs × AllZip R sorted zs
+  pub zip-permuted : (xs sorted : List X) (ys : List Y) → AllZip R xs ys → IsPermutation xs sorted
+      → (zs : List Y) × IsPermutation ys zs × AllZip R sorted zs
   zip-permuted xs sorted ys all are = IsPermutation-keeps xs (Along ys) (ys, IsPermutation-refl ys, all) step sorted are
     where
       step : (l : List X) (i j : ℕ) → i < length l → j < length l → Along ys l → Along ys (swap l i j)
       step l i j first second (zs, same, both) =
-          let size = AllZip-long R l zs both in
-          (swap zs i j, IsPermutation-trans ys zs (swap zs i j) same (IsPermutation-swap zs (swap zs i j) i j (omega (arith, first, size)) (omega (arith, second, size)) refl), zip-swap l zs i j both)
+          let size = AllZip-long R l zs both in (
+            swap zs i j,
+            IsPermutation-trans ys zs (swap zs i j) same
+                (IsPermutation-swap zs (swap zs i j) i j (omega (arith, first, size)) (omega (arith, second, size)) refl),
+            zip-swap l zs i j
+                both,
+          )

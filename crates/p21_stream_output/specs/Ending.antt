@@ -15,14 +15,21 @@ use Rattle.p21_stream_store.specs.StoredInstance as store
 
 -- an instance with its membership, if it has the number of one
 abbrev pub stored_with : Option Membership → store.StoredInstance → StoredEntry
-stored_with (Some membership) kept = record { name = kept.name; section = membership.section; entities = membership.entities; text = kept.text }
+stored_with (Some membership) kept = record {
+  name = kept.name;
+  section = membership.section;
+  entities = membership.entities;
+  text =
+      kept.text;
+}
 stored_with None kept = record { name = kept.name; section = 0; entities = []; text = kept.text }
 
 abbrev pub stored_of : List Membership → List store.StoredInstance → List StoredEntry
 stored_of memberships instances = map (λ (x : store.StoredInstance). stored_with (slice_get memberships x.membership) x) instances
 
 -- what is kept stands in these: the header lines, the sections as they begin, the memberships and the instances
-pub record IsKeptIn (kept : Kept) (header : List ℕ) (parts : List NamedSection) (memberships : List Membership) (instances : List store.StoredInstance) : Type 0 where
+pub record IsKeptIn (kept : Kept) (header : List ℕ) (parts : List NamedSection) (memberships : List Membership)
+    (instances : List store.StoredInstance) : Type 0 where
   pub header_is : kept.header ≡ header
   pub begins : AllZip HasHeading kept.headings parts
   pub stored_is : kept.stored ≡ stored_of memberships instances
@@ -33,7 +40,8 @@ pub record HasNamesOnce (kept : Kept) : Type 0 where
   pub instances : IsDistinct nat_eq (map (λ (x : StoredEntry). x.name) kept.stored)
 
 -- what stands in these and is kept has a file of so many bytes
-pub record HasSize (header : List ℕ) (parts : List NamedSection) (memberships : List Membership) (instances : List store.StoredInstance) (size : ℕ) : Type 0 where
+pub record HasSize (header : List ℕ) (parts : List NamedSection) (memberships : List Membership) (instances : List store.StoredInstance)
+    (size : ℕ) : Type 0 where
   pub kept : Kept
   pub stands : IsKeptIn kept header parts memberships instances
   pub once : HasNamesOnce kept

@@ -25,7 +25,13 @@ abbrev pub written_section : List StoredInstance → Section → WrittenSection
 written_section kept x = record { line = x.line.items; texts = texts_at kept x.instance_positions }
 
 abbrev pub output_of : List ℕ → List Section → List StoredInstance → ℕ → Output
-output_of header sections kept statement = record { header = header; sections = map (written_section kept) sections; kept = kept; statement = statement }
+output_of header sections kept statement = record {
+  header = header;
+  sections = map (written_section kept) sections;
+  kept =
+      kept;
+  statement = statement;
+}
 
 -- an instance of this name stands at one of the positions
 abbrev pub HasNameAmong : List StoredInstance → List ℕ → ℕ → Type 0

@@ -118,7 +118,8 @@ impl Accepted {
 
     /// The line of an instance in the canonical file, without its line feed, if there is one of this name. It takes no memory.
     pub fn line(&self, name: Name) -> Option<&[u8]>
-        ensures some { IfSome result (λ text. (membership : ℕ) × Contains self.now.kept (record { name = name; membership = membership; text = text.now })) }
+        ensures some { IfSome result (λ text. (membership : ℕ)
+            × Contains self.now.kept (record { name = name; membership = membership; text = text.now })) }
         ensures line { IfSome result (λ text. IsLineOf name text.now (output_text self.now)) }
         ensures none { IsNone result → Contains (instance_names self.now.kept) name → ⊥ }
     {
@@ -130,10 +131,12 @@ impl Accepted {
 
     /// The name and the line of the first instance whose name is this one or above it, if there is one. It takes no memory.
     pub fn first_from(&self, least: Name) -> Option<(Name, &[u8])>
-        ensures some { IfSome result (λ found. (membership : ℕ) × Contains self.now.kept (record { name = found.0; membership = membership; text = found.1.now })) }
+        ensures some { IfSome result (λ found. (membership : ℕ)
+            × Contains self.now.kept (record { name = found.0; membership = membership; text = found.1.now })) }
         ensures line { IfSome result (λ found. IsLineOf found.0 found.1.now (output_text self.now)) }
         ensures from { IfSome result (λ found. least ≤ found.0) }
-        ensures between { IfSome result (λ found. (other : ℕ) → least ≤ other → other < found.0 → Contains (instance_names self.now.kept) other → ⊥) }
+        ensures between { IfSome result (λ found. (other : ℕ) → least ≤ other → other < found.0
+            → Contains (instance_names self.now.kept) other → ⊥) }
         ensures none { IsNone result → (other : ℕ) → least ≤ other → Contains (instance_names self.now.kept) other → ⊥ }
     {
         let Some((name, _)) = self.instances.next_from(least.0) else {

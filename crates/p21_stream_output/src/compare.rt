@@ -117,7 +117,8 @@ fn behind_lines<'a>(
 
 /// The rest behind lines.
 fn behind_texts<'a>(text: &'a [u8], lines: &[&[u8]]) -> Option<&'a [u8]>
-    ensures { MatchOption result (LacksPrefix text.now (lines_of (read_lines lines.now))) (λ rest. text.now ≡ lines_of (read_lines lines.now) ++ rest.now) }
+    ensures { MatchOption result (LacksPrefix text.now (lines_of (read_lines lines.now)))
+        (λ rest. text.now ≡ lines_of (read_lines lines.now) ++ rest.now) }
 {
     let mut left = text;
     for line in lines {

@@ -33,7 +33,8 @@ pub fn accepted_file(
     requires named { AreNamed instances }
     requires empty { AreEmpty parts.items }
     requires size { HasSize header.items parts.items memberships.now instances size }
-    ensures kept { IfOk result (λ file. (kept : Kept) → IsKeptIn kept header.items parts.items memberships.now instances → HasNamesOnce kept → IsFileOfKept kept file) }
+    ensures kept { IfOk result (λ file. (kept : Kept) → IsKeptIn kept header.items parts.items memberships.now instances → HasNamesOnce kept
+        → IsFileOfKept kept file) }
     ensures statement { IfOk result (λ file. file.statement ≡ statement) }
 {
     file_instances(alloc, &mut parts, memberships, &instances)?;

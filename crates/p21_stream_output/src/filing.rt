@@ -24,7 +24,8 @@ pub(crate) fn file_instances(
     requires sections { AreOfSections (length parts.old.items) memberships.now }
     requires empty { AreEmpty parts.old.items }
     ensures heads { heads_of parts.new.items ≡ heads_of parts.old.items }
-    ensures rows { OnOk result (IsFiling memberships.now instances.now (section_positions parts.old.items) (section_positions parts.new.items)) }
+    ensures rows { OnOk result (IsFiling memberships.now instances.now (section_positions parts.old.items)
+        (section_positions parts.new.items)) }
 {
     let order = instances.order(alloc)?;
     if parts.len() == 1 {
@@ -54,7 +55,8 @@ fn file(
 ) -> Result<(), NoMemory>
     requires { HaveMemberships memberships.now instances.now }
     ensures heads { heads_of parts.new.items ≡ heads_of parts.old.items }
-    ensures rows { OnOk result (section_positions parts.new.items ≡ filed_rows (section_at memberships.now instances.now) order.now (section_positions parts.old.items)) }
+    ensures rows { OnOk result (section_positions parts.new.items ≡ filed_rows (section_at memberships.now instances.now) order.now
+        (section_positions parts.old.items)) }
 {
     for index in 0..order.len() {
         let place = order.get(index);

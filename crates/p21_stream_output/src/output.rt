@@ -21,7 +21,8 @@ pub(crate) fn put_line<W: Write>(
     writer: &mut Watched<W>,
     text: &[u8],
 ) -> Result<(), WriteFault>
-    ensures ok { OnOk result (AppendsAllBut (W.contents writer.old.inner) (W.contents writer.new.inner) (waiting.old ++ line_of text.now) waiting.new) }
+    ensures ok { OnOk result (AppendsAllBut (W.contents writer.old.inner) (W.contents writer.new.inner) (waiting.old ++ line_of text.now)
+        waiting.new) }
     ensures err { OnErr result (AppendsPartOf (W.contents writer.old.inner) (W.contents writer.new.inner) (waiting.old ++ line_of text.now)) }
 
     ensures written { OnOk result (writer.new.failures ≡ writer.old.failures) }
@@ -42,8 +43,10 @@ fn put_texts<W: Write>(
     writer: &mut Watched<W>,
     texts: &[&[u8]],
 ) -> Result<(), WriteFault>
-    ensures ok { OnOk result (AppendsAllBut (W.contents writer.old.inner) (W.contents writer.new.inner) (waiting.old ++ lines_of (read_lines texts.now)) waiting.new) }
-    ensures err { OnErr result (AppendsPartOf (W.contents writer.old.inner) (W.contents writer.new.inner) (waiting.old ++ lines_of (read_lines texts.now))) }
+    ensures ok { OnOk result (AppendsAllBut (W.contents writer.old.inner) (W.contents writer.new.inner)
+        (waiting.old ++ lines_of (read_lines texts.now)) waiting.new) }
+    ensures err { OnErr result (AppendsPartOf (W.contents writer.old.inner) (W.contents writer.new.inner)
+        (waiting.old ++ lines_of (read_lines texts.now))) }
 
     ensures written { OnOk result (writer.new.failures ≡ writer.old.failures) }
     ensures failed { OnErr result (writer.new.failures ≡ one_call_more writer.old.failures) }
@@ -64,8 +67,10 @@ fn put_lines<W: Write>(
     instance_positions: &Numbers,
 ) -> Result<(), WriteFault>
     requires { ArePositions instances.now instance_positions.now }
-    ensures ok { OnOk result (AppendsAllBut (W.contents writer.old.inner) (W.contents writer.new.inner) (waiting.old ++ lines_of (texts_at instances.now instance_positions.now)) waiting.new) }
-    ensures err { OnErr result (AppendsPartOf (W.contents writer.old.inner) (W.contents writer.new.inner) (waiting.old ++ lines_of (texts_at instances.now instance_positions.now))) }
+    ensures ok { OnOk result (AppendsAllBut (W.contents writer.old.inner) (W.contents writer.new.inner)
+        (waiting.old ++ lines_of (texts_at instances.now instance_positions.now)) waiting.new) }
+    ensures err { OnErr result (AppendsPartOf (W.contents writer.old.inner) (W.contents writer.new.inner)
+        (waiting.old ++ lines_of (texts_at instances.now instance_positions.now))) }
 
     ensures written { OnOk result (writer.new.failures ≡ writer.old.failures) }
     ensures failed { OnErr result (writer.new.failures ≡ one_call_more writer.old.failures) }
@@ -89,8 +94,10 @@ fn put_section<W: Write>(
     section: &Section,
 ) -> Result<(), WriteFault>
     requires { ArePositions instances.now section.now.instance_positions }
-    ensures ok { OnOk result (AppendsAllBut (W.contents writer.old.inner) (W.contents writer.new.inner) (waiting.old ++ section_text (written_section instances.now section.now)) waiting.new) }
-    ensures err { OnErr result (AppendsPartOf (W.contents writer.old.inner) (W.contents writer.new.inner) (waiting.old ++ section_text (written_section instances.now section.now))) }
+    ensures ok { OnOk result (AppendsAllBut (W.contents writer.old.inner) (W.contents writer.new.inner)
+        (waiting.old ++ section_text (written_section instances.now section.now)) waiting.new) }
+    ensures err { OnErr result (AppendsPartOf (W.contents writer.old.inner) (W.contents writer.new.inner)
+        (waiting.old ++ section_text (written_section instances.now section.now))) }
 
     ensures written { OnOk result (writer.new.failures ≡ writer.old.failures) }
     ensures failed { OnErr result (writer.new.failures ≡ one_call_more writer.old.failures) }
@@ -115,8 +122,10 @@ fn put_sections<W: Write>(
     sections: &[Section],
 ) -> Result<(), WriteFault>
     requires { HavePositions instances.now sections.now }
-    ensures ok { OnOk result (AppendsAllBut (W.contents writer.old.inner) (W.contents writer.new.inner) (waiting.old ++ sections_text (map (written_section instances.now) sections.now)) waiting.new) }
-    ensures err { OnErr result (AppendsPartOf (W.contents writer.old.inner) (W.contents writer.new.inner) (waiting.old ++ sections_text (map (written_section instances.now) sections.now))) }
+    ensures ok { OnOk result (AppendsAllBut (W.contents writer.old.inner) (W.contents writer.new.inner)
+        (waiting.old ++ sections_text (map (written_section instances.now) sections.now)) waiting.new) }
+    ensures err { OnErr result (AppendsPartOf (W.contents writer.old.inner) (W.contents writer.new.inner)
+        (waiting.old ++ sections_text (map (written_section instances.now) sections.now))) }
 
     ensures written { OnOk result (writer.new.failures ≡ writer.old.failures) }
     ensures failed { OnErr result (writer.new.failures ≡ one_call_more writer.old.failures) }
@@ -135,8 +144,10 @@ fn put_header<W: Write>(
     writer: &mut Watched<W>,
     header: &[u8],
 ) -> Result<(), WriteFault>
-    ensures ok { OnOk result (AppendsAllBut (W.contents writer.old.inner) (W.contents writer.new.inner) (waiting.old ++ header_text header.now) waiting.new) }
-    ensures err { OnErr result (AppendsPartOf (W.contents writer.old.inner) (W.contents writer.new.inner) (waiting.old ++ header_text header.now)) }
+    ensures ok { OnOk result (AppendsAllBut (W.contents writer.old.inner) (W.contents writer.new.inner)
+        (waiting.old ++ header_text header.now) waiting.new) }
+    ensures err { OnErr result (AppendsPartOf (W.contents writer.old.inner) (W.contents writer.new.inner)
+        (waiting.old ++ header_text header.now)) }
 
     ensures written { OnOk result (writer.new.failures ≡ writer.old.failures) }
     ensures failed { OnErr result (writer.new.failures ≡ one_call_more writer.old.failures) }
@@ -162,8 +173,10 @@ fn put_file<W: Write>(
     instances: &Instances,
 ) -> Result<(), WriteFault>
     requires { HavePositions instances.now sections.now }
-    ensures ok { OnOk result (AppendsAllBut (W.contents writer.old.inner) (W.contents writer.new.inner) (waiting.old ++ written_text header.now (map (written_section instances.now) sections.now)) waiting.new) }
-    ensures err { OnErr result (AppendsPartOf (W.contents writer.old.inner) (W.contents writer.new.inner) (waiting.old ++ written_text header.now (map (written_section instances.now) sections.now))) }
+    ensures ok { OnOk result (AppendsAllBut (W.contents writer.old.inner) (W.contents writer.new.inner)
+        (waiting.old ++ written_text header.now (map (written_section instances.now) sections.now)) waiting.new) }
+    ensures err { OnErr result (AppendsPartOf (W.contents writer.old.inner) (W.contents writer.new.inner)
+        (waiting.old ++ written_text header.now (map (written_section instances.now) sections.now))) }
 
     ensures written { OnOk result (writer.new.failures ≡ writer.old.failures) }
     ensures failed { OnErr result (writer.new.failures ≡ one_call_more writer.old.failures) }
@@ -188,8 +201,10 @@ pub(crate) fn write_file<W: Write>(
     instances: &Instances,
 ) -> Result<(), WriteFault>
     requires { HavePositions instances.now sections.now }
-    ensures ok { OnOk result (Appends (W.contents writer.old.inner) (W.contents writer.new.inner) (written_text header.now (map (written_section instances.now) sections.now))) }
-    ensures err { OnErr result (AppendsPartOf (W.contents writer.old.inner) (W.contents writer.new.inner) (written_text header.now (map (written_section instances.now) sections.now))) }
+    ensures ok { OnOk result (Appends (W.contents writer.old.inner) (W.contents writer.new.inner)
+        (written_text header.now (map (written_section instances.now) sections.now))) }
+    ensures err { OnErr result (AppendsPartOf (W.contents writer.old.inner) (W.contents writer.new.inner)
+        (written_text header.now (map (written_section instances.now) sections.now))) }
 
     ensures written { OnOk result (writer.new.failures ≡ writer.old.failures) }
     ensures failed { OnErr result (writer.new.failures ≡ one_call_more writer.old.failures) }

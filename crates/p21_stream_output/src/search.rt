@@ -23,7 +23,8 @@ pub(crate) fn section_line<'a>(
     requires placed { HavePositions instances.now sections.now }
     requires named { AreNamed instances.now }
     requires filed { AreFiled instances.now sections.now }
-    ensures some { IfSome result (λ line. (x : Code) × Contains sections.now x × (x.line.items ≡ line.now) × HasNameAmong instances.now x.instance_positions name) }
+    ensures some { IfSome result (λ line. (x : Code) × Contains sections.now x × (x.line.items ≡ line.now)
+        × HasNameAmong instances.now x.instance_positions name) }
     ensures none { IsNone result → Contains (instance_names instances.now) name → ⊥ }
 {
     let Some((found, _)) = instances.next_from(name) else {
@@ -44,8 +45,10 @@ fn line_of_section<'a>(
     requires placed { HavePositions instances.now sections.now }
     requires named { AreNamed instances.now }
     requires small { HaveSmallNames instances.now }
-    ensures some { IfSome result (λ line. (x : Code) × Contains sections.now x × (x.line.items ≡ line.now) × HasNameAmong instances.now x.instance_positions name) }
-    ensures none { IsNone result → (x : Code) → Contains sections.now x → IsNonDecreasingBy (name_at instances.now) x.instance_positions → HasNameAmong instances.now x.instance_positions name → ⊥ }
+    ensures some { IfSome result (λ line. (x : Code) × Contains sections.now x × (x.line.items ≡ line.now)
+        × HasNameAmong instances.now x.instance_positions name) }
+    ensures none { IsNone result → (x : Code) → Contains sections.now x → IsNonDecreasingBy (name_at instances.now) x.instance_positions
+        → HasNameAmong instances.now x.instance_positions name → ⊥ }
 {
     let mut left = sections;
     while let Some((section, behind)) = left.split_first() {
@@ -63,7 +66,8 @@ fn has_name(instances: &Instances, instance_positions: &Numbers, name: u64) -> b
     requires named { AreNamed instances.now }
     requires small { HaveSmallNames instances.now }
     ensures yes { IsTrue result → HasNameAmong instances.now instance_positions.now name }
-    ensures no { result ≡ false → IsNonDecreasingBy (name_at instances.now) instance_positions.now → HasNameAmong instances.now instance_positions.now name → ⊥ }
+    ensures no { result ≡ false → IsNonDecreasingBy (name_at instances.now) instance_positions.now
+        → HasNameAmong instances.now instance_positions.now name → ⊥ }
 {
     let mut low = 0;
     let mut high = instance_positions.len();

@@ -31,7 +31,8 @@ seen-none held reading live none = live.seen_is ∙ none
 
 -- ---- a refusal of the lexer
 
-unlaid : (held : Held) (fault : TokenFault) (history : TokenHistory) → fault ≢ token_fault.NoMemory → tokens.FinishGives held.lexer (Err fault) → tokens.Stands held.lexer history → history.seen ≡ None → history.refusal ≡ None
+unlaid : (held : Held) (fault : TokenFault) (history : TokenHistory) → fault ≢ token_fault.NoMemory
+    → tokens.FinishGives held.lexer (Err fault) → tokens.Stands held.lexer history → history.seen ≡ None → history.refusal ≡ None
     → (found : List Token) → Laid history.taken found → ⊥
 unlaid held token_fault.NoMemory history other gives stands seen open_ = absurd (other refl)
 unlaid held token_fault.BadByte history other gives stands seen open_ = (gives history stands seen open_).1
@@ -54,21 +55,27 @@ unlaid held (token_fault.LeftOut absent) history other gives stands seen open_ =
 pub lexer-refused : (held : Held) (fault : TokenFault) → tokens.FinishGives held.lexer (Err fault) → OwesEnd held (fault_of_token fault)
 lexer-refused held fault gives other reading live seen =
     unlaid-none reading.taken (λ found laid.
-    unlaid held fault live.history (λ is. other (ap fault_of_token is)) gives live.lexer (seen-none held reading live seen) live.lexer_open found (subst (λ (l : List ℕ). Laid l found) (sym live.taken_are) laid))
+    unlaid held fault live.history (λ is. other (ap fault_of_token is)) gives live.lexer (seen-none held reading live seen) live.lexer_open
+    found (subst (λ (l : List ℕ). Laid l found) (sym live.taken_are) laid))
 
 -- ---- no last token
 
-pub laid-whole : (held : Held) → tokens.FinishGives held.lexer (Ok None) → (reading : StatementHistory) (live : IsLive held reading) → reading.seen ≡ None → Laid reading.taken live.parsing.taken
+pub laid-whole : (held : Held) → tokens.FinishGives held.lexer (Ok None) → (reading : StatementHistory) (live : IsLive held reading)
+    → reading.seen ≡ None → Laid reading.taken live.parsing.taken
 laid-whole held gives reading live seen =
     let laid = (gives live.history live.lexer (seen-none held reading live seen)).1 in
-    subst (λ (l : List ℕ). Laid l live.parsing.taken) live.taken_are (subst (λ (ts : List Token). Laid live.history.taken ts) (append-nil live.history.given ∙ sym live.tokens_are) laid)
+    subst (λ (l : List ℕ). Laid l live.parsing.taken) live.taken_are
+    (subst (λ (ts : List Token). Laid live.history.taken ts) (append-nil live.history.given ∙ sym live.tokens_are) laid)
 
-pub parser-refused : (held : Held) (fault : GrammarFault) → tokens.FinishGives held.lexer (Ok None) → grammar.FinishGives held.parser (Err fault) → OwesEnd held (fault_of_grammar fault)
+pub parser-refused : (held : Held) (fault : GrammarFault) → tokens.FinishGives held.lexer (Ok None)
+    → grammar.FinishGives held.parser (Err fault) → OwesEnd held (fault_of_grammar fault)
 parser-refused held fault gives ends other reading live seen =
     let none = (ends live.parsing live.parser live.parser_open).1 in
-    no-tree reading.taken live.parsing.taken (laid-whole held gives reading live seen) (λ structure text is same. none structure text is same)
+    no-tree reading.taken live.parsing.taken (laid-whole held gives reading live seen)
+    (λ structure text is same. none structure text is same)
 
-pub whole : (held : Held) → tokens.FinishGives held.lexer (Ok None) → grammar.FinishGives held.parser (Ok tt) → (reading : StatementHistory) → IsLive held reading → reading.seen ≡ None → AreWholeStatements reading.taken reading.given
+pub whole : (held : Held) → tokens.FinishGives held.lexer (Ok None) → grammar.FinishGives held.parser (Ok tt) → (reading : StatementHistory)
+    → IsLive held reading → reading.seen ≡ None → AreWholeStatements reading.taken reading.given
 whole held gives ends reading live seen = record {
   found = live.parsing.taken;
   laid = laid-whole held gives reading live seen;
@@ -105,20 +112,26 @@ at-once : (history : TokenHistory) → AreGivenAtOnce history → Laid history.t
 at-once history once laid =
     let (more, is) = once history.taken [] history.given semicolon (sym (append-nil history.taken)) laid tt in
     let sizes : length history.given ≡ length ((history.given ++ semicolon ∷ []) ++ more) = ap length is in
-    let one : length ((history.given ++ semicolon ∷ []) ++ more) ≡ length (history.given ++ semicolon ∷ []) + length more = length-append (history.given ++ semicolon ∷ []) more in
-    let two : length (history.given ++ semicolon ∷ []) ≡ length history.given + length (semicolon ∷ []) = length-append history.given (semicolon ∷ []) in
+    let one : length ((history.given ++ semicolon ∷ []) ++ more) ≡ length (history.given ++ semicolon ∷ []) + length more =
+    length-append (history.given ++ semicolon ∷ []) more in
+    let two : length (history.given ++ semicolon ∷ []) ≡ length history.given + length (semicolon ∷ []) =
+    length-append history.given (semicolon ∷ []) in
     omega (arith, sizes, one, two)
 
-not-semicolon : (held : Held) (reading : StatementHistory) (live : IsLive held reading) → Laid live.history.taken (live.history.given ++ semicolon ∷ []) → ⊥
+not-semicolon : (held : Held) (reading : StatementHistory) (live : IsLive held reading)
+    → Laid live.history.taken (live.history.given ++ semicolon ∷ []) → ⊥
 not-semicolon held reading live laid = elim live.answered [
-  | inl none ↦ (let own : Laid [] ([] ++ semicolon ∷ []) = subst (λ (h : TokenHistory). Laid h.taken (h.given ++ semicolon ∷ [])) none laid in none-laid own.lexemes [] own.tokens_are own.laid)
+  | inl none ↦ (let own : Laid [] ([] ++ semicolon ∷ []) =
+      subst (λ (h : TokenHistory). Laid h.taken (h.given ++ semicolon ∷ [])) none laid in none-laid own.lexemes [] own.tokens_are own.laid)
   | inr answers ↦ at-once live.history answers.given_at_once laid
 ]
 
 pub last-refused : (held : Held) (token : TokenRead) (fault : Fault) → tokens.FinishGives held.lexer (Ok (Some token)) → OwesEnd held fault
 last-refused held token fault gives other reading live seen =
     let laid = (gives live.history live.lexer (seen-none held reading live seen)).1 in
-    no-tree reading.taken (live.history.given ++ meant token ∷ []) (subst (λ (l : List ℕ). Laid l (live.history.given ++ meant token ∷ [])) live.taken_are laid) (λ structure text is same.
-    let ends : EndsWithSemicolon (live.history.given ++ meant token ∷ []) = subst EndsWithSemicolon same (statements-end (statements structure)) in
+    no-tree reading.taken (live.history.given ++ meant token ∷ [])
+    (subst (λ (l : List ℕ). Laid l (live.history.given ++ meant token ∷ [])) live.taken_are laid) (λ structure text is same.
+    let ends : EndsWithSemicolon (live.history.given ++ meant token ∷ []) =
+    subst EndsWithSemicolon same (statements-end (statements structure)) in
     let last : meant token ≡ semicolon = last-semicolon live.history.given (meant token) ends in
     not-semicolon held reading live (subst (λ (t : Token). Laid live.history.taken (live.history.given ++ t ∷ [])) last laid))

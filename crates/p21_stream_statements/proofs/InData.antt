@@ -24,11 +24,14 @@ same-shaped : (b : Bool) (p q : Stage) → shaped b p ≡ Ok q → is_in_data q 
 same-shaped true p q same here = let is : p ≡ q = cc in ap is_in_data is ∙ here
 same-shaped false p q same here = absurd cc
 
-header-leads : (p q : Stage) (s : Statement) (b : Bool) (next : Stage) → shaped b next ≡ Ok q → is_in_data next ≡ false → is_in_data q ≡ true → Leads p s
+header-leads : (p q : Stage) (s : Statement) (b : Bool) (next : Stage) → shaped b next ≡ Ok q → is_in_data next ≡ false
+    → is_in_data q ≡ true → Leads p s
 header-leads p q s b next same other here = let clash : false ≡ true = sym other ∙ same-shaped b next q same here in absurd cc
 
-line-leads : (p q : Stage) (s : Statement) (next : Stage) → (let found : Result Stage GrammarFault = Ok next in found) ≡ Ok q → is_in_data next ≡ false → is_in_data q ≡ true → Leads p s
-line-leads p q s next same other here = let is : next ≡ q = cc in let clash : false ≡ true = sym other ∙ (ap is_in_data is ∙ here) in absurd cc
+line-leads : (p q : Stage) (s : Statement) (next : Stage) → (let found : Result Stage GrammarFault = Ok next in found) ≡ Ok q
+    → is_in_data next ≡ false → is_in_data q ≡ true → Leads p s
+line-leads p q s next same other here = let is : next ≡ q = cc in let clash : false ≡ true = sym other
+    ∙ (ap is_in_data is ∙ here) in absurd cc
 
 leads : (p q : Stage) (s : Statement) → after p s ≡ Ok q → is_in_data q ≡ true → Leads p s
 leads p q (section (data_start heading)) is here = inr (heading, refl)
@@ -59,32 +62,53 @@ abbrev LeadsAll : Stage → List Statement → Type 0
 LeadsAll p ss = ((is_in_data p ≡ true) × ¬ Contains ss (section section_end)) ⊎ IsInData ss
 
 further : (s : Statement) (ss : List Statement) → IsInData ss → IsInData (s ∷ ss)
-further s ss is = record { before = s ∷ is.before; heading = is.heading; instances = is.instances; given_are = ap (λ (l : List Statement). s ∷ l) is.given_are; no_end = is.no_end }
+further s ss is = record {
+  before = s ∷ is.before;
+  heading = is.heading;
+  instances = is.instances;
+  given_are =
+      ap (λ (l : List Statement). s ∷ l) is.given_are;
+  no_end = is.no_end;
+}
 
 leads-more : (p q : Stage) (s : Statement) (ss : List Statement) → after p s ≡ Ok q → LeadsAll q ss → LeadsAll p (s ∷ ss)
 leads-more p q s ss is (inr open_) = inr (further s ss open_)
 leads-more p q s ss is (inl (here, none)) = elim (leads p q s is here) [
-  | inl (before, other) ↦ inl (before, λ has. elim (Contains-cases s ss (section section_end) has) [ inl same ↦ other same | inr later ↦ none later ])
-  | inr (heading, same) ↦ inr (record { before = []; heading = heading; instances = ss; given_are = ap (λ (x : Statement). x ∷ ss) same; no_end = none })
+  | inl (before, other) ↦ inl (
+    before,
+    λ has. elim (Contains-cases s ss (section section_end) has)
+        [ inl same ↦ other same | inr later ↦ none later ],
+  )
+  | inr (heading, same) ↦ inr (record {
+    before = [];
+    heading = heading;
+    instances = ss;
+    given_are =
+        ap (λ (x : Statement). x ∷ ss) same;
+    no_end = none;
+  })
 ]
 
 leads-all : (ss : List Statement) (p q : Stage) → walk ss p ≡ Ok q → is_in_data q ≡ true → LeadsAll p ss
 leads-all [] p q is here = let same : p ≡ q = cc in inl (ap is_in_data same ∙ here, λ has. Contains-none (section section_end) has)
 leads-all (s ∷ ss) p q is here = by (leads-all ss) (after p s) refl is
   where
-    by : ((next last : Stage) → walk ss next ≡ Ok last → is_in_data last ≡ true → LeadsAll next ss) → (found : Result Stage GrammarFault) → after p s ≡ found → then_walk (walk ss) found ≡ Ok q → LeadsAll p (s ∷ ss)
+    by : ((next last : Stage) → walk ss next ≡ Ok last → is_in_data last ≡ true → LeadsAll next ss) → (found : Result Stage GrammarFault)
+        → after p s ≡ found → then_walk (walk ss) found ≡ Ok q → LeadsAll p (s ∷ ss)
     by deeper (Ok next) first rest = leads-more p next s ss first (deeper next q rest here)
     by deeper (Err fault) first rest = absurd cc
 
 -- ---- a reader
 
-parser-leads : (held : grammar_held.Held) (parsing : GrammarHistory) → grammar.Stands held parsing → parsing.refusal ≡ None → walk parsing.given stage.Start ≡ Ok held.stage
+parser-leads : (held : grammar_held.Held) (parsing : GrammarHistory) → grammar.Stands held parsing → parsing.refusal ≡ None
+    → walk parsing.given stage.Start ≡ Ok held.stage
 unfolding grammar.Stands
 parser-leads held parsing stands alive = (stands.2 alive).leads
 
 -- in the statements given a data section is open
 pub in-data : StandsInData
-in-data held reading live here = elim (leads-all live.parsing.given stage.Start held.parser.stage (parser-leads held.parser live.parsing live.parser live.parser_open) here) [
-  | inl (start, none) ↦ absurd cc
-  | inr open_ ↦ subst IsInData live.given_are open_
-]
+in-data held reading live here = elim (leads-all live.parsing.given stage.Start held.parser.stage
+    (parser-leads held.parser live.parsing live.parser live.parser_open) here) [
+      | inl (start, none) ↦ absurd cc
+      | inr open_ ↦ subst IsInData live.given_are open_
+    ]

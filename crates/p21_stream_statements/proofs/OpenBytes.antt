@@ -37,32 +37,46 @@ pub record Along (statement rest : List ℕ) (held : Held) : Type 0 where
   pub not_ended : Each IsNoSemicolon history.given
 
 pub along-first : (statement : List ℕ) (held : Held) → Stands held empty → Along statement statement held
-along-first statement held stands = record { history = empty; stands = stands; alive = refl; seen_at = tt; bytes_are = refl; not_ended = tt }
+along-first statement held stands = record {
+  history = empty;
+  stands = stands;
+  alive = refl;
+  seen_at = tt;
+  bytes_are = refl;
+  not_ended =
+      tt;
+}
 
-pub along-on : (statement rest : List ℕ) (held next : Held) (count : ℕ) (token : TokenRead) → NextGives held rest (Ok (count, Some token)) next → meant token ≢ semicolon → Along statement rest held → Along statement (drop count rest) next
+pub along-on : (statement rest : List ℕ) (held next : Held) (count : ℕ) (token : TokenRead)
+    → NextGives held rest (Ok (count, Some token)) next → meant token ≢ semicolon → Along statement rest held
+    → Along statement (drop count rest) next
 along-on statement rest held next count token gives other along =
     let history = along.history in
     let call = call_of rest count (Some (meant token)) in
     let answers = gives history along.stands (offered history.seen rest along.seen_at) in
     let seen_at : IsSeenAt (extended history call).seen rest count =
-    seen-behind history.seen rest count (if waits (meant token) then slice_get rest count else None) along.seen_at (seen-call (waits (meant token)) (slice_get rest count)) in
+    seen-behind history.seen rest count (if waits (meant token) then slice_get rest count else None) along.seen_at
+    (seen-call (waits (meant token)) (slice_get rest count)) in
     record {
       history = extended history call;
       stands = answers.stands;
       alive = ap (λ (r : Option TokenFault). first_refusal r None) along.alive;
       seen_at = seen-first (extended history call).seen count rest seen_at;
-      bytes_are = append_assoc history.taken (take count rest) (drop count rest) ∙ (ap (λ (l : List ℕ). history.taken ++ l) (take-append-drop count rest) ∙ along.bytes_are);
+      bytes_are = append_assoc history.taken (take count rest) (drop count rest)
+          ∙ (ap (λ (l : List ℕ). history.taken ++ l) (take-append-drop count rest) ∙ along.bytes_are);
       not_ended = Each-append IsNoSemicolon history.given (meant token ∷ []) along.not_ended (other, tt);
     }
 
-pub along-whole : (statement rest : List ℕ) (held next : Held) (count : ℕ) → NextGives held rest (Ok (count, None)) next → count ≡ length rest → Along statement rest held → IsOpen statement
+pub along-whole : (statement rest : List ℕ) (held next : Held) (count : ℕ) → NextGives held rest (Ok (count, None)) next
+    → count ≡ length rest → Along statement rest held → IsOpen statement
 along-whole statement rest held next count gives all along =
     let history = along.history in
     let call = call_of rest count None in
     let answers = gives history along.stands (offered history.seen rest along.seen_at) in
     let live = lexer-live next (extended history call) answers.stands (ap (λ (r : Option TokenFault). first_refusal r None) along.alive) in
     let (tail, laid, tail_is) = live-laid next (extended history call) live in
-    let taken : history.taken ++ take count rest ≡ statement = ap (λ (l : List ℕ). history.taken ++ l) (ap (λ (n : ℕ). take n rest) all ∙ take-length rest) ∙ along.bytes_are in
+    let taken : history.taken ++ take count rest ≡ statement =
+    ap (λ (l : List ℕ). history.taken ++ l) (ap (λ (n : ℕ). take n rest) all ∙ take-length rest) ∙ along.bytes_are in
     subst IsOpen taken (record {
       lexemes = live.lexemes;
       tail = tail;

@@ -65,19 +65,71 @@ module _ (b : ℕ) where
 
   non-digit-quiet : (m : NumberMode) → GoesQuiet b (non_digit_action m b)
   non-digit-quiet number.Sign = tt
-  non-digit-quiet number.Whole = both (b == 46) (Keep (Number number.Fraction)) End (λ q. (tt, unlike (λ (x : ℕ). x == 46) refl b q)) (λ _. tt)
-  non-digit-quiet number.Fraction = both (b == 69) (Keep (Number number.Exponent)) End (λ q. (tt, unlike (λ (x : ℕ). x == 69) refl b q)) (λ _. tt)
-  non-digit-quiet number.Exponent = both (b == 43 || b == 45) (Keep (Number number.ExponentSign)) (Refuse wrong.Number) (λ q. (tt, unlike (λ (x : ℕ). x == 43 || x == 45) refl b q)) (λ _. tt)
+  non-digit-quiet number.Whole = both (b == 46) (Keep (Number number.Fraction)) End (λ q. (tt, unlike (λ (x : ℕ). x == 46) refl b q))
+      (λ _. tt)
+  non-digit-quiet number.Fraction = both (b == 69) (Keep (Number number.Exponent)) End (λ q. (tt, unlike (λ (x : ℕ). x == 69) refl b q))
+      (λ _. tt)
+  non-digit-quiet number.Exponent = both (b == 43 || b == 45) (Keep (Number number.ExponentSign)) (Refuse wrong.Number)
+      (λ q. (tt, unlike (λ (x : ℕ). x == 43 || x == 45) refl b q)) (λ _. tt)
   non-digit-quiet number.ExponentSign = tt
   non-digit-quiet number.ExponentDigits = tt
 
   number-quiet : (m : NumberMode) → GoesQuiet b (number_action m b)
-  number-quiet m = both (is_digit b) (Keep (Number (mode_behind_digit m))) (non_digit_action m b) (λ q. (tt, unlike is_digit refl b q)) (λ _. non-digit-quiet m)
+  number-quiet m = both (is_digit b) (Keep (Number (mode_behind_digit m))) (non_digit_action m b) (λ q. (tt, unlike is_digit refl b q))
+      (λ _. non-digit-quiet m)
 
   -- no byte of a marker is one
   marker-bytes : (marker : Marker) → Each (λ (x : ℕ). (x == 59) ≡ false) (marker_text marker)
   marker-bytes Begin = (refl, (refl, (refl, (refl, (refl, (refl, (refl, (refl, (refl, (refl, (refl, (refl, tt))))))))))))
-  marker-bytes Finish = (refl, (refl, (refl, (refl, (refl, (refl, (refl, (refl, (refl, (refl, (refl, (refl, (refl, (refl, (refl, (refl, tt))))))))))))))))
+  marker-bytes Finish = (
+    refl,
+    (
+      refl,
+      (
+        refl,
+        (
+          refl,
+          (
+            refl,
+            (
+              refl,
+              (
+                refl,
+                (
+                  refl,
+                  (
+                    refl,
+                    (
+                      refl,
+                      (
+                        refl,
+                        (
+                          refl,
+                          (
+                            refl,
+                            (
+                              refl,
+                              (
+                                refl,
+                                (
+                                  refl,
+                                  tt,
+                                ),
+                              ),
+                            ),
+                          ),
+                        ),
+                      ),
+                    ),
+                  ),
+                ),
+              ),
+            ),
+          ),
+        ),
+      ),
+    ),
+  )
 
   each-at : (P : ℕ → Type 0) (xs : List ℕ) (i x : ℕ) → Each P xs → slice_get xs i ≡ Some x → P x
   each-at P [] i x each at = absurd cc
@@ -91,14 +143,16 @@ module _ (b : ℕ) where
       other false is = is
       other true is = let clash : (59 == 59) ≡ false = subst (λ (x : ℕ). (x == 59) ≡ false) (sym (eqb-true 59 due is)) apart in absurd cc
 
-  due-quiet : (marker : Marker) (taken : ℕ) (o : Option ℕ) → slice_get (marker_text marker) taken ≡ o → GoesQuiet b (marker_action marker taken b o)
+  due-quiet : (marker : Marker) (taken : ℕ) (o : Option ℕ) → slice_get (marker_text marker) taken ≡ o
+      → GoesQuiet b (marker_action marker taken b o)
   due-quiet marker taken None at = tt
   due-quiet marker taken (Some due) at =
       let goes : Action = Keep (Word (word.Marker marker (taken + 1))) in
       let ends : Action = Keep (Word (word.Marked marker)) in
       let further : Action = if nat_lt (taken + 1) (length (marker_text marker)) then goes else ends in
       both (b == due) further (Refuse wrong.Byte) (λ q.
-      let apart : b ≢ 59 = unlike (λ (x : ℕ). x == due) (due-unlike due (each-at (λ (x : ℕ). (x == 59) ≡ false) (marker_text marker) taken due (marker-bytes marker) at)) b q in
+      let apart : b ≢ 59 = unlike (λ (x : ℕ). x == due) (due-unlike due
+      (each-at (λ (x : ℕ). (x == 59) ≡ false) (marker_text marker) taken due (marker-bytes marker) at)) b q in
       both (nat_lt (taken + 1) (length (marker_text marker))) goes ends (λ _. (tt, apart)) (λ _. (tt, apart))) (λ _. tt)
 
   begin-quiet : (m : WordMode) → GoesQuiet b (if is_upper b then Keep (Word m) else Refuse wrong.Byte)
@@ -109,23 +163,28 @@ module _ (b : ℕ) where
   keyword-quiet m y other = both (is_keyword_byte b) (Keep (Word m)) y (λ q. (tt, unlike is_keyword_byte refl b q)) (λ _. other)
 
   word-quiet : (m : WordMode) → GoesQuiet b (word_action m b)
-  word-quiet word.Keyword = keyword-quiet word.Keyword (if b == 45 then Dash else End) (both (b == 45) Dash End (λ q. unlike (λ (x : ℕ). x == 45) refl b q) (λ _. tt))
+  word-quiet word.Keyword = keyword-quiet word.Keyword (if b == 45 then Dash else End)
+      (both (b == 45) Dash End (λ q. unlike (λ (x : ℕ). x == 45) refl b q) (λ _. tt))
   word-quiet (word.Marker marker taken) = due-quiet marker taken (slice_get (marker_text marker) taken) refl
   word-quiet (word.Marked marker) = both (is_keyword_byte b) (Refuse wrong.Byte) End (λ _. tt) (λ _. tt)
   word-quiet word.Exclamation = begin-quiet word.UserKeyword
-  word-quiet word.UserKeyword = keyword-quiet word.UserKeyword (if b == 45 then Refuse wrong.Byte else End) (both (b == 45) (Refuse wrong.Byte) End (λ _. tt) (λ _. tt))
+  word-quiet word.UserKeyword = keyword-quiet word.UserKeyword (if b == 45 then Refuse wrong.Byte else End)
+      (both (b == 45) (Refuse wrong.Byte) End (λ _. tt) (λ _. tt))
   word-quiet word.Point = begin-quiet word.Item
-  word-quiet word.Item = keyword-quiet word.Item (if b == 46 then Close else Refuse wrong.Byte) (both (b == 46) Close (Refuse wrong.Byte) (λ _. tt) (λ _. tt))
+  word-quiet word.Item = keyword-quiet word.Item (if b == 46 then Close else Refuse wrong.Byte)
+      (both (b == 46) Close (Refuse wrong.Byte) (λ _. tt) (λ _. tt))
 
   digit-quiet : (value : ℕ) → b ≢ 59 → GoesQuiet b (name_digit_action value (b - 48))
-  digit-quiet value apart = both (nat_lt (value * 10 + (b - 48)) (2 ^ 64)) (Skip (Name (name.Digits (value * 10 + (b - 48))))) (Refuse wrong.NameRange) (λ _. (tt, apart)) (λ _. tt)
+  digit-quiet value apart = both (nat_lt (value * 10 + (b - 48)) (2 ^ 64)) (Skip (Name (name.Digits (value * 10 + (b - 48)))))
+      (Refuse wrong.NameRange) (λ _. (tt, apart)) (λ _. tt)
 
   name-quiet : (m : NameMode) → GoesQuiet b (name_action m b)
   name-quiet name.Hash =
       let other : Action = if is_upper b then Refuse (wrong.LeftOut ConstantName) else Refuse wrong.Name in
       both (is_digit b) (name_digit_action 0 (b - 48)) other (λ q. digit-quiet 0 (unlike is_digit refl b q)) (λ _.
       both (is_upper b) (Refuse (wrong.LeftOut ConstantName)) (Refuse wrong.Name) (λ _. tt) (λ _. tt))
-  name-quiet (name.Digits value) = both (is_digit b) (name_digit_action value (b - 48)) End (λ q. digit-quiet value (unlike is_digit refl b q)) (λ _. tt)
+  name-quiet (name.Digits value) = both (is_digit b) (name_digit_action value (b - 48)) End
+      (λ q. digit-quiet value (unlike is_digit refl b q)) (λ _. tt)
 
   -- the first hex digit, or a later one
   hex-quiet : (test : Bool) → b ≢ 59 → GoesQuiet b (if test then Keep (Binary binary.Hex) else Refuse wrong.Binary)
@@ -136,14 +195,16 @@ module _ (b : ℕ) where
 
   binary-quiet : (m : BinaryMode) → GoesQuiet b (binary_action m b)
   binary-quiet binary.Quote =
-      both (nat_le 48 b && nat_le b 51) (Keep (Binary (binary.Padding (b - 48)))) (Refuse wrong.Binary) (λ q. (tt, unlike (λ (x : ℕ). nat_le 48 x && nat_le x 51) refl b q)) (λ _. tt)
+      both (nat_le 48 b && nat_le b 51) (Keep (Binary (binary.Padding (b - 48)))) (Refuse wrong.Binary)
+      (λ q. (tt, unlike (λ (x : ℕ). nat_le 48 x && nat_le x 51) refl b q)) (λ _. tt)
   binary-quiet (binary.Padding padding) =
       let first : Bool = has_zero_padding padding (hex_value b) in
       let last : Bool = b == 34 && padding == 0 in
       both (is_hex_digit b) (if first then Keep (Binary binary.Hex) else Refuse wrong.Binary) (if last then Close else Refuse wrong.Binary)
       (λ q. hex-quiet first (unlike is_hex_digit refl b q)) (λ _. close-quiet last)
   binary-quiet binary.Hex =
-      both (is_hex_digit b) (Keep (Binary binary.Hex)) (if b == 34 then Close else Refuse wrong.Binary) (λ q. (tt, unlike is_hex_digit refl b q)) (λ _. close-quiet (b == 34))
+      both (is_hex_digit b) (Keep (Binary binary.Hex)) (if b == 34 then Close else Refuse wrong.Binary)
+      (λ q. (tt, unlike is_hex_digit refl b q)) (λ _. close-quiet (b == 34))
 
   mode-quiet : (m : Mode) → IsQuiet m → GoesQuiet b (advance m b)
   mode-quiet (Number m) q = number-quiet m
@@ -158,8 +219,10 @@ marker-quiet p m =
     let begins : Option Mode = Some (Word (word.Marker Begin 4)) in
     let ends : Option Mode = Some (Word (word.Marker Finish 4)) in
     let later : Option Mode = if bytes_eq p (codes "END") then ends else None in
-    cond_both (bytes_eq p (codes "ISO")) begins later P (λ _ is. let same : Word (word.Marker Begin 4) ≡ m = cc in subst IsQuiet same tt) (λ _.
-    cond_both (bytes_eq p (codes "END")) ends None P (λ _ is. let same : Word (word.Marker Finish 4) ≡ m = cc in subst IsQuiet same tt) (λ _ is. absurd cc))
+    cond_both (bytes_eq p (codes "ISO")) begins later P (λ _ is. let same : Word (word.Marker Begin 4) ≡ m = cc in subst IsQuiet same tt)
+    (λ _.
+    cond_both (bytes_eq p (codes "END")) ends None P (λ _ is. let same : Word (word.Marker Finish 4) ≡ m = cc in subst IsQuiet same tt)
+    (λ _ is. absurd cc))
 
 -- ---- bytes that leave a token open
 
@@ -183,7 +246,8 @@ StaysQuiet bytes = (s e : State) → IsQuiet s.mode → lex s bytes ≡ without_
 quiet-byte : (b : ℕ) (bs : List ℕ) → StaysQuiet bs → StaysQuiet (b ∷ bs)
 quiet-byte b bs deeper s e q r = at (advance s.mode b) (mode-quiet b s.mode q) (sym (lex-byte s b bs) ∙ r)
   where
-    dashes : (o : Option Mode) → marker_of s.pending_bytes ≡ o → b ≢ 59 → continue_marker o s b (λ next. lex next bs) ≡ without_tokens (open_at e) → ¬ Contains (b ∷ bs) 59
+    dashes : (o : Option Mode) → marker_of s.pending_bytes ≡ o → b ≢ 59
+        → continue_marker o s b (λ next. lex next bs) ≡ without_tokens (open_at e) → ¬ Contains (b ∷ bs) 59
     dashes None is apart h = absurd (not-open wrong.Byte e h)
     dashes (Some m) is apart h = beyond b bs apart (deeper (keep s m b) e (marker-quiet s.pending_bytes m is) h)
 
@@ -258,7 +322,8 @@ open-tail e (unfinished (b ∷ bs)) t = at (between_action b) (first-goes b) (fi
     goes : (next : State) → IsQuiet next.mode → b ≢ 59 → lex next bs ≡ without_tokens (open_at e) → IsOpenTail (unfinished (b ∷ bs))
     goes next q apart h = inr (beyond b bs apart (stays-quiet bs next e q h))
 
-    at : (a : Action) → FirstGoes b a → FirstFits b a → act a start b (λ next. lex next bs) ≡ without_tokens (open_at e) → IsOpenTail (unfinished (b ∷ bs))
+    at : (a : Action) → FirstGoes b a → FirstFits b a → act a start b (λ next. lex next bs) ≡ without_tokens (open_at e)
+        → IsOpenTail (unfinished (b ∷ bs))
     at (Pass m) g f h = absurd (elim f [
       | inl (is, separates) ↦ elim separates [ inl low ↦ (let high = t.3.0 in omega (arith, low, high)) | inr del ↦ t.3.1 del ]
       | inr (is, mark) ↦ t.3.2 mark

@@ -20,7 +20,8 @@ use Rattle.p21_tokens.specs.declared.fault.TokenFault.TheVariants as token_fault
 use Rattle.p21_tokens.specs.declared.places.Places.{Places}
 
 module _ (old : Held) (piece : List ℕ) (lexer : tokens_held.Held) where
-  byte-refused : (fault : TokenFault) → fault ≢ token_fault.NoMemory → tokens.NextGives old.lexer piece (Err fault) lexer → (reading : StatementHistory) → IsLive old reading → IsSeenAt reading.seen piece 0
+  byte-refused : (fault : TokenFault) → fault ≢ token_fault.NoMemory → tokens.NextGives old.lexer piece (Err fault) lexer
+      → (reading : StatementHistory) → IsLive old reading → IsSeenAt reading.seen piece 0
       → RefusesByteAt (limits_of old) reading.taken piece lexer.file
   byte-refused fault other gives reading live at =
       let offers = offered live.history.seen piece (subst (λ seen. IsSeenAt seen piece 0) (sym live.seen_is) at) in
@@ -31,11 +32,13 @@ module _ (old : Held) (piece : List ℕ) (lexer : tokens_held.Held) where
         place_is = refuses.file_is;
         open_bytes = open_bytes 0 refuses.lexemes + tail_size refuses.tail;
         pending = record { lexemes = refuses.lexemes; tail = refuses.tail; laid = refuses.laid; pending_is = refl };
-        dead = λ s all record_is file_is. begins-dead (limits_of old) (live.history.taken ++ take (refuses.count + 1) piece) all record_is file_is s (fault_of_token fault)
+        dead = λ s all record_is file_is. begins-dead (limits_of old) (live.history.taken ++ take (refuses.count + 1) piece) all record_is
+            file_is s (fault_of_token fault)
             (none-says fault old.lexer live.history.taken piece refuses.count other refuses.refuses);
       })
 
-  pub token-placed : (fault : TokenFault) → tokens.NextGives old.lexer piece (Err fault) lexer → (reading : StatementHistory) → IsLive old reading → IsSeenAt reading.seen piece 0 → HasPlace (limits_of old) reading.taken piece (fault_of_token fault) lexer.file
+  pub token-placed : (fault : TokenFault) → tokens.NextGives old.lexer piece (Err fault) lexer → (reading : StatementHistory)
+      → IsLive old reading → IsSeenAt reading.seen piece 0 → HasPlace (limits_of old) reading.taken piece (fault_of_token fault) lexer.file
   token-placed token_fault.BadByte gives reading live at = λ _. byte-refused token_fault.BadByte (λ is. cc) gives reading live at
   token-placed token_fault.BadDirective gives reading live at = λ _. byte-refused token_fault.BadDirective (λ is. cc) gives reading live at
   token-placed token_fault.BadCodePoint gives reading live at = λ _. byte-refused token_fault.BadCodePoint (λ is. cc) gives reading live at
@@ -55,7 +58,8 @@ module _ (old : Held) (piece : List ℕ) (lexer : tokens_held.Held) where
   token-placed (token_fault.LeftOut absent) gives reading live at = λ other. absurd other
 
 -- no fault of the grammar is one of a byte
-pub grammar-placed : (limits : ℕ × ℕ) (taken piece : List ℕ) (fault : GrammarFault) (place : ℕ) → HasPlace limits taken piece (fault_of_grammar fault) place
+pub grammar-placed : (limits : ℕ × ℕ) (taken piece : List ℕ) (fault : GrammarFault) (place : ℕ)
+    → HasPlace limits taken piece (fault_of_grammar fault) place
 grammar-placed limits taken piece grammar_fault.NoMemory place = tt
 grammar-placed limits taken piece grammar_fault.EndsEarly place = tt
 grammar-placed limits taken piece grammar_fault.TooDeep place = tt
@@ -66,7 +70,8 @@ grammar-placed limits taken piece grammar_fault.HeaderShape place = tt
 grammar-placed limits taken piece grammar_fault.SectionShape place = tt
 
 -- nor is one of a statement
-pub statement-placed : (limits : ℕ × ℕ) (taken piece : List ℕ) (fault : Fault) (place : ℕ) → IsOfStatement fault → HasPlace limits taken piece fault place
+pub statement-placed : (limits : ℕ × ℕ) (taken piece : List ℕ) (fault : Fault) (place : ℕ) → IsOfStatement fault
+    → HasPlace limits taken piece fault place
 statement-placed limits taken piece (faults.Token fault) place of = absurd of
 statement-placed limits taken piece (faults.Grammar fault) place of = tt
 statement-placed limits taken piece (faults.Check fault) place of = tt

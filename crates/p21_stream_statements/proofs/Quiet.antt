@@ -34,8 +34,12 @@ separator-text (b ∷ bs) are = let (ss, each, is) = separator-text bs are.1 in 
 
 joined-text : (gap bytes : List ℕ) → IsSeparatorText gap → AreSeparators bytes → IsSeparatorText (gap ++ bytes)
 joined-text gap bytes (ss, each, is) are =
-    let (ts, more, same) = separator-text bytes are in
-    (ss ++ ts, Each-append IsSeparator ss ts each more, ap (λ (l : List ℕ). l ++ bytes) is ∙ ap (λ (l : List ℕ). flat_map separator_bytes ss ++ l) same ∙ sym (flat_map-append separator_bytes ss ts))
+    let (ts, more, same) = separator-text bytes are in (
+      ss ++ ts,
+      Each-append IsSeparator ss ts each more,
+      ap (λ (l : List ℕ). l ++ bytes) is
+          ∙ ap (λ (l : List ℕ). flat_map separator_bytes ss ++ l) same ∙ sym (flat_map-append separator_bytes ss ts),
+    )
 
 take-separators : (count : ℕ) (bytes : List ℕ) → AreSeparators bytes → AreSeparators (take count bytes)
 take-separators zero bytes are = tt
@@ -63,7 +67,8 @@ slash-first-of [] after are same = cc
 slash-first-of (b ∷ bs) after are same = no-slash b are.0 (head_is b 47 bs after same)
 
 -- separators close no comment
-no-close : (inside bytes before after : List ℕ) → AreSeparators bytes → ((x y : List ℕ) → inside ≡ x ++ (42 ∷ 47 ∷ y) → ⊥) → inside ++ bytes ≡ before ++ (42 ∷ 47 ∷ after) → ⊥
+no-close : (inside bytes before after : List ℕ) → AreSeparators bytes → ((x y : List ℕ) → inside ≡ x ++ (42 ∷ 47 ∷ y) → ⊥)
+    → inside ++ bytes ≡ before ++ (42 ∷ 47 ∷ after) → ⊥
 no-close [] bytes before after are none same = star-among bytes before (47 ∷ after) are same
 no-close (x ∷ []) bytes [] after are none same = slash-first-of bytes after are (tail_is x 42 bytes (47 ∷ after) same)
 no-close (x ∷ y ∷ xs) bytes [] after are none same =
@@ -71,37 +76,51 @@ no-close (x ∷ y ∷ xs) bytes [] after are none same =
     let second : y ≡ 47 = head_is y 47 (xs ++ bytes) after (tail_is x 42 (y ∷ (xs ++ bytes)) (47 ∷ after) same) in
     none [] xs (ap (λ (b : ℕ). b ∷ y ∷ xs) first ∙ ap (λ (b : ℕ). 42 ∷ b ∷ xs) second)
 no-close (x ∷ xs) bytes (b ∷ before) after are none same =
-    no-close xs bytes before after are (λ p q e. none (x ∷ p) q (ap (λ (l : List ℕ). x ∷ l) e)) (tail_is x b (xs ++ bytes) (before ++ (42 ∷ 47 ∷ after)) same)
+    no-close xs bytes before after are (λ p q e. none (x ∷ p) q (ap (λ (l : List ℕ). x ∷ l) e))
+    (tail_is x b (xs ++ bytes) (before ++ (42 ∷ 47 ∷ after)) same)
 
 -- ---- what stands last, with separators behind it, begins no token
 
 slash-no_separator : (bytes : List ℕ) → AreSeparators bytes → HasNoSeparator (47 ∷ bytes)
 slash-no_separator bytes are (blank b) rest separates same = no-slash b separates (sym (head_is 47 b bytes rest same))
-slash-no_separator bytes are (comment inside) rest separates same = star-among bytes [] ((inside ++ (42 ∷ 47 ∷ [])) ++ rest) are (tail_is 47 47 bytes (42 ∷ ((inside ++ (42 ∷ 47 ∷ [])) ++ rest)) same)
+slash-no_separator bytes are (comment inside) rest separates same =
+    star-among bytes [] ((inside ++ (42 ∷ 47 ∷ [])) ++ rest) are (tail_is 47 47 bytes (42 ∷ ((inside ++ (42 ∷ 47 ∷ [])) ++ rest)) same)
 
-comment-no_separator : (inside bytes : List ℕ) → IsTail (open_comment inside) → AreSeparators bytes → HasNoSeparator (47 ∷ 42 ∷ (inside ++ bytes))
-comment-no_separator inside bytes is are (blank b) rest separates same = no-slash b separates (sym (head_is 47 b (42 ∷ (inside ++ bytes)) rest same))
+comment-no_separator : (inside bytes : List ℕ) → IsTail (open_comment inside) → AreSeparators bytes
+    → HasNoSeparator (47 ∷ 42 ∷ (inside ++ bytes))
+comment-no_separator inside bytes is are (blank b) rest separates same =
+    no-slash b separates (sym (head_is 47 b (42 ∷ (inside ++ bytes)) rest same))
 comment-no_separator inside bytes is are (comment closed) rest separates same =
-    let inner : inside ++ bytes ≡ (closed ++ (42 ∷ 47 ∷ [])) ++ rest = tail_is 42 42 (inside ++ bytes) ((closed ++ (42 ∷ 47 ∷ [])) ++ rest) (tail_is 47 47 (42 ∷ (inside ++ bytes)) (42 ∷ ((closed ++ (42 ∷ 47 ∷ [])) ++ rest)) same) in
+    let inner : inside ++ bytes ≡ (closed ++ (42 ∷ 47 ∷ [])) ++ rest =
+    tail_is 42 42 (inside ++ bytes) ((closed ++ (42 ∷ 47 ∷ [])) ++ rest)
+    (tail_is 47 47 (42 ∷ (inside ++ bytes)) (42 ∷ ((closed ++ (42 ∷ 47 ∷ [])) ++ rest)) same) in
     no-close inside bytes closed rest are is (inner ∙ append_assoc closed (42 ∷ 47 ∷ []) rest)
 
-no-token-first : (tail : Tail) (gap other spelling rest piece : List ℕ) (token : Token) → IsTail tail → tail_size tail ≡ 0 → AreSeparators piece → IsSeparatorText gap → IsSeparatorText other → Spells token spelling
+no-token-first : (tail : Tail) (gap other spelling rest piece : List ℕ) (token : Token) → IsTail tail → tail_size tail ≡ 0
+    → AreSeparators piece → IsSeparatorText gap → IsSeparatorText other → Spells token spelling
     → (gap ++ tail_bytes tail) ++ piece ≡ other ++ (spelling ++ rest) → ⊥
 no-token-first nothing gap other spelling rest piece token is size are sep sep_ spells same =
-    let bare : (gap ++ piece) ++ [] ≡ other ++ (spelling ++ rest) = append-nil (gap ++ piece) ∙ ap (λ (l : List ℕ). l ++ piece) (sym (append-nil gap)) ∙ same in
-    no-spelling token spelling rest spells (sym (gap-one (gap ++ piece) other [] (spelling ++ rest) (joined-text gap piece sep are) sep_ nothing-first (begins-no_separator (spelling ++ rest) (begins-on spelling rest (spelling_begins token spelling spells))) bare))
+    let bare : (gap ++ piece) ++ [] ≡ other ++ (spelling ++ rest) = append-nil (gap ++ piece)
+    ∙ ap (λ (l : List ℕ). l ++ piece) (sym (append-nil gap)) ∙ same in
+    no-spelling token spelling rest spells (sym (gap-one (gap ++ piece) other [] (spelling ++ rest) (joined-text gap piece sep are) sep_
+    nothing-first (begins-no_separator (spelling ++ rest) (begins-on spelling rest (spelling_begins token spelling spells))) bare))
 no-token-first (unfinished []) gap other spelling rest piece token is size are sep sep_ spells same = absurd is.first
 no-token-first (unfinished (x ∷ xs)) gap other spelling rest piece token is size are sep sep_ spells same = cc
 no-token-first slash gap other spelling rest piece token is size are sep sep_ spells same =
     slash-first token spelling rest piece spells
-    (sym (gap-one gap other (47 ∷ piece) (spelling ++ rest) sep sep_ (slash-no_separator piece are) (begins-no_separator (spelling ++ rest) (begins-on spelling rest (spelling_begins token spelling spells))) (sym (append_assoc gap (47 ∷ []) piece) ∙ same)))
+    (sym (gap-one gap other (47 ∷ piece) (spelling ++ rest) sep sep_ (slash-no_separator piece are)
+    (begins-no_separator (spelling ++ rest) (begins-on spelling rest (spelling_begins token spelling spells)))
+    (sym (append_assoc gap (47 ∷ []) piece) ∙ same)))
 no-token-first (open_comment inside) gap other spelling rest piece token is size are sep sep_ spells same =
     slash-first token spelling rest (42 ∷ (inside ++ piece)) spells
-    (sym (gap-one gap other (47 ∷ 42 ∷ (inside ++ piece)) (spelling ++ rest) sep sep_ (comment-no_separator inside piece is are) (begins-no_separator (spelling ++ rest) (begins-on spelling rest (spelling_begins token spelling spells))) (sym (append_assoc gap (47 ∷ 42 ∷ inside) piece) ∙ same)))
+    (sym (gap-one gap other (47 ∷ 42 ∷ (inside ++ piece)) (spelling ++ rest) sep sep_ (comment-no_separator inside piece is are)
+    (begins-no_separator (spelling ++ rest) (begins-on spelling rest (spelling_begins token spelling spells)))
+    (sym (append_assoc gap (47 ∷ 42 ∷ inside) piece) ∙ same)))
 
 -- ---- behind a last token of which no bytes are pending any byte may stand
 
-counted : (token : Token) (size count : ℕ) → count_behind count (record { token = token; size = size }) ≡ 0 → (token ≡ semicolon) ⊎ (size ≡ 0)
+counted : (token : Token) (size count : ℕ) → count_behind count (record { token = token; size = size }) ≡ 0 → (token ≡ semicolon)
+    ⊎ (size ≡ 0)
 counted begin size count is = inr (omega (arith, is))
 counted finish size count is = inr (omega (arith, is))
 counted (keyword word) size count is = inr (omega (arith, is))
@@ -128,7 +147,8 @@ semicolon-followed : (spelling bytes : List ℕ) → IsFollowed semicolon spelli
 semicolon-followed spelling [] = tt
 semicolon-followed spelling (b ∷ bs) = tt
 
-followed-on : (l : Lexeme) (spelling rest piece : List ℕ) (lexemes : List Lexeme) (tail : Tail) (count : ℕ) → Spells l.token spelling → l.size ≡ length spelling → IsFollowed l.token spelling rest → LaidUpTo rest lexemes tail
+followed-on : (l : Lexeme) (spelling rest piece : List ℕ) (lexemes : List Lexeme) (tail : Tail) (count : ℕ) → Spells l.token spelling
+    → l.size ≡ length spelling → IsFollowed l.token spelling rest → LaidUpTo rest lexemes tail
     → open_bytes (count_behind count l) lexemes + tail_size tail ≡ 0 → IsFollowed l.token spelling (rest ++ piece)
 followed-on l spelling (byte ∷ rest) piece lexemes tail count spells size followed laid none = followed
 followed-on l spelling [] piece lexemes tail count spells size followed laid none =
@@ -140,21 +160,32 @@ followed-on l spelling [] piece lexemes tail count spells size followed laid non
 
 -- ---- so the bytes with separators behind them have no further token
 
-no-token-more : (ls ms : List Lexeme) (tail other : Tail) (bytes piece : List ℕ) (count : ℕ) → AreSeparators piece → LaidUpTo bytes ls tail → LaidUpTo (bytes ++ piece) ms other → open_bytes count ls + tail_size tail ≡ 0 → length ms ≡ suc (length ls) → ⊥
+no-token-more : (ls ms : List Lexeme) (tail other : Tail) (bytes piece : List ℕ) (count : ℕ) → AreSeparators piece → LaidUpTo bytes ls tail
+    → LaidUpTo (bytes ++ piece) ms other → open_bytes count ls + tail_size tail ≡ 0 → length ms ≡ suc (length ls) → ⊥
 no-token-more [] [] tail other bytes piece count are laid laid_ none many = cc
 no-token-more (l ∷ ls) [] tail other bytes piece count are laid laid_ none many = cc
-no-token-more [] (m ∷ ms) tail other bytes piece count are (gap, is, sep, tail_is_) (gap_, spelling, rest, is_, sep_, spells, size, followed, laid_) none many =
-    no-token-first tail gap gap_ spelling rest piece m.token tail_is_ (omega (arith, none)) are sep sep_ spells (ap (λ (l : List ℕ). l ++ piece) (sym is) ∙ is_)
-no-token-more (l ∷ ls) (m ∷ ms) tail other bytes piece count are (gap, p, r, is, sep, spells, size, followed, laid) (gap_, q, w, is_, sep_, spells_, size_, followed_, laid_) none many =
-    let whole_ : gap ++ (p ++ (r ++ piece)) ≡ gap_ ++ (q ++ w) = sym (append_assoc gap (p ++ r) piece ∙ ap (λ (x : List ℕ). gap ++ x) (append_assoc p r piece)) ∙ ap (λ (x : List ℕ). x ++ piece) (sym is) ∙ is_ in
-    let same : p ++ (r ++ piece) ≡ q ++ w = gap-one gap gap_ (p ++ (r ++ piece)) (q ++ w) sep sep_ (begins-no_separator (p ++ (r ++ piece)) (begins-on p (r ++ piece) (spelling_begins l.token p spells))) (begins-no_separator (q ++ w) (begins-on q w (spelling_begins m.token q spells_))) whole_ in
-    let one = front-one l.token m.token p q (r ++ piece) w spells spells_ (followed-on l p r piece ls tail count spells size followed laid none) followed_ same in
+no-token-more [] (m ∷ ms) tail other bytes piece count are (gap, is, sep, tail_is_)
+    (gap_, spelling, rest, is_, sep_, spells, size, followed, laid_) none many =
+    no-token-first tail gap gap_ spelling rest piece m.token tail_is_ (omega (arith, none)) are sep sep_ spells
+    (ap (λ (l : List ℕ). l ++ piece) (sym is) ∙ is_)
+no-token-more (l ∷ ls) (m ∷ ms) tail other bytes piece count are (gap, p, r, is, sep, spells, size, followed, laid)
+    (gap_, q, w, is_, sep_, spells_, size_, followed_, laid_) none many =
+    let whole_ : gap ++ (p ++ (r ++ piece)) ≡ gap_ ++ (q ++ w) =
+    sym (append_assoc gap (p ++ r) piece ∙ ap (λ (x : List ℕ). gap ++ x) (append_assoc p r piece))
+    ∙ ap (λ (x : List ℕ). x ++ piece) (sym is) ∙ is_ in
+    let same : p ++ (r ++ piece) ≡ q ++ w = gap-one gap gap_ (p ++ (r ++ piece)) (q ++ w) sep sep_
+    (begins-no_separator (p ++ (r ++ piece)) (begins-on p (r ++ piece) (spelling_begins l.token p spells)))
+    (begins-no_separator (q ++ w) (begins-on q w (spelling_begins m.token q spells_))) whole_ in
+    let one = front-one l.token m.token p q (r ++ piece) w spells spells_
+    (followed-on l p r piece ls tail count spells size followed laid none) followed_ same in
     let behind : r ++ piece ≡ w = append-rest p q (r ++ piece) w one.size same in
-    no-token-more ls ms tail other r piece (count_behind count l) are laid (subst (λ (x : List ℕ). LaidUpTo x ms other) (sym behind) laid_) none (omega (arith, many))
+    no-token-more ls ms tail other r piece (count_behind count l) are laid (subst (λ (x : List ℕ). LaidUpTo x ms other) (sym behind) laid_)
+    none (omega (arith, many))
 
 -- ---- of a reader
 
-laid-so_far : (held : Held) (reading : StatementHistory) (live : IsLive held reading) → pending_of held.lexer ≡ 0 → IsLaidWithin (record_limit_of held.lexer) (pending_of held.lexer) live.history
+laid-so_far : (held : Held) (reading : StatementHistory) (live : IsLive held reading) → pending_of held.lexer ≡ 0
+    → IsLaidWithin (record_limit_of held.lexer) (pending_of held.lexer) live.history
 laid-so_far held reading live none = elim live.answered [
   | inl start ↦ subst (λ (h : TokenHistory). IsLaidWithin (record_limit_of held.lexer) (pending_of held.lexer) h) (sym start) (record {
     lexemes = [];
@@ -168,7 +199,9 @@ laid-so_far held reading live none = elim live.answered [
   | inr answers ↦ answers.laid_within
 ]
 
-no-token : (held : Held) (reading : StatementHistory) → IsLive held reading → (piece : List ℕ) (count : ℕ) (token : TokenRead) (lexer : tokens_held.Held) → tokens.NextGives held.lexer piece (Ok (count, Some token)) lexer
+no-token : (held : Held) (reading : StatementHistory) → IsLive held reading
+    → (piece : List ℕ) (count : ℕ) (token : TokenRead) (lexer : tokens_held.Held)
+    → tokens.NextGives held.lexer piece (Ok (count, Some token)) lexer
     → IsSeenAt reading.seen piece 0 → pending_of held.lexer ≡ 0 → AreSeparators piece → ⊥
 no-token held reading live piece count token lexer gives at none are =
     let own : IsSeenAt live.history.seen piece 0 = subst (λ (seen : Option ℕ). IsSeenAt seen piece 0) (sym live.seen_is) at in
@@ -179,13 +212,15 @@ no-token held reading live piece count token lexer gives at none are =
     let three : length (tokens_in old.lexemes) ≡ length live.history.given = ap length old.given_are in
     let four = length-map new.lexemes (λ (l : Lexeme). l.token) in
     let five = length-map old.lexemes (λ (l : Lexeme). l.token) in
-    no-token-more old.lexemes new.lexemes old.tail new.tail live.history.taken (take count piece) 0 (take-separators count piece are) old.laid new.laid (sym old.pending_is ∙ none) (omega (arith, one, two, three, four, five))
+    no-token-more old.lexemes new.lexemes old.tail new.tail live.history.taken (take count piece) 0 (take-separators count piece are)
+    old.laid new.laid (sym old.pending_is ∙ none) (omega (arith, one, two, three, four, five))
 
 -- ---- its steps
 
 pending-none : (held : Held) (reading : StatementHistory) → IsLive held reading → IsPending reading.taken 0 → pending_of held.lexer ≡ 0
 unfolding tokens.Stands
-pending-none held reading live none = pending-one reading.taken (pending_of held.lexer) 0 (subst (λ (taken : List ℕ). IsPending taken (pending_of held.lexer)) live.taken_are live.lexer.2.0) none
+pending-none held reading live none = pending-one reading.taken (pending_of held.lexer) 0
+    (subst (λ (taken : List ℕ). IsPending taken (pending_of held.lexer)) live.taken_are live.lexer.2.0) none
 
 of-token : (fault : TokenFault) → fault_of_token fault ≡ NoMemory → fault ≡ token_fault.NoMemory
 of-token token_fault.NoMemory is = refl
@@ -207,10 +242,15 @@ of-token token_fault.EndsEarly is = cc
 of-token (token_fault.LeftOut absent) is = cc
 
 -- a refusal of the lexer
-pub quiet-refused : (held : Held) (piece : List ℕ) (fault : TokenFault) (refusal : Fault) → refusal ≡ fault_of_token fault → tokens.NeedsNoMemory held.lexer piece (Err fault) → NeedsNoMemory held piece (Err refusal)
+pub quiet-refused : (held : Held) (piece : List ℕ) (fault : TokenFault) (refusal : Fault) → refusal ≡ fault_of_token fault
+    → tokens.NeedsNoMemory held.lexer piece (Err fault) → NeedsNoMemory held piece (Err refusal)
 quiet-refused held piece fault refusal same needs reading live at none are is =
-    needs live.history live.lexer live.lexer_open (pending-none held reading live none) are (ap (λ (f : TokenFault). Err f) (of-token fault (sym same ∙ is)))
+    needs live.history live.lexer live.lexer_open (pending-none held reading live none) are
+    (ap (λ (f : TokenFault). Err f) (of-token fault (sym same ∙ is)))
 
 -- a token can't have come
-pub quiet-token : (held : Held) (piece : List ℕ) (count : ℕ) (token : TokenRead) (lexer : tokens_held.Held) → tokens.NextGives held.lexer piece (Ok (count, Some token)) lexer → (result : Result (Option (ℕ × Option Event)) Fault) → NeedsNoMemory held piece result
-quiet-token held piece count token lexer gives result reading live at none are = absurd (no-token held reading live piece count token lexer gives at (pending-none held reading live none) are)
+pub quiet-token : (held : Held) (piece : List ℕ) (count : ℕ) (token : TokenRead) (lexer : tokens_held.Held)
+    → tokens.NextGives held.lexer piece (Ok (count, Some token)) lexer → (result : Result (Option (ℕ × Option Event)) Fault)
+    → NeedsNoMemory held piece result
+quiet-token held piece count token lexer gives result reading live at none are =
+    absurd (no-token held reading live piece count token lexer gives at (pending-none held reading live none) are)

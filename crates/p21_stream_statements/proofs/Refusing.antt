@@ -25,15 +25,18 @@ unlaid-begins_none bytes dead more are structure schema is = dead more (tokens_o
 
 -- the tokens with which they begin are those of no tree
 pub unbegun-begins_none : (bytes : List ℕ) (given : List Token) → AreTokensTaken bytes given → BeginNoFile given → BeginsNone bytes
-unbegun-begins_none bytes given first none more are structure schema is = none structure schema is.is_file (first more are (tokens_of structure) is.laid)
+unbegun-begins_none bytes given first none more are structure schema is =
+    none structure schema is.is_file (first more are (tokens_of structure) is.laid)
 
 -- a statement has as many token bytes as it may have, and one more
 pub full-begins_none : (most : ℕ) (bytes : List ℕ) (byte : ℕ) → IsStatementFull most bytes byte → BeginsNoneWithin most (bytes ++ byte ∷ [])
-full-begins_none most bytes byte full limits most_is = statement-full limits bytes full.lexemes full.tail byte full.laid full.counts (rw most_is full.full)
+full-begins_none most bytes byte full limits most_is =
+    statement-full limits bytes full.lexemes full.tail byte full.laid full.counts (rw most_is full.full)
 
 -- ---- what this says within the limits
 
-module _ (limits : ℕ × ℕ) (bytes : List ℕ) (all : Limits) (record_is : all.record_source ≡ limits.0) (file_is : all.file_source ≡ limits.1) where
+module _ (limits : ℕ × ℕ) (bytes : List ℕ) (all : Limits) (record_is : all.record_source ≡ limits.0)
+    (file_is : all.file_source ≡ limits.1) where
   of-any : BeginsNone bytes → BeginsNoFile all bytes
   of-any none more are structure schema is = none more are structure schema is.in_grammar
 

@@ -14,7 +14,8 @@ offered (Some byte) [] at = tt
 offered (Some byte) (first ∷ rest) at = cc
 
 -- what is seen behind a call
-pub seen-behind : (before : Option ℕ) (piece : List ℕ) (count : ℕ) (call : Option ℕ) → IsSeenAt before piece 0 → (call ≡ None) ⊎ (call ≡ slice_get piece count) → IsSeenAt (seen_behind before (take count piece) call) piece count
+pub seen-behind : (before : Option ℕ) (piece : List ℕ) (count : ℕ) (call : Option ℕ) → IsSeenAt before piece 0 → (call ≡ None)
+    ⊎ (call ≡ slice_get piece count) → IsSeenAt (seen_behind before (take count piece) call) piece count
 seen-behind before piece count (Some byte) at (inl is) = cc
 seen-behind before [] zero (Some byte) at (inr is) = cc
 seen-behind before [] (suc count) (Some byte) at (inr is) = cc
@@ -39,8 +40,14 @@ pub record IsLookedUpTo (taken piece : List ℕ) (count : ℕ) (seen : Option �
   pub within : upto ≤ length piece
   pub looked_are : (taken ++ take count piece) ++ elim seen [ None ↦ [] | Some byte ↦ byte ∷ [] ] ≡ taken ++ take upto piece
 
-pub looked-up_to : (taken piece : List ℕ) (count : ℕ) (seen : Option ℕ) → count ≤ length piece → IsSeenAt seen piece count → IsLookedUpTo taken piece count seen
-looked-up_to taken piece count None within at = record { upto = count; within = within; looked_are = append-nil (taken ++ take count piece) }
+pub looked-up_to : (taken piece : List ℕ) (count : ℕ) (seen : Option ℕ) → count ≤ length piece → IsSeenAt seen piece count
+    → IsLookedUpTo taken piece count seen
+looked-up_to taken piece count None within at = record {
+  upto = count;
+  within = within;
+  looked_are =
+      append-nil (taken ++ take count piece);
+}
 looked-up_to taken piece count (Some byte) within at = record {
   upto = count + 1;
   within = let below = slice_get_within piece count byte at in omega (arith, below);

@@ -31,4 +31,5 @@ BeginsBehindStatements = (held : Held) (reading : StatementHistory) → IsLive h
 
 -- where it stands in a data section, one is open behind the statements given
 abbrev pub StandsInData : Type 0
-StandsInData = (held : Held) (reading : StatementHistory) → IsLive held reading → is_in_data held.parser.stage ≡ true → IsInData reading.given
+StandsInData = (held : Held) (reading : StatementHistory) → IsLive held reading → is_in_data held.parser.stage ≡ true
+    → IsInData reading.given

@@ -41,14 +41,21 @@ pub record AreInstances (bytes : List ℕ) (instances : List (ℕ × Record)) : 
 
 -- the history behind the bytes of instances
 abbrev pub with_instances : StatementHistory → List ℕ → List (ℕ × Record) → StatementHistory
-with_instances reading bytes instances = record { taken = reading.taken ++ bytes; seen = None; given = reading.given ++ instances_of instances }
+with_instances reading bytes instances = record {
+  taken = reading.taken ++ bytes;
+  seen = None;
+  given = reading.given
+      ++ instances_of instances;
+}
 
 -- a history of so many tokens goes on by the bytes of instances, of which the lexer has given all tokens
-pub record PassesInstances (old : StatementHistory) (tokens : ℕ) (bytes : List ℕ) (instances : List (ℕ × Record)) (held : Held) : Type 0 where
+pub record PassesInstances (old : StatementHistory) (tokens : ℕ) (bytes : List ℕ) (instances : List (ℕ × Record)) (held : Held) : Type
+    0 where
   pub live : IsLive held (with_instances old bytes instances)
   pub more : length live.history.given ≡ tokens + length (instance_tokens instances)
 
 -- where as many bytes are whole instances, each history that was stood for goes on by them
 abbrev pub GivesPassed : Held → ℕ → Held → Type 0
 GivesPassed old count new =
-    (reading : StatementHistory) (live : IsLive old reading) (bytes : List ℕ) (instances : List (ℕ × Record)) → length bytes ≡ count → AreInstances bytes instances → PassesInstances reading (length live.history.given) bytes instances new
+    (reading : StatementHistory) (live : IsLive old reading) (bytes : List ℕ) (instances : List (ℕ × Record)) → length bytes ≡ count
+    → AreInstances bytes instances → PassesInstances reading (length live.history.given) bytes instances new

@@ -98,7 +98,8 @@ pub record RefusesByteAt (limits : ℕ × ℕ) (taken piece : List ℕ) (place :
   pub place_is : place ≡ length (taken ++ take count piece)
   pub open_bytes : ℕ
   pub pending : IsPending (taken ++ take count piece) open_bytes
-  pub dead : (s : Schema) (all : Limits) → all.record_source ≡ limits.0 → all.file_source ≡ limits.1 → IsDead s all (taken ++ take (count + 1) piece)
+  pub dead : (s : Schema) (all : Limits) → all.record_source ≡ limits.0 → all.file_source ≡ limits.1
+      → IsDead s all (taken ++ take (count + 1) piece)
 
 -- where it is the fault of a byte, this stands at the place
 abbrev pub HasPlace : ℕ × ℕ → List ℕ → List ℕ → Fault → ℕ → Type 0
@@ -137,4 +138,5 @@ place_behind held = tokens_held.place_of held.lexer
 -- a step that refuses a byte has taken those in front of it
 abbrev pub StepPlaces : Held → List ℕ → Result (Option (ℕ × Option Event)) Fault → Held → Type 0
 StepPlaces old piece (Ok answer) new = Unit {0}
-StepPlaces old piece (Err fault) new = (reading : StatementHistory) → IsLive old reading → IsSeenAt reading.seen piece 0 → HasPlace (limits_of old) reading.taken piece fault (place_behind new)
+StepPlaces old piece (Err fault) new = (reading : StatementHistory) → IsLive old reading → IsSeenAt reading.seen piece 0
+    → HasPlace (limits_of old) reading.taken piece fault (place_behind new)

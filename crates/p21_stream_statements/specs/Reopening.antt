@@ -37,4 +37,5 @@ with_gap reading gap = record { taken = reading.taken ++ gap; seen = None; given
 -- each history that was stood for where the open statement began goes on by separators up to the place
 abbrev pub GivesReopened : Held → ℕ → Held → Type 0
 GivesReopened old place new =
-    (earlier : Held) (reading : StatementHistory) (gap : List ℕ) → BeganAt old earlier → IsLive earlier reading → IsSeparatorText gap → place ≡ place_behind earlier + length gap → IsLive new (with_gap reading gap)
+    (earlier : Held) (reading : StatementHistory) (gap : List ℕ) → BeganAt old earlier → IsLive earlier reading → IsSeparatorText gap
+    → place ≡ place_behind earlier + length gap → IsLive new (with_gap reading gap)

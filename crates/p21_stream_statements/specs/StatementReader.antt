@@ -75,7 +75,8 @@ IsSeenAt (Some byte) piece place = slice_get piece place ≡ Some byte
 
 -- a step goes on from a history of so many tokens: it took so many bytes of the piece and one more token, and gave these
 -- statements
-pub record TakesOneToken (old : StatementHistory) (tokens : ℕ) (piece : List ℕ) (count : ℕ) (given : List Statement) (held : Held) : Type 0 where
+pub record TakesOneToken (old : StatementHistory) (tokens : ℕ) (piece : List ℕ) (count : ℕ) (given : List Statement) (held : Held) : Type
+    0 where
   pub reading : StatementHistory
   pub live : IsLive held reading
   pub taken_are : reading.taken ≡ old.taken ++ take count piece
@@ -98,9 +99,12 @@ pub record RefusesWithin (limits : ℕ × ℕ) (fault : Fault) (old : StatementH
 
 -- what a step gives, for each history that was stood for, where the byte that was seen is offered first
 abbrev pub StepGives : Held → List ℕ → Result (Option (ℕ × Option Event)) Fault → Held → Type 0
-StepGives old piece (Ok None) new = (reading : StatementHistory) → IsLive old reading → IsSeenAt reading.seen piece 0 → IsLive new (record { taken = reading.taken ++ piece; seen = None; given = reading.given })
-StepGives old piece (Ok (Some (count, event))) new = (reading : StatementHistory) (live : IsLive old reading) → IsSeenAt reading.seen piece 0 → TakesOneToken reading (length live.history.given) piece count (statements_of event) new
-StepGives old piece (Err fault) new = fault ≢ NoMemory → (reading : StatementHistory) → IsLive old reading → IsSeenAt reading.seen piece 0 → RefusesWithin (limits_of old) fault reading piece
+StepGives old piece (Ok None) new = (reading : StatementHistory) → IsLive old reading → IsSeenAt reading.seen piece 0
+    → IsLive new (record { taken = reading.taken ++ piece; seen = None; given = reading.given })
+StepGives old piece (Ok (Some (count, event))) new = (reading : StatementHistory) (live : IsLive old reading)
+    → IsSeenAt reading.seen piece 0 → TakesOneToken reading (length live.history.given) piece count (statements_of event) new
+StepGives old piece (Err fault) new = fault ≢ NoMemory → (reading : StatementHistory) → IsLive old reading → IsSeenAt reading.seen piece 0
+    → RefusesWithin (limits_of old) fault reading piece
 
 -- so many bytes of the piece at most
 abbrev pub TakesWithinPiece : List ℕ → Result (Option (ℕ × Option Event)) Fault → Type 0
@@ -115,7 +119,8 @@ GivesNothing (Err fault) = fault ≢ NoMemory
 
 -- between tokens, separators give no token and need no memory
 abbrev pub NeedsNoMemory : Held → List ℕ → Result (Option (ℕ × Option Event)) Fault → Type 0
-NeedsNoMemory old piece result = (reading : StatementHistory) → IsLive old reading → IsSeenAt reading.seen piece 0 → IsPending reading.taken 0 → AreSeparators piece → GivesNothing result
+NeedsNoMemory old piece result = (reading : StatementHistory) → IsLive old reading → IsSeenAt reading.seen piece 0
+    → IsPending reading.taken 0 → AreSeparators piece → GivesNothing result
 
 -- the bytes have the tokens of a tree, and these are its statements
 pub record AreWholeStatements (taken : List ℕ) (given : List Statement) : Type 0 where
@@ -125,8 +130,10 @@ pub record AreWholeStatements (taken : List ℕ) (given : List Statement) : Type
 
 -- what the end of the bytes gives, for each history that was stood for: what is refused is no file, under whatever schema
 abbrev pub FinishGives : Held → Result (Unit {0}) Fault → Type 0
-FinishGives held (Ok done) = (reading : StatementHistory) → IsLive held reading → reading.seen ≡ None → AreWholeStatements reading.taken reading.given
-FinishGives held (Err fault) = fault ≢ NoMemory → (reading : StatementHistory) → IsLive held reading → reading.seen ≡ None → IsNoFile reading.taken
+FinishGives held (Ok done) = (reading : StatementHistory) → IsLive held reading → reading.seen ≡ None
+    → AreWholeStatements reading.taken reading.given
+FinishGives held (Err fault) = fault ≢ NoMemory → (reading : StatementHistory) → IsLive held reading → reading.seen ≡ None
+    → IsNoFile reading.taken
 
 -- the token bytes of the statement that is open, and the lists and typed parameters that are open in it
 pub record HasOpenStatement (reading : StatementHistory) (pending depth : ℕ) : Type 0 where

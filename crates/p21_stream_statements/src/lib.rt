@@ -41,5 +41,5 @@ pub use p21_grammar::{KINDS, Kind};
 pub use p21_tokens::Places;
 pub use place::Place;
 pub use refusal::{At, Refusal};
-pub use source::Source;
+pub use source::{Source, place_inside};
 pub use statement_reader::StatementReader;

@@ -1,4 +1,5 @@
-//! The bytes of the statement that is open, for the place of a refusal that is one of the whole statement.
+//! The bytes of the statement that is open, for the place of a refusal that is one of the whole statement. Of an instance that is open behind a
+//! piece 65,536 bytes are kept at most; one that is longer and spans pieces has the place where it begins.
 ghost use Rattle.std.specs.Prelude.{◌≤◌, length};
 
 use crate::fault::Fault;
@@ -86,17 +87,28 @@ impl Source {
     /// refused. In the record of an instance these steps lead from what is refused up to the record: the numbers of the elements
     /// around it, where the value of a typed parameter is its element 0, that of its parameter, and that of its part.
     pub fn place_of(&self, alloc: Global, refusal: Refusal, steps: &[usize]) -> Option<Place> {
-        let start = self.start?;
-        let found = match refusal.at {
-            At::Statement(number) => offset_of(alloc, refusal.fault, number, &self.bytes)?,
-            At::Instance(_) => offset_in_record(alloc, refusal.fault, &self.bytes, steps)?,
-        };
-        match found {
-            Ok(offset) => Some(Place {
-                byte: start.saturating_add(offset),
-            }),
-            Err(NoMemory) => None,
-        }
+        place_inside(alloc, refusal, self.start?, &self.bytes, steps)
+    }
+}
+
+/// The place of a refusal of a statement with these bytes, which begins behind so many bytes of the file, if it is one that stands inside:
+/// none where memory is refused. In the record of an instance these steps lead there, as `Source::place_of` has them.
+pub fn place_inside(
+    alloc: Global,
+    refusal: Refusal,
+    begins: u64,
+    statement: &[u8],
+    steps: &[usize],
+) -> Option<Place> {
+    let found = match refusal.at {
+        At::Statement(number) => offset_of(alloc, refusal.fault, number, statement)?,
+        At::Instance(_) => offset_in_record(alloc, refusal.fault, statement, steps)?,
+    };
+    match found {
+        Ok(offset) => Some(Place {
+            byte: begins.saturating_add(offset),
+        }),
+        Err(NoMemory) => None,
     }
 }
 

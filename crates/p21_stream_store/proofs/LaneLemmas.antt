@@ -37,7 +37,8 @@ pub long-row : (xs : List EntityId) (at : ℕ) → at + 16 ≤ length xs → len
 long-row xs at within = length-chunk at 16 xs within
 
 -- the numbers of 16 entities and of 16 others, where the mask of their lanes is whole
-pub same-rows : (xs ys : List EntityId) (lanes others : List ℕ) → length xs ≡ 16 → length ys ≡ 16 → lanes ≡ ids_view xs → others ≡ ids_view ys
+pub same-rows : (xs ys : List EntityId) (lanes others : List ℕ) → length xs ≡ 16 → length ys ≡ 16 → lanes ≡ ids_view xs
+    → others ≡ ids_view ys
     → IsTrue (nat_eq (mask_l (map (top 31) (zip2 (λ a b. cond (eqb a b) (2 ^ 32 - 1) 0) lanes others)) % 2 ^ 64) 65535) → xs ≡ ys
 same-rows xs ys lanes others long long_ is is_ all =
     let count : length lanes ≡ 16 = ap length is ∙ length-map xs (λ (e : EntityId). e.0) ∙ long in
@@ -45,7 +46,9 @@ same-rows xs ys lanes others long long_ is is_ all =
     let alike : length lanes ≡ length others = count ∙ sym count_ in
     let tests = zip2 eqb lanes others in
     let few : length tests ≡ 16 = length-zip2 eqb lanes others alike ∙ count in
-    let whole : mask_l tests ≡ 65535 = sym (mask_l-mod tests 64 (omega (arith, few))) ∙ sym (ap (λ ms. mask_l ms % 2 ^ 64) (tops_compared w32 eqb lanes others)) ∙ (Decides-eqb (mask_l (map (top 31) (zip2 (λ a b. cond (eqb a b) (2 ^ 32 - 1) 0) lanes others)) % 2 ^ 64) 65535).0 all in
+    let whole : mask_l tests ≡ 65535 = sym (mask_l-mod tests 64 (omega (arith, few)))
+    ∙ sym (ap (λ ms. mask_l ms % 2 ^ 64) (tops_compared w32 eqb lanes others))
+    ∙ (Decides-eqb (mask_l (map (top 31) (zip2 (λ a b. cond (eqb a b) (2 ^ 32 - 1) 0) lanes others)) % 2 ^ 64) 65535).0 all in
     let same : lanes ≡ others = all-same lanes others alike (ap (λ m. m + 1) whole ∙ sym (ap (λ l. 2 ^ l) count)) in
     same-entities xs ys (sym is ∙ same ∙ is_)
 
@@ -53,11 +56,14 @@ take-add : {X : Type 0} (m k : ℕ) (xs : List X) → take (m + k) xs ≡ take m
 take-add zero k xs = let same : zero + k ≡ k = omega arith in ap (λ (n : ℕ). take n xs) same
 take-add {X} (suc m) zero [] = let same : suc m + zero ≡ suc m = omega arith in ap (λ (n : ℕ). take {A = X} n []) same
 take-add {X} (suc m) (suc k) [] = let same : suc m + suc k ≡ suc (m + suc k) = omega arith in ap (λ (n : ℕ). take {A = X} n []) same
-take-add {X} (suc m) k (x ∷ xs) = let same : suc m + k ≡ suc (m + k) = omega arith in ap (λ (n : ℕ). take n (x ∷ xs)) same ∙ ap (λ (l : List X). x ∷ l) (take-add m k xs)
+take-add {X} (suc m) k (x ∷ xs) = let same : suc m + k ≡ suc (m + k) = omega arith in ap (λ (n : ℕ). take n (x ∷ xs)) same
+    ∙ ap (λ (l : List X). x ∷ l) (take-add m k xs)
 
 -- one row more is the same
-pub more-same : (xs ys : List EntityId) (at : ℕ) → take at xs ≡ take at ys → take 16 (drop at xs) ≡ take 16 (drop at ys) → take (at + 16) xs ≡ take (at + 16) ys
-more-same xs ys at before row = take-add at 16 xs ∙ ap (λ (l : List EntityId). l ++ take 16 (drop at xs)) before ∙ ap (λ (l : List EntityId). take at ys ++ l) row ∙ sym (take-add at 16 ys)
+pub more-same : (xs ys : List EntityId) (at : ℕ) → take at xs ≡ take at ys → take 16 (drop at xs) ≡ take 16 (drop at ys)
+    → take (at + 16) xs ≡ take (at + 16) ys
+more-same xs ys at before row = take-add at 16 xs ∙ ap (λ (l : List EntityId). l ++ take 16 (drop at xs)) before
+    ∙ ap (λ (l : List EntityId). take at ys ++ l) row ∙ sym (take-add at 16 ys)
 
 -- what a slice from a place on has
 abbrev rest : ℕ → List EntityId → List EntityId
@@ -67,18 +73,21 @@ rest at xs = take (length xs - at) (drop at xs)
 pub both-same : (xs ys : List EntityId) (at : ℕ) → take at xs ≡ take at ys → rest at xs ≡ rest at ys → xs ≡ ys
 both-same xs ys at before behind =
     let dropped : drop at xs ≡ drop at ys = sym (take_rest xs at) ∙ behind ∙ take_rest ys at in
-    sym (take-append-drop at xs) ∙ ap (λ (l : List EntityId). l ++ drop at xs) before ∙ ap (λ (l : List EntityId). take at ys ++ l) dropped ∙ take-append-drop at ys
+    sym (take-append-drop at xs) ∙ ap (λ (l : List EntityId). l ++ drop at xs) before ∙ ap (λ (l : List EntityId). take at ys ++ l) dropped
+    ∙ take-append-drop at ys
 
 past-front : (front xs ys : List EntityId) → by_entities (front ++ xs) (front ++ ys) ≡ by_entities xs ys
 past-front [] xs ys = refl
-past-front (e ∷ front) xs ys = ap (λ r. ordering_then r (by_entities (front ++ xs) (front ++ ys))) (tied_itself nat_cmp_total e.0) ∙ past-front front xs ys
+past-front (e ∷ front) xs ys = ap (λ r. ordering_then r (by_entities (front ++ xs) (front ++ ys))) (tied_itself nat_cmp_total e.0)
+    ∙ past-front front xs ys
 
 -- what decides stands behind what is the same
 pub order-behind : (xs ys : List EntityId) (at : ℕ) → take at xs ≡ take at ys → by_entities (drop at xs) (drop at ys) ≡ by_entities xs ys
 order-behind xs ys at before =
     let first : take at xs ++ drop at xs ≡ xs = take-append-drop at xs in
     let second : take at xs ++ drop at ys ≡ ys = ap (λ (l : List EntityId). l ++ drop at ys) before ∙ take-append-drop at ys in
-    sym (past-front (take at xs) (drop at xs) (drop at ys)) ∙ ap (λ (l : List EntityId). by_entities l (take at xs ++ drop at ys)) first ∙ ap (by_entities xs) second
+    sym (past-front (take at xs) (drop at xs) (drop at ys)) ∙ ap (λ (l : List EntityId). by_entities l (take at xs ++ drop at ys)) first
+    ∙ ap (by_entities xs) second
 
 level : (r : Ordering) → is_ne r ≡ false → r ≡ Equal
 level Less apart = cc
@@ -86,8 +95,10 @@ level Equal apart = refl
 level Greater apart = cc
 
 -- sets of as many entities are in the order of what stands behind a place up to which they are the same
-pub order-of-sizes : (xs ys : List EntityId) (sizes : Ordering) (differ : Bool) (at : ℕ) → sizes ≡ nat_cmp (length xs) (length ys) → differ ≡ is_ne sizes → differ ≡ false → take at xs ≡ take at ys → by_entities (rest at xs) (rest at ys) ≡ by_size xs ys
+pub order-of-sizes : (xs ys : List EntityId) (sizes : Ordering) (differ : Bool) (at : ℕ) → sizes ≡ nat_cmp (length xs) (length ys)
+    → differ ≡ is_ne sizes → differ ≡ false → take at xs ≡ take at ys → by_entities (rest at xs) (rest at ys) ≡ by_size xs ys
 order-of-sizes xs ys sizes differ at is told alike before =
     let same : nat_cmp (length xs) (length ys) ≡ Equal = sym is ∙ level sizes (sym told ∙ alike) in
-    ap (λ (l : List EntityId). by_entities l (rest at ys)) (take_rest xs at) ∙ ap (λ (l : List EntityId). by_entities (drop at xs) l) (take_rest ys at)
+    ap (λ (l : List EntityId). by_entities l (rest at ys)) (take_rest xs at)
+    ∙ ap (λ (l : List EntityId). by_entities (drop at xs) l) (take_rest ys at)
     ∙ order-behind xs ys at before ∙ sym (ap (λ (o : Ordering). ordering_then o (by_entities xs ys)) same)

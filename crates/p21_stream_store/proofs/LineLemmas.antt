@@ -9,11 +9,13 @@ text-got : (kept : List StoredInstance) (place : ℕ) (x : StoredInstance) → s
 text-got kept place x got = ap (λ (o : Option StoredInstance). elim o [ Some y ↦ y.text | None ↦ [] ]) got
 
 -- the text at one position more
-pub one_more_text : (kept : List StoredInstance) (places : List ℕ) (from k place : ℕ) (x : StoredInstance) → slice_get places (from + k) ≡ Some place → slice_get kept place ≡ Some x
+pub one_more_text : (kept : List StoredInstance) (places : List ℕ) (from k place : ℕ) (x : StoredInstance)
+    → slice_get places (from + k) ≡ Some place → slice_get kept place ≡ Some x
     → map (text_at kept) (take (k + 1) (drop from places)) ≡ map (text_at kept) (take k (drop from places)) ++ x.text ∷ []
 one_more_text kept places from k place x at got =
     let within = slice_get_within places (from + k) place at in
     let here : get_or (drop from places) k 0 ≡ place = get_or-drop from places k 0 ∙ get_or_from_slice_get places (from + k) place 0 at in
     ap (map (text_at kept)) (take_more (drop from places) k 0 (omega (arith, within, length-drop from places)))
     ∙ map-append (text_at kept) (take k (drop from places)) (get_or (drop from places) k 0 ∷ [])
-    ∙ ap (λ (text : List ℕ). map (text_at kept) (take k (drop from places)) ++ text ∷ []) (ap (text_at kept) here ∙ text-got kept place x got)
+    ∙ ap (λ (text : List ℕ). map (text_at kept) (take k (drop from places)) ++ text ∷ [])
+    (ap (text_at kept) here ∙ text-got kept place x got)

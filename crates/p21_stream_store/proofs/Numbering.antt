@@ -17,18 +17,21 @@ pub at-the-end : {X : Type 0} (xs : List X) (x : X) → slice_get (xs ++ x ∷ [
 at-the-end [] x = refl
 at-the-end (a ∷ xs) x = at-the-end xs x
 
-pub at-or-before : {X : Type 0} (xs : List X) (x : X) (i : ℕ) (y : X) → slice_get (xs ++ x ∷ []) i ≡ Some y → (slice_get xs i ≡ Some y) ⊎ ((i ≡ length xs) × (x ≡ y))
+pub at-or-before : {X : Type 0} (xs : List X) (x : X) (i : ℕ) (y : X) → slice_get (xs ++ x ∷ []) i ≡ Some y → (slice_get xs i ≡ Some y)
+    ⊎ ((i ≡ length xs) × (x ≡ y))
 at-or-before [] x zero y e = inr (refl, same_Some x y e)
 at-or-before [] x (suc i) y e = absurd (none-some y e)
 at-or-before (a ∷ xs) x zero y e = inl e
-at-or-before (a ∷ xs) x (suc i) y e = elim (at-or-before xs x i y e) [ inl before ↦ inl before | inr end ↦ inr (ap (λ (k : ℕ). suc k) end.0, end.1) ]
+at-or-before (a ∷ xs) x (suc i) y e = elim (at-or-before xs x i y e)
+    [ inl before ↦ inl before | inr end ↦ inr (ap (λ (k : ℕ). suc k) end.0, end.1) ]
 
 -- what stands in the place of an element
 pub mapped-at : {X Y : Type 0} (f : X → Y) (xs : List X) (k : ℕ) (x : X) → slice_get xs k ≡ Some x → slice_get (map f xs) k ≡ Some (f x)
 mapped-at f xs k x at = slice_get-map f xs k ∙ ap (option_map f) at
 
 -- an element that stands in the place
-pub unmapped-at : {X Y : Type 0} (f : X → Y) (xs : List X) (k : ℕ) (y : Y) → slice_get (map f xs) k ≡ Some y → (x : X) × (slice_get xs k ≡ Some x) × (f x ≡ y)
+pub unmapped-at : {X Y : Type 0} (f : X → Y) (xs : List X) (k : ℕ) (y : Y) → slice_get (map f xs) k ≡ Some y
+    → (x : X) × (slice_get xs k ≡ Some x) × (f x ≡ y)
 unmapped-at f [] k y e = absurd (none-some y e)
 unmapped-at f (x ∷ xs) zero y e = (x, refl, same_Some (f x) y e)
 unmapped-at f (x ∷ xs) (suc k) y e = unmapped-at f xs k y e
@@ -36,12 +39,18 @@ unmapped-at f (x ∷ xs) (suc k) y e = unmapped-at f xs k y e
 -- ---- numbers that are given
 
 -- a thing that has the number
-pub known : {X : Type 0} (things : List X) (thing : X) (number : ℕ) → slice_get things number ≡ Some thing → Interns things thing number things
+pub known : {X : Type 0} (things : List X) (thing : X) (number : ℕ) → slice_get things number ≡ Some thing
+    → Interns things thing number things
 known things thing number at = (at, inl refl)
 
 -- a thing that has the number behind the others
-pub behind : {X : Type 0} (things after : List X) (thing : X) (number : ℕ) → number ≡ length things → after ≡ things ++ thing ∷ [] → (Contains things thing → ⊥) → Interns things thing number after
-behind things after thing number last is absent = (ap (λ xs. slice_get xs number) is ∙ ap (slice_get (things ++ thing ∷ [])) last ∙ at-the-end things thing, inr (is, absent))
+pub behind : {X : Type 0} (things after : List X) (thing : X) (number : ℕ) → number ≡ length things → after ≡ things ++ thing ∷ []
+    → (Contains things thing → ⊥) → Interns things thing number after
+behind things after thing number last is absent = (
+  ap (λ xs. slice_get xs number) is ∙ ap (slice_get (things ++ thing ∷ [])) last
+      ∙ at-the-end things thing,
+  inr (is, absent),
+)
 
 -- ---- what a tree finds
 
@@ -51,7 +60,8 @@ equal-is Equal e = refl
 equal-is Greater e = absurd (true≢false (sym e))
 
 -- what is found stands at a key that passes the test
-pub key-found : {K X : Type 0} (test : K → Bool) (entries : List (K × X)) (x : X) → lookup test entries ≡ Some x → (key : K) × (test key ≡ true)
+pub key-found : {K X : Type 0} (test : K → Bool) (entries : List (K × X)) (x : X) → lookup test entries ≡ Some x
+    → (key : K) × (test key ≡ true)
 key-found test [] x e = absurd (none-some x e)
 key-found {K} {X} test (entry ∷ entries) x e = by (test entry.0) refl (key-found test entries x) where
   by : (b : Bool) → test entry.0 ≡ b → (lookup test entries ≡ Some x → (key : K) × (test key ≡ true)) → (key : K) × (test key ≡ true)
@@ -74,7 +84,8 @@ module _ {K V : Type 0} (view : K → V) (order : V → V → Ordering) (exact :
   }
 
   -- a thing that isn't found isn't there
-  pub is-absent : (things : List V) (numbers : BTreeMap K ℕ) (thing : V) → AreNumbered view order things numbers → number_in numbers thing ≡ None → Contains things thing → ⊥
+  pub is-absent : (things : List V) (numbers : BTreeMap K ℕ) (thing : V) → AreNumbered view order things numbers
+      → number_in numbers thing ≡ None → Contains things thing → ⊥
   is-absent things numbers thing are none there =
       let (k, at) = Contains-at things thing there in
       none-some k (sym none ∙ are.kept thing k at)
@@ -83,28 +94,35 @@ module _ {K V : Type 0} (view : K → V) (order : V → V → Ordering) (exact :
   are-once things numbers are thing number other at at_ = same_Some number other (sym (are.kept thing number at) ∙ are.kept thing other at_)
 
   -- one more thing is found
-  pub one-more : (things : List V) (numbers new : BTreeMap K ℕ) (key : K) → AreNumbered view order things numbers → number_in numbers (view key) ≡ None → Updates (λ (a b : K). order (view a) (view b)) numbers new key (Some (length things))
+  pub one-more : (things : List V) (numbers new : BTreeMap K ℕ) (key : K) → AreNumbered view order things numbers
+      → number_in numbers (view key) ≡ None → Updates (λ (a b : K). order (view a) (view b)) numbers new key (Some (length things))
       → AreNumbered view order (things ++ view key ∷ []) new
   one-more things numbers new key are none updates = record { found = found; kept = kept } where
-    by_test : (other : K) (b : Bool) → is_eq (order (view key) (view other)) ≡ b → number_in new (view other) ≡ cond b (Some (length things)) (number_in numbers (view other))
+    by_test : (other : K) (b : Bool) → is_eq (order (view key) (view other)) ≡ b
+        → number_in new (view other) ≡ cond b (Some (length things)) (number_in numbers (view other))
     by_test other b is = updates.0 other ∙ ap (λ (t : Bool). cond t (Some (length things)) (number_in numbers (view other))) is
 
     same : (other : K) → is_eq (order (view key) (view other)) ≡ true → view key ≡ view other
     same other is = exact (view key) (view other) (equal-is (order (view key) (view other)) is)
 
-    at : (other : K) (number : ℕ) → number_in new (view other) ≡ Some number → (b : Bool) → is_eq (order (view key) (view other)) ≡ b → slice_get (things ++ view key ∷ []) number ≡ Some (view other)
+    at : (other : K) (number : ℕ) → number_in new (view other) ≡ Some number → (b : Bool) → is_eq (order (view key) (view other)) ≡ b
+        → slice_get (things ++ view key ∷ []) number ≡ Some (view other)
     at other number there true is =
         let last : length things ≡ number = same_Some (length things) number (sym (by_test other true is) ∙ there) in
-        subst (λ (n : ℕ). slice_get (things ++ view key ∷ []) n ≡ Some (view other)) last (at-the-end things (view key) ∙ ap (λ (v : V). Some v) (same other is))
-    at other number there false is = at-front things (view key ∷ []) number (view other) (are.found (view other) number (sym (by_test other false is) ∙ there))
+        subst (λ (n : ℕ). slice_get (things ++ view key ∷ []) n ≡ Some (view other)) last
+        (at-the-end things (view key) ∙ ap (λ (v : V). Some v) (same other is))
+    at other number there false is = at-front things (view key ∷ []) number (view other)
+        (are.found (view other) number (sym (by_test other false is) ∙ there))
 
     found : (thing : V) (number : ℕ) → number_in new thing ≡ Some number → slice_get (things ++ view key ∷ []) number ≡ Some thing
     found thing number e =
         let (other, is) = thing-found new thing number e in
         let there : number_in new (view other) ≡ Some number = ap (number_in new) (sym is) ∙ e in
-        subst (λ (v : V). slice_get (things ++ view key ∷ []) number ≡ Some v) (sym is) (at other number there (is_eq (order (view key) (view other))) refl)
+        subst (λ (v : V). slice_get (things ++ view key ∷ []) number ≡ Some v) (sym is)
+        (at other number there (is_eq (order (view key) (view other))) refl)
 
-    stays : (other : K) (number : ℕ) → number_in numbers (view other) ≡ Some number → (b : Bool) → is_eq (order (view key) (view other)) ≡ b → number_in new (view other) ≡ Some number
+    stays : (other : K) (number : ℕ) → number_in numbers (view other) ≡ Some number → (b : Bool) → is_eq (order (view key) (view other)) ≡ b
+        → number_in new (view other) ≡ Some number
     stays other number there true is = absurd (none-some number (sym none ∙ ap (number_in numbers) (same other is) ∙ there))
     stays other number there false is = by_test other false is ∙ there
 

@@ -36,4 +36,5 @@ HaveSets many rows = Each (λ (row : ℕ × ℕ). row.1 < many) rows
 
 -- the memberships of two numbers have the same entities
 abbrev pub HaveOneSet : List Membership → ℕ → ℕ → Type 0
-HaveOneSet all number other = (own : Membership) × (its : Membership) × (slice_get all number ≡ Some own) × (slice_get all other ≡ Some its) × (own.entities ≡ its.entities)
+HaveOneSet all number other = (own : Membership) × (its : Membership) × (slice_get all number ≡ Some own) × (slice_get all other ≡ Some its)
+    × (own.entities ≡ its.entities)

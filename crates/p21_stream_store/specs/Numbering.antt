@@ -10,7 +10,8 @@ pub record AreNumbered {K V : Type 0} (view : K → V) (order : V → V → Orde
 
 -- nothing has two numbers
 abbrev pub AreOnce : {X : Type 0} → List X → Type 0
-AreOnce {X} things = (thing : X) (number other : ℕ) → slice_get things number ≡ Some thing → slice_get things other ≡ Some thing → number ≡ other
+AreOnce {X} things = (thing : X) (number other : ℕ) → slice_get things number ≡ Some thing → slice_get things other ≡ Some thing
+    → number ≡ other
 
 -- A thing has this number; either it had it before, and nothing is new, or it is added behind the others, of which none is it
 abbrev pub Interns : {X : Type 0} → List X → X → ℕ → List X → Type 0

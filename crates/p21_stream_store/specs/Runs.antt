@@ -9,4 +9,5 @@ numbers_by first step (suc count) = first ∷ numbers_by (first + step) step cou
 -- where a number stands first in a list
 abbrev pub place_in : List ℕ → ℕ → Option ℕ
 place_in [] number = None
-place_in (n ∷ numbers) number = elim (eqb n number) [ true ↦ Some 0 | false ↦ option_map (λ (place : ℕ). suc place) (place_in numbers number) ]
+place_in (n ∷ numbers) number = elim (eqb n number)
+    [ true ↦ Some 0 | false ↦ option_map (λ (place : ℕ). suc place) (place_in numbers number) ]

@@ -9,7 +9,8 @@ pub record HeldTexts : Type 0 where
 
 -- where there is a place for one more start and 16 bits hold it: one more than the bytes for which there is room
 abbrev pub room_in : Vec ℕ Global → Vec ℕ Global → ℕ
-room_in starts bytes = elim (vec_capacity starts - vec_len starts) [ zero ↦ 0 | suc more ↦ elim (65536 - vec_len bytes) [ zero ↦ 0 | suc rest ↦ vec_capacity bytes + 1 - vec_len bytes ] ]
+room_in starts bytes = elim (vec_capacity starts - vec_len starts)
+    [ zero ↦ 0 | suc more ↦ elim (65536 - vec_len bytes) [ zero ↦ 0 | suc rest ↦ vec_capacity bytes + 1 - vec_len bytes ] ]
 
 -- the texts that start at these positions of the bytes, each up to where the next one starts
 abbrev pub texts_of : List ℕ → List ℕ → List (List ℕ)

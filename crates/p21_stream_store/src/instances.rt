@@ -106,7 +106,8 @@ impl Instances {
     /// The number of the membership of the instance of this name, if there is one. Where those of all
     /// instances are noted, as mostly, it takes one look.
     pub fn membership_of(&self, name: u64) -> Option<usize>
-        ensures some { IfSome result (λ membership. (text : List ℕ) × Contains self.now (record { name = name; membership = membership; text = text })) }
+        ensures some { IfSome result (λ membership. (text : List ℕ)
+            × Contains self.now (record { name = name; membership = membership; text = text })) }
         ensures none { IsNone result → Contains (instance_names self.now) name → ⊥ }
     {
         if let Some(membership) = noted_membership(&self.noted, name) {
@@ -132,8 +133,10 @@ impl Instances {
     /// The name and the number of the membership of the first instance whose name is this one or above it, if there is one.
     pub fn next_from(&self, least: u64) -> Option<(u64, usize)>
         ensures found { IfSome result (λ found. (least ≤ found.0) × (found.0 < 2 ^ 64)) }
-        ensures some { IfSome result (λ found. (text : List ℕ) × Contains self.now (record { name = found.0; membership = found.1; text = text })) }
-        ensures between { IfSome result (λ found. (other : ℕ) → least ≤ other → other < found.0 → Contains (instance_names self.now) other → ⊥) }
+        ensures some { IfSome result (λ found. (text : List ℕ)
+            × Contains self.now (record { name = found.0; membership = found.1; text = text })) }
+        ensures between { IfSome result (λ found. (other : ℕ) → least ≤ other → other < found.0 → Contains (instance_names self.now) other
+            → ⊥) }
         ensures none { IsNone result → (other : ℕ) → least ≤ other → Contains (instance_names self.now) other → ⊥ }
         ensures fits { (other : ℕ) → Contains (instance_names self.now) other → other < 2 ^ 64 }
     {

@@ -149,8 +149,10 @@ fn next_position(
     others: &BTreeMap<u64, usize>,
     least: u64,
 ) -> Option<(u64, usize)>
-    ensures found { IfSome result (λ found. (least ≤ found.0) × (found.0 < 2 ^ 64) × (position_in run.now marks.now others.now found.0 ≡ Some found.1)) }
-    ensures between { IfSome result (λ found. (other : ℕ) → least ≤ other → other < found.0 → position_in run.now marks.now others.now other ≡ None) }
+    ensures found { IfSome result (λ found. (least ≤ found.0) × (found.0 < 2 ^ 64)
+        × (position_in run.now marks.now others.now found.0 ≡ Some found.1)) }
+    ensures between { IfSome result (λ found. (other : ℕ) → least ≤ other → other < found.0
+        → position_in run.now marks.now others.now other ≡ None) }
     ensures none { IsNone result → (other : ℕ) → least ≤ other → other < 2 ^ 64 → position_in run.now marks.now others.now other ≡ None }
 {
     let Some((name, place)) = run.next_from(least) else {
@@ -172,8 +174,10 @@ fn position_behind(
     others: &BTreeMap<u64, usize>,
     name: u64,
 ) -> Option<(u64, usize)>
-    ensures found { IfSome result (λ found. (name + 1 ≤ found.0) × (found.0 < 2 ^ 64) × (position_in run.now marks.now others.now found.0 ≡ Some found.1)) }
-    ensures between { IfSome result (λ found. (other : ℕ) → name + 1 ≤ other → other < found.0 → position_in run.now marks.now others.now other ≡ None) }
+    ensures found { IfSome result (λ found. (name + 1 ≤ found.0) × (found.0 < 2 ^ 64)
+        × (position_in run.now marks.now others.now found.0 ≡ Some found.1)) }
+    ensures between { IfSome result (λ found. (other : ℕ) → name + 1 ≤ other → other < found.0
+        → position_in run.now marks.now others.now other ≡ None) }
     ensures none { IsNone result → (other : ℕ) → name + 1 ≤ other → other < 2 ^ 64 → position_in run.now marks.now others.now other ≡ None }
 {
     let least = name.checked_add(1)?;
@@ -187,8 +191,10 @@ fn next_beside(
     others: &BTreeMap<u64, usize>,
     least: u64,
 ) -> Option<(u64, usize)>
-    ensures found { IfSome result (λ found. (least ≤ found.0) × (found.0 < 2 ^ 64) × (position_beside marks.now others.now found.0 ≡ Some found.1)) }
-    ensures between { IfSome result (λ found. (other : ℕ) → least ≤ other → other < found.0 → position_beside marks.now others.now other ≡ None) }
+    ensures found { IfSome result (λ found. (least ≤ found.0) × (found.0 < 2 ^ 64)
+        × (position_beside marks.now others.now found.0 ≡ Some found.1)) }
+    ensures between { IfSome result (λ found. (other : ℕ) → least ≤ other → other < found.0
+        → position_beside marks.now others.now other ≡ None) }
     ensures none { IsNone result → (other : ℕ) → least ≤ other → other < 2 ^ 64 → position_beside marks.now others.now other ≡ None }
 {
     let other = first_from(others, least);
@@ -265,7 +271,8 @@ fn add_position(
     place: usize,
 ) -> Result<(), NoMemory>
     requires { position_in run.old marks.old others.old name ≡ None }
-    ensures ok { OnOk result (Changes (position_in run.old marks.old others.old) name (Some place) (position_in run.new marks.new others.new)) }
+    ensures ok { OnOk result (Changes (position_in run.old marks.old others.old) name (Some place)
+        (position_in run.new marks.new others.new)) }
     ensures err { OnErr result (IsSame (position_in run.old marks.old others.old) (position_in run.new marks.new others.new)) }
     ensures room { GrowsWithin (most_names place) marks.old marks.new }
 {
@@ -350,7 +357,8 @@ fn move_names(marks: &mut Pages<u32>, others: &mut BTreeMap<u64, usize>, from: u
 
 /// Marks the position of a name, if its page is there; says whether it is.
 fn mark(marks: &mut Pages<u32>, name: u64, place: usize) -> bool
-    ensures marked { MatchBool result (Changes (position_marked marks.old) name (Some place) (position_marked marks.new)) (marks.new ≡ marks.old) }
+    ensures marked { MatchBool result (Changes (position_marked marks.old) name (Some place) (position_marked marks.new))
+        (marks.new ≡ marks.old) }
     ensures room { KeepsRoom marks.old marks.new }
 {
     if place >= u32::MAX as usize {

@@ -112,7 +112,8 @@ impl NamedLines {
     /// The number of the membership of the instance of this name, if there is one.
     #[inline]
     pub fn membership_of(&self, name: u64) -> Option<usize>
-        ensures some { IfSome result (λ membership. (text : List ℕ) × Contains self.now (record { name = name; membership = membership; text = text })) }
+        ensures some { IfSome result (λ membership. (text : List ℕ)
+            × Contains self.now (record { name = name; membership = membership; text = text })) }
         ensures none { IsNone result → Contains (instance_names self.now) name → ⊥ }
     {
         if !self.may_have(name) {
@@ -124,7 +125,8 @@ impl NamedLines {
     /// The same by the table, without a look at the bits.
     #[inline(never)]
     fn membership_found(&self, name: u64) -> Option<usize>
-        ensures some { IfSome result (λ membership. (text : List ℕ) × Contains self.now (record { name = name; membership = membership; text = text })) }
+        ensures some { IfSome result (λ membership. (text : List ℕ)
+            × Contains self.now (record { name = name; membership = membership; text = text })) }
         ensures none { IsNone result → Contains (instance_names self.now) name → ⊥ }
     {
         match self.names.position_of(name) {

@@ -71,7 +71,8 @@ impl NamedMemberships {
 
     /// The number of the membership of the instance of this name, if there is one. Mostly it is noted.
     pub fn membership_of(&self, name: u64) -> Option<usize>
-        ensures some { IfSome result (λ membership. (text : List ℕ) × Contains self.now (record { name = name; membership = membership; text = text })) }
+        ensures some { IfSome result (λ membership. (text : List ℕ)
+            × Contains self.now (record { name = name; membership = membership; text = text })) }
         ensures none { IsNone result → Contains (instance_names self.now) name → ⊥ }
     {
         if let Some(membership) = noted_membership(&self.noted, name) {
@@ -122,7 +123,9 @@ fn count_noted(
     membership: usize,
     all: usize,
 ) -> Result<bool, NoMemory>
-    ensures noted { IfOk result (λ done. MatchBool done (Changes (position_marked noted.old) name (Some membership) (position_marked noted.new)) (IsSame (position_marked noted.old) (position_marked noted.new))) }
+    ensures noted { IfOk result (λ done. MatchBool done
+        (Changes (position_marked noted.old) name (Some membership) (position_marked noted.new))
+        (IsSame (position_marked noted.old) (position_marked noted.new))) }
     ensures count { IfOk result (λ done. MatchBool done (count.new ≡ count.old + 1) (count.new ≡ count.old)) }
     ensures err { OnErr result (IsSame (position_marked noted.old) (position_marked noted.new) × (count.new ≡ count.old)) }
     ensures room { GrowsWithin (most_names all) noted.old noted.new }

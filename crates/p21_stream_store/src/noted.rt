@@ -41,7 +41,8 @@ pub fn note(
     membership: usize,
     count: usize,
 ) -> Result<bool, NoMemory>
-    ensures ok { IfOk result (λ done. MatchBool done (Changes (position_marked noted.old) name (Some membership) (position_marked noted.new)) (IsSame (position_marked noted.old) (position_marked noted.new))) }
+    ensures ok { IfOk result (λ done. MatchBool done (Changes (position_marked noted.old) name (Some membership)
+        (position_marked noted.new)) (IsSame (position_marked noted.old) (position_marked noted.new))) }
     ensures err { OnErr result (IsSame (position_marked noted.old) (position_marked noted.new)) }
     ensures room { GrowsWithin (most_names count) noted.old noted.new }
 {
@@ -59,7 +60,8 @@ fn note_in_new_page(
     membership: usize,
     count: usize,
 ) -> Result<bool, NoMemory>
-    ensures ok { IfOk result (λ done. MatchBool done (Changes (position_marked noted.old) name (Some membership) (position_marked noted.new)) (IsSame (position_marked noted.old) (position_marked noted.new))) }
+    ensures ok { IfOk result (λ done. MatchBool done (Changes (position_marked noted.old) name (Some membership)
+        (position_marked noted.new)) (IsSame (position_marked noted.old) (position_marked noted.new))) }
     ensures err { OnErr result (IsSame (position_marked noted.old) (position_marked noted.new)) }
     ensures room { GrowsWithin (most_names count) noted.old noted.new }
 {
@@ -89,7 +91,8 @@ pub fn make_place(noted: &mut Pages<u8>, name: u64, count: usize) -> Result<(), 
 /// Notes the membership of a name, if there is a place for it, and the byte holds its number; says whether it did.
 #[inline]
 pub fn note_membership(noted: &mut Pages<u8>, name: u64, membership: usize) -> bool
-    ensures noted { MatchBool result (Changes (position_marked noted.old) name (Some membership) (position_marked noted.new)) (noted.new ≡ noted.old) }
+    ensures noted { MatchBool result (Changes (position_marked noted.old) name (Some membership) (position_marked noted.new))
+        (noted.new ≡ noted.old) }
     ensures room { KeepsRoom noted.old noted.new }
 {
     if membership >= NOTED_MEMBERSHIPS {

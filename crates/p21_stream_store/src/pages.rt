@@ -71,7 +71,8 @@ impl<T: Copy + Drop> Pages<T> {
     pub fn set(&mut self, name: u64, value: T) -> bool
         ensures set { MatchBool result ((none : T) → number_in none self.new.pages.items name ≡ value) (self.new ≡ self.old) }
         ensures absent { result ≡ false → (none : T) → number_in none self.old.pages.items name ≡ none }
-        ensures others { (none : T) → (other : ℕ) → other ≢ name → number_in none self.new.pages.items other ≡ number_in none self.old.pages.items other }
+        ensures others { (none : T) → (other : ℕ) → other ≢ name
+            → number_in none self.new.pages.items other ≡ number_in none self.old.pages.items other }
         ensures room { rooms self.new.pages.items ≡ rooms self.old.pages.items }
         ensures directory { vec_capacity self.new.pages ≡ vec_capacity self.old.pages }
     {
@@ -148,7 +149,8 @@ impl Pages<u32> {
 
 /// The first index of a page from this one on at which the number isn't 0, and that number.
 fn next_in(page: &[u32], from: usize) -> Option<(usize, u32)>
-    ensures found { IfSome result (λ found. (from ≤ found.0) × (found.0 < 4096) × (found.1 ≡ slice_index_or page.now found.0 0) × (found.1 ≡ 0 → ⊥)) }
+    ensures found { IfSome result (λ found. (from ≤ found.0) × (found.0 < 4096) × (found.1 ≡ slice_index_or page.now found.0 0)
+        × (found.1 ≡ 0 → ⊥)) }
     ensures between { IfSome result (λ found. (i : ℕ) → from ≤ i → i < found.0 → slice_index_or page.now i 0 ≡ 0) }
     ensures none { IsNone result → (i : ℕ) → from ≤ i → i < 4096 → slice_index_or page.now i 0 ≡ 0 }
 {

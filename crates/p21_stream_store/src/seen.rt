@@ -78,7 +78,8 @@ fn set_bit(words: &mut Vec<u64>, index: usize, bit: u64)
     requires word { index < length words.old.items }
     requires bit { bit < 64 }
     ensures set { bit_at (slice_index_or words.new.items index 0) bit ≡ 1 }
-    ensures bits { (other : ℕ) → bit_at (slice_index_or words.old.items index 0) other ≡ 1 → bit_at (slice_index_or words.new.items index 0) other ≡ 1 }
+    ensures bits { (other : ℕ) → bit_at (slice_index_or words.old.items index 0) other ≡ 1
+        → bit_at (slice_index_or words.new.items index 0) other ≡ 1 }
     ensures words { (other : ℕ) → other ≢ index → slice_index_or words.new.items other 0 ≡ slice_index_or words.old.items other 0 }
     ensures room { vec_capacity words.new ≡ vec_capacity words.old }
 {

@@ -23,9 +23,11 @@ fn make_place(starts: &mut Vec<u16>, bytes: &mut Vec<u8>, size: usize) -> Result
     ensures bytes { bytes.new.items ≡ bytes.old.items }
     ensures place { OnOk result (vec_len starts.new < vec_capacity starts.new) }
     ensures room { OnOk result (vec_len bytes.new + size ≤ vec_capacity bytes.new) }
-    ensures full { 0 < vec_len starts.old → vec_len bytes.old + size ≤ vec_capacity bytes.old → OnErr result (vec_capacity starts.old ≤ vec_len starts.old) }
+    ensures full { 0 < vec_len starts.old → vec_len bytes.old + size ≤ vec_capacity bytes.old
+        → OnErr result (vec_capacity starts.old ≤ vec_len starts.old) }
     ensures kept_starts { vec_len starts.old < vec_capacity starts.old → vec_capacity starts.new ≡ vec_capacity starts.old }
-    ensures kept_bytes { 0 < vec_len starts.old → vec_len bytes.old + size ≤ vec_capacity bytes.old → vec_capacity bytes.new ≡ vec_capacity bytes.old }
+    ensures kept_bytes { 0 < vec_len starts.old → vec_len bytes.old + size ≤ vec_capacity bytes.old
+        → vec_capacity bytes.new ≡ vec_capacity bytes.old }
     ensures most_starts { (m : ℕ) → vec_capacity starts.old ≤ m → 32 ≤ m → 2 * vec_len starts.old ≤ m → vec_capacity starts.new ≤ m }
     ensures most_bytes { vec_capacity bytes.new ≤ max (vec_capacity bytes.old) (vec_len bytes.old + max 65536 size) }
 {

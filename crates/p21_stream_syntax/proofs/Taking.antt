@@ -41,7 +41,14 @@ keeps-nothing = record {
   schema = record { each_names = λ part chars among is. absurd (Contains-none part among); one_names = inl refl };
   sections_are = refl;
   sections = record { of_schema = tt; names_differ = tt };
-  instances = record { names_are = λ n. (λ among. among, λ among. among); as_many = refl; names_differ = tt; are_references = tt; others_given = tt };
+  instances = record {
+    names_are = λ n. (λ among. among, λ among. among);
+    as_many = refl;
+    names_differ = tt;
+    are_references =
+        tt;
+    others_given = tt;
+  };
   keywords = none-counted;
 }
 
@@ -69,8 +76,10 @@ stands-part (header q ∷ sts) p among = elim (Contains-cases (header q) sts (he
   | inl same ↦ (let own : q ≡ p = cc in subst (λ (x : Part). Contains (q ∷ parts_among sts) x) own (Contains-first q (parts_among sts)))
   | inr far ↦ Contains-later q (parts_among sts) p (stands-part sts p far)
 ]
-stands-part (section line ∷ sts) p among = elim (Contains-cases (section line) sts (header p) among) [ inl same ↦ cc | inr far ↦ stands-part sts p far ]
-stands-part (instance n r ∷ sts) p among = elim (Contains-cases (instance n r) sts (header p) among) [ inl same ↦ cc | inr far ↦ stands-part sts p far ]
+stands-part (section line ∷ sts) p among = elim (Contains-cases (section line) sts (header p) among)
+    [ inl same ↦ cc | inr far ↦ stands-part sts p far ]
+stands-part (instance n r ∷ sts) p among = elim (Contains-cases (instance n r) sts (header p) among)
+    [ inl same ↦ cc | inr far ↦ stands-part sts p far ]
 
 last-stands : (given : List Statement) (st : Statement) → Contains (given ++ st ∷ []) st
 last-stands given st = Contains-append_right given (st ∷ []) st (Contains-first st [])
@@ -80,17 +89,22 @@ pub names-some : (chars : List ℕ) → BeginsWithName chars → NamesSchema cha
 names-some [] begins names = begins
 names-some (c ∷ chars) begins names = none names.prefix names.rest names.chars_are names.longest names.name_is
   where
-    none : (prefix rest : List ℕ) → c ∷ chars ≡ prefix ++ rest → ((char : ℕ) (more : List ℕ) → rest ≡ char ∷ more → IsIdentifierByte char → ⊥) → map upper prefix ≡ [] → ⊥
+    none : (prefix rest : List ℕ) → c ∷ chars ≡ prefix ++ rest
+        → ((char : ℕ) (more : List ℕ) → rest ≡ char ∷ more → IsIdentifierByte char → ⊥) → map upper prefix ≡ [] → ⊥
     none [] rest same stops name = stops c chars (sym same) (inl begins)
     none (p ∷ prefix) rest same stops name = cc
 
 -- ---- section lines
 
 -- all that isn't of sections stays
-keeps-section : (given : List Statement) (old : Kept) (line : SectionLine) (sections : List Heading) → Keeps given old → headings_among (given ++ section line ∷ []) ≡ sections → AreSections old.schema sections → Keeps (given ++ section line ∷ []) (record old { sections = sections })
+keeps-section : (given : List Statement) (old : Kept) (line : SectionLine) (sections : List Heading) → Keeps given old
+    → headings_among (given ++ section line ∷ []) ≡ sections → AreSections old.schema sections
+    → Keeps (given ++ section line ∷ []) (record old { sections = sections })
 keeps-section given old line sections keeps same are =
-    let parts : parts_among given ≡ parts_among (given ++ section line ∷ []) = sym (parts-append given (section line ∷ []) ∙ append-nil (parts_among given)) in
-    let instances : instances_among given ≡ instances_among (given ++ section line ∷ []) = sym (instances-append given (section line ∷ []) ∙ append-nil (instances_among given)) in
+    let parts : parts_among given ≡ parts_among (given ++ section line ∷ []) =
+    sym (parts-append given (section line ∷ []) ∙ append-nil (parts_among given)) in
+    let instances : instances_among given ≡ instances_among (given ++ section line ∷ []) =
+    sym (instances-append given (section line ∷ []) ∙ append-nil (instances_among given)) in
     record {
       header_is = keeps.header_is ∙ parts;
       schema = subst (λ (ps : List Part). IsSchemaOf ps old.schema) parts keeps.schema;
@@ -101,21 +115,32 @@ keeps-section given old line sections keeps same are =
     }
 
 -- a line that begins no section
-took-other : (old : Kept) (line : SectionLine) → headings_among (section line ∷ []) ≡ [] → (given : List Statement) → Keeps given old → Keeps (given ++ section line ∷ []) old
+took-other : (old : Kept) (line : SectionLine) → headings_among (section line ∷ []) ≡ [] → (given : List Statement) → Keeps given old
+    → Keeps (given ++ section line ∷ []) old
 took-other old line none given keeps =
-    let same : headings_among (given ++ section line ∷ []) ≡ old.sections = headings-append given (section line ∷ []) ∙ ap (λ (hs : List Heading). headings_among given ++ hs) none ∙ append-nil (headings_among given) ∙ sym keeps.sections_are in
+    let same : headings_among (given ++ section line ∷ []) ≡ old.sections = headings-append given (section line ∷ [])
+    ∙ ap (λ (hs : List Heading). headings_among given ++ hs) none ∙ append-nil (headings_among given) ∙ sym keeps.sections_are in
     keeps-section given old line old.sections keeps same (subst (AreSections old.schema) (sym keeps.sections_are) keeps.sections)
 
 -- a section without a name
-took-unnamed : (old : Kept) (given : List Statement) → Keeps given old → Keeps (given ++ section (data_start unnamed) ∷ []) (record old { sections = old.sections ++ unnamed ∷ [] })
+took-unnamed : (old : Kept) (given : List Statement) → Keeps given old
+    → Keeps (given ++ section (data_start unnamed) ∷ []) (record old { sections = old.sections ++ unnamed ∷ [] })
 took-unnamed old given keeps =
-    let same : headings_among (given ++ section (data_start unnamed) ∷ []) ≡ old.sections ++ unnamed ∷ [] = headings-append given (section (data_start unnamed) ∷ []) ∙ ap (λ (hs : List Heading). hs ++ unnamed ∷ []) (sym keeps.sections_are) in
+    let same : headings_among (given ++ section (data_start unnamed) ∷ []) ≡ old.sections ++ unnamed ∷ [] =
+    headings-append given (section (data_start unnamed) ∷ [])
+    ∙ ap (λ (hs : List Heading). hs ++ unnamed ∷ []) (sym keeps.sections_are) in
     let are : AreSections old.schema old.sections = subst (AreSections old.schema) (sym keeps.sections_are) keeps.sections in
-    let names : section_names old.sections ≡ section_names (old.sections ++ unnamed ∷ []) = sym (flat_map-append heading_names old.sections (unnamed ∷ []) ∙ append-nil (section_names old.sections)) in
+    let names : section_names old.sections ≡ section_names (old.sections ++ unnamed ∷ []) =
+    sym (flat_map-append heading_names old.sections (unnamed ∷ []) ∙ append-nil (section_names old.sections)) in
     keeps-section given old (data_start unnamed) (old.sections ++ unnamed ∷ []) keeps same
-    (record { of_schema = Each-append (IsOfSchema old.schema) old.sections (unnamed ∷ []) are.of_schema (tt, tt); names_differ = subst (IsDistinct bytes_eq) names are.names_differ })
+    (record {
+      of_schema = Each-append (IsOfSchema old.schema) old.sections (unnamed ∷ []) are.of_schema (tt, tt);
+      names_differ =
+          subst (IsDistinct bytes_eq) names are.names_differ;
+    })
 
-pub took-line : (old : Kept) (l : Line) → Takes old (section (line_of l)) (Ok tt) (record old { sections = headings_behind old.sections (line_of l) })
+pub took-line : (old : Kept) (l : Line) → Takes old (section (line_of l)) (Ok tt)
+    (record old { sections = headings_behind old.sections (line_of l) })
 took-line old Begin given keeps = took-other old begin refl given keeps
 took-line old HeaderStart given keeps = took-other old header_start refl given keeps
 took-line old SectionEnd given keeps = took-other old section_end refl given keeps
@@ -123,20 +148,28 @@ took-line old DataStart given keeps = took-unnamed old given keeps
 took-line old Finish given keeps = took-other old finish refl given keeps
 
 -- a section with a name
-pub took-heading : (old : Kept) (name text : List ℕ) → old.schema ≢ [] → NamesSchema text old.schema → ¬ Contains (section_names old.sections) name → Takes old (section (data_start (named name text))) (Ok tt) (record old { sections = old.sections ++ named name text ∷ [] })
+pub took-heading : (old : Kept) (name text : List ℕ) → old.schema ≢ [] → NamesSchema text old.schema
+    → ¬ Contains (section_names old.sections) name → Takes old (section (data_start (named name text))) (Ok tt)
+    (record old { sections = old.sections ++ named name text ∷ [] })
 took-heading old name text some names another given keeps =
     let heading : Heading = named name text in
-    let same : headings_among (given ++ section (data_start heading) ∷ []) ≡ old.sections ++ heading ∷ [] = headings-append given (section (data_start heading) ∷ []) ∙ ap (λ (hs : List Heading). hs ++ heading ∷ []) (sym keeps.sections_are) in
+    let same : headings_among (given ++ section (data_start heading) ∷ []) ≡ old.sections ++ heading ∷ [] =
+    headings-append given (section (data_start heading) ∷ [])
+    ∙ ap (λ (hs : List Heading). hs ++ heading ∷ []) (sym keeps.sections_are) in
     let are : AreSections old.schema old.sections = subst (AreSections old.schema) (sym keeps.sections_are) keeps.sections in
-    let behind : section_names old.sections ++ name ∷ [] ≡ section_names (old.sections ++ heading ∷ []) = sym (flat_map-append heading_names old.sections (heading ∷ [])) in
+    let behind : section_names old.sections ++ name ∷ [] ≡ section_names (old.sections ++ heading ∷ []) =
+    sym (flat_map-append heading_names old.sections (heading ∷ [])) in
     keeps-section given old (data_start heading) (old.sections ++ heading ∷ []) keeps same
     (record {
       of_schema = Each-append (IsOfSchema old.schema) old.sections (heading ∷ []) are.of_schema ((some, names), tt);
-      names_differ = none_twice-texts (section_names (old.sections ++ heading ∷ [])) (subst NoneTwice behind (NoneTwice-more (section_names old.sections) name (texts-none_twice (section_names old.sections) are.names_differ) another));
+      names_differ = none_twice-texts (section_names (old.sections ++ heading ∷ []))
+          (subst NoneTwice behind (NoneTwice-more (section_names old.sections) name
+          (texts-none_twice (section_names old.sections) are.names_differ) another));
     })
 
 -- it names another schema, or stands in front of the FILE_SCHEMA
-pub other-heading : (old new : Kept) (name text : List ℕ) → ¬ ((old.schema ≢ []) × NamesSchema text old.schema) → Takes old (section (data_start (named name text))) (Err SchemaName) new
+pub other-heading : (old new : Kept) (name text : List ℕ) → ¬ ((old.schema ≢ []) × NamesSchema text old.schema)
+    → Takes old (section (data_start (named name text))) (Err SchemaName) new
 other-heading old new name text why other given keeps limits bytes taken =
     let heading : Heading = named name text in
     let each = keeps.schema.each_names in
@@ -147,23 +180,31 @@ other-heading old new name text why other given keeps limits bytes taken =
       | inr found ↦ (
           let (part, chars, among, is, names) = found in
           let begins = (each part chars among is).0 in
-          other-section limits bytes (given ++ section (data_start heading) ∷ []) taken part chars old.schema (Contains-append_left given (section (data_start heading) ∷ []) (header part) (part-stands given part among)) is names heading (last-stands given (section (data_start heading)))
+          other-section limits bytes (given ++ section (data_start heading) ∷ []) taken part chars old.schema
+          (Contains-append_left given (section (data_start heading) ∷ []) (header part) (part-stands given part among)) is names heading
+          (last-stands given (section (data_start heading)))
           (λ own. why ((λ empty. names-some chars begins (subst (NamesSchema chars) empty names)), own)))
     ]
 
 -- its name is that of one before it
-pub heading-again : (old new : Kept) (name text : List ℕ) → Contains (section_names old.sections) name → Takes old (section (data_start (named name text))) (Err SectionTwice) new
+pub heading-again : (old new : Kept) (name text : List ℕ) → Contains (section_names old.sections) name
+    → Takes old (section (data_start (named name text))) (Err SectionTwice) new
 heading-again old new name text had other given keeps limits bytes taken =
-    section-again limits bytes given name text taken (subst (λ (hs : List Heading). Contains (section_names hs) name) keeps.sections_are had)
+    section-again limits bytes given name text taken (subst (λ (hs : List Heading). Contains (section_names hs) name) keeps.sections_are
+    had)
 
 -- ---- header records
 
 -- all that isn't of the header stays
-keeps-header : (given : List Statement) (old : Kept) (part : Part) (schema : List ℕ) → Keeps given old → IsSchemaOf (parts_among given ++ part ∷ []) schema → AreSections schema (headings_among given) → Keeps (given ++ header part ∷ []) (record old { header = old.header ++ part ∷ []; schema = schema })
+keeps-header : (given : List Statement) (old : Kept) (part : Part) (schema : List ℕ) → Keeps given old
+    → IsSchemaOf (parts_among given ++ part ∷ []) schema → AreSections schema (headings_among given)
+    → Keeps (given ++ header part ∷ []) (record old { header = old.header ++ part ∷ []; schema = schema })
 keeps-header given old part schema keeps is are =
     let parts : parts_among given ++ part ∷ [] ≡ parts_among (given ++ header part ∷ []) = sym (parts-append given (header part ∷ [])) in
-    let headings : headings_among given ≡ headings_among (given ++ header part ∷ []) = sym (headings-append given (header part ∷ []) ∙ append-nil (headings_among given)) in
-    let instances : instances_among given ≡ instances_among (given ++ header part ∷ []) = sym (instances-append given (header part ∷ []) ∙ append-nil (instances_among given)) in
+    let headings : headings_among given ≡ headings_among (given ++ header part ∷ []) =
+    sym (headings-append given (header part ∷ []) ∙ append-nil (headings_among given)) in
+    let instances : instances_among given ≡ instances_among (given ++ header part ∷ []) =
+    sym (instances-append given (header part ∷ []) ∙ append-nil (instances_among given)) in
     record {
       header_is = ap (λ (ps : List Part). ps ++ part ∷ []) keeps.header_is ∙ parts;
       schema = subst (λ (ps : List Part). IsSchemaOf ps schema) parts is;
@@ -173,15 +214,30 @@ keeps-header given old part schema keeps is are =
       keywords = subst (λ (is : List (ℕ × Record)). AreCounts (keywords_of is) old.counts) instances keeps.keywords;
     }
 
-took-header : (old : Kept) (part : Part) → ((chars : List ℕ) → IsFileSchema part chars → ⊥) → Takes old (header part) (Ok tt) (record old { header = old.header ++ part ∷ [] })
+took-header : (old : Kept) (part : Part) → ((chars : List ℕ) → IsFileSchema part chars → ⊥)
+    → Takes old (header part) (Ok tt) (record old { header = old.header ++ part ∷ [] })
 took-header old part other given keeps =
     keeps-header given old part old.schema keeps
     (record {
       each_names = λ p chars among is. elim (Contains-append_cases (parts_among given) (part ∷ []) p among) [
         | inl before ↦ keeps.schema.each_names p chars before is
-        | inr last ↦ elim (Contains-cases part [] p last) [ inl same ↦ absurd (other chars (subst (λ (x : Part). IsFileSchema x chars) (sym same) is)) | inr none ↦ absurd (Contains-none p none) ]
+        | inr last ↦ elim (Contains-cases part [] p last) [
+          | inl same ↦ absurd
+              (other chars (subst (λ (x : Part). IsFileSchema x chars) (sym same) is))
+          | inr none ↦ absurd (Contains-none p none)
+        ]
       ];
-      one_names = elim keeps.schema.one_names [ inl none ↦ inl none | inr found ↦ (let (p, chars, among, is, names) = found in inr (p, chars, Contains-append_left (parts_among given) (part ∷ []) p among, is, names)) ];
+      one_names = elim keeps.schema.one_names [
+        | inl none ↦ inl none
+        | inr found ↦
+            (let (p, chars, among, is, names) = found in inr (
+              p,
+              chars,
+              Contains-append_left (parts_among given) (part ∷ []) p among,
+              is,
+              names,
+            ))
+      ];
     })
     keeps.sections
 
@@ -194,15 +250,24 @@ of-any_schema : (schema : List ℕ) (h : Heading) → IsOfSchema [] h → IsOfSc
 of-any_schema schema unnamed of = tt
 of-any_schema schema (named name text) of = absurd (of.0 refl)
 
-took-schema : (old : Kept) (part : Part) (chars schema : List ℕ) → IsFileSchema part chars → BeginsWithName chars → NamesSchema chars schema → (old.schema ≡ []) ⊎ (schema ≡ old.schema) → Takes old (header part) (Ok tt) (record old { header = old.header ++ part ∷ []; schema = schema })
+took-schema : (old : Kept) (part : Part) (chars schema : List ℕ) → IsFileSchema part chars → BeginsWithName chars → NamesSchema chars schema
+    → (old.schema ≡ []) ⊎ (schema ≡ old.schema) → Takes old (header part) (Ok tt)
+    (record old { header = old.header ++ part ∷ []; schema = schema })
 took-schema old part chars schema file_schema begins names way given keeps =
     let before : (p : Part) (cs : List ℕ) → Contains (parts_among given) p → IsFileSchema p cs → BeginsWithName cs × NamesSchema cs schema =
     λ p cs among is.
-    let (first, own) = keeps.schema.each_names p cs among is in
-    (first, elim way [ inl none ↦ absurd (names-some cs first (subst (NamesSchema cs) none own)) | inr same ↦ subst (NamesSchema cs) (sym same) own ]) in
+    let (first, own) = keeps.schema.each_names p cs among is in (
+      first,
+      elim way [
+        | inl none ↦ absurd (names-some cs first (subst (NamesSchema cs) none own))
+        | inr same ↦ subst (NamesSchema cs)
+            (sym same) own
+      ],
+    ) in
     let are : AreSections schema (headings_among given) = record {
       of_schema = elim way [
-        | inl none ↦ Each-weaker (IsOfSchema []) (IsOfSchema schema) (of-any_schema schema) (headings_among given) (subst (λ (s : List ℕ). Each (IsOfSchema s) (headings_among given)) none keeps.sections.of_schema)
+        | inl none ↦ Each-weaker (IsOfSchema []) (IsOfSchema schema) (of-any_schema schema) (headings_among given)
+            (subst (λ (s : List ℕ). Each (IsOfSchema s) (headings_among given)) none keeps.sections.of_schema)
         | inr same ↦ subst (λ (s : List ℕ). Each (IsOfSchema s) (headings_among given)) (sym same) keeps.sections.of_schema
       ];
       names_differ = keeps.sections.names_differ;
@@ -212,16 +277,25 @@ took-schema old part chars schema file_schema begins names way given keeps =
       each_names = λ p cs among is. elim (Contains-append_cases (parts_among given) (part ∷ []) p among) [
         | inl at ↦ before p cs at is
         | inr last ↦ elim (Contains-cases part [] p last) [
-          | inl same ↦ (let text : chars ≡ cs = one-text part chars cs file_schema (subst (λ (x : Part). IsFileSchema x cs) (sym same) is) in (subst BeginsWithName text begins, subst (λ (c : List ℕ). NamesSchema c schema) text names))
+          | inl same ↦ (let text : chars ≡ cs = one-text part chars cs file_schema
+              (subst (λ (x : Part). IsFileSchema x cs) (sym same) is) in
+              (subst BeginsWithName text begins, subst (λ (c : List ℕ). NamesSchema c schema) text names))
           | inr none ↦ absurd (Contains-none p none)
         ]
       ];
-      one_names = inr (part, chars, Contains-append_right (parts_among given) (part ∷ []) part (Contains-first part []), file_schema, names);
+      one_names = inr (
+        part,
+        chars,
+        Contains-append_right (parts_among given) (part ∷ []) part (Contains-first part []),
+        file_schema,
+        names,
+      );
     })
     are
 
 -- it begins with no name, or names another schema than one before it
-other-schema : (old new : Kept) (part : Part) (chars schema : List ℕ) (fault : Fault) → IsFileSchema part chars → TakesSchema old.schema chars (Err fault) schema → Takes old (header part) (Err fault) new
+other-schema : (old new : Kept) (part : Part) (chars schema : List ℕ) (fault : Fault) → IsFileSchema part chars
+    → TakesSchema old.schema chars (Err fault) schema → Takes old (header part) (Err fault) new
 other-schema old new part chars schema fault file_schema why other given keeps limits bytes taken =
     let all : List Statement = given ++ header part ∷ [] in
     elim (why other) [
@@ -230,22 +304,28 @@ other-schema old new part chars schema fault file_schema why other given keeps l
         | inl empty ↦ absurd (another.0 empty)
         | inr found ↦ (
             let (p, cs, among, is, names) = found in
-            other-name limits bytes all taken p part cs chars old.schema (Contains-append_left given (header part ∷ []) (header p) (part-stands given p among)) is names (last-stands given (header part)) file_schema another.1)
+            other-name limits bytes all taken p part cs chars old.schema
+            (Contains-append_left given (header part ∷ []) (header p) (part-stands given p among)) is names
+            (last-stands given (header part)) file_schema another.1)
       ]
     ]
 
-pub takes-text : (old : List ℕ) (part : Part) (chars : List ℕ) (result : Result (Unit {0}) Fault) (new : List ℕ) → IsFileSchema part chars → TakesSchema old chars result new → TakesPart old part result new
+pub takes-text : (old : List ℕ) (part : Part) (chars : List ℕ) (result : Result (Unit {0}) Fault) (new : List ℕ) → IsFileSchema part chars
+    → TakesSchema old chars result new → TakesPart old part result new
 takes-text old part chars (Ok done) new is gives = inl (chars, is, gives)
 takes-text old part chars (Err fault) new is gives = (chars, is, gives)
 
 -- a header record, by what it gives of the schema
-pub took-part : (old : Kept) (part : Part) (schema : List ℕ) → TakesPart old.schema part (Ok tt) schema → Takes old (header part) (Ok tt) (record old { header = old.header ++ part ∷ []; schema = schema })
+pub took-part : (old : Kept) (part : Part) (schema : List ℕ) → TakesPart old.schema part (Ok tt) schema
+    → Takes old (header part) (Ok tt) (record old { header = old.header ++ part ∷ []; schema = schema })
 took-part old part schema gives = elim gives [
   | inl (chars, is, named_) ↦ took-schema old part chars schema is named_.0 named_.1 named_.2
-  | inr (none, same) ↦ subst (λ (s : List ℕ). Takes old (header part) (Ok tt) (record old { header = old.header ++ part ∷ []; schema = s })) (sym same) (took-header old part none)
+  | inr (none, same) ↦ subst (λ (s : List ℕ). Takes old (header part) (Ok tt) (record old { header = old.header ++ part ∷ []; schema = s }))
+      (sym same) (took-header old part none)
 ]
 
-pub refused-part : (old new : Kept) (part : Part) (schema : List ℕ) (fault : Fault) → TakesPart old.schema part (Err fault) schema → Takes old (header part) (Err fault) new
+pub refused-part : (old new : Kept) (part : Part) (schema : List ℕ) (fault : Fault) → TakesPart old.schema part (Err fault) schema
+    → Takes old (header part) (Err fault) new
 refused-part old new part schema fault gives = other-schema old new part gives.0 schema fault gives.1 gives.2
 
 -- ---- instances
@@ -254,7 +334,9 @@ refused-part old new part schema fault gives = other-schema old new part gives.0
 abbrev Served : List (ℕ × Record) → List ℕ → ℕ → Type 0
 Served instances waiting m = Contains waiting m ⊎ Contains (names_of instances) m
 
-module _ (old : Kept) (n : ℕ) (r : Record) (names targets added : List ℕ) (counts : List (List ℕ × ℕ)) (names_are : (m : ℕ) → Contains names m ↔ ((n ≡ m) ⊎ Contains old.names m)) (as_many : length names ≡ length old.names + 1) (another : ¬ Contains old.names n)
+module _ (old : Kept) (n : ℕ) (r : Record) (names targets added : List ℕ) (counts : List (List ℕ × ℕ))
+    (names_are : (m : ℕ) → Contains names m ↔ ((n ≡ m) ⊎ Contains old.names m)) (as_many : length names ≡ length old.names + 1)
+    (another : ¬ Contains old.names n)
     (adds : Adds names (record_references r) old.targets added) (drops : Drops names added targets)
     (counted : (words : List (List ℕ)) → AreCounts words old.counts → AreCounts (words ++ record_keywords r) counts) where
   module _ (instances : List (ℕ × Record)) (are : AreInstances instances old.names old.targets) where
@@ -266,7 +348,8 @@ module _ (old : Kept) (n : ℕ) (r : Record) (names targets added : List ℕ) (c
     names-behind = map-append (λ (i : ℕ × Record). i.0) instances ((n, r) ∷ [])
 
     references-behind : references_of all ≡ references_of instances ++ record_references r
-    references-behind = flat_map-append (λ (i : ℕ × Record). record_references i.1) instances ((n, r) ∷ []) ∙ ap (λ (l : List ℕ). references_of instances ++ l) (append-nil (record_references r))
+    references-behind = flat_map-append (λ (i : ℕ × Record). record_references i.1) instances ((n, r) ∷ [])
+        ∙ ap (λ (l : List ℕ). references_of instances ++ l) (append-nil (record_references r))
 
     to-all : (m : ℕ) → Contains names m → Contains (names_of all) m
     to-all m among = subst (λ (l : List ℕ). Contains l m) (sym names-behind) (elim ((names_are m).0 among) [
@@ -275,21 +358,24 @@ module _ (old : Kept) (n : ℕ) (r : Record) (names targets added : List ℕ) (c
     ])
 
     from-all : (m : ℕ) → Contains (names_of all) m → Contains names m
-    from-all m among = (names_are m).1 (elim (Contains-append_cases (names_of instances) (n ∷ []) m (subst (λ (l : List ℕ). Contains l m) names-behind among)) [
-      | inl before ↦ inr ((are.names_are m).1 before)
-      | inr last ↦ elim (Contains-cases n [] m last) [ inl same ↦ inl same | inr none ↦ absurd (Contains-none m none) ]
-    ])
+    from-all m among = (names_are m).1 (elim (Contains-append_cases (names_of instances) (n ∷ []) m
+        (subst (λ (l : List ℕ). Contains l m) names-behind among)) [
+          | inl before ↦ inr ((are.names_are m).1 before)
+          | inr last ↦ elim (Contains-cases n [] m last) [ inl same ↦ inl same | inr none ↦ absurd (Contains-none m none) ]
+        ])
 
     dropped : (m : ℕ) → Served all added m → Served all targets m
     dropped m served = elim served [
-      | inl among ↦ elim (Each-member (λ (k : ℕ). Contains targets k ⊎ Contains names k) added m drops.others_given among) [ inl left ↦ inl left | inr given ↦ inr (to-all m given) ]
+      | inl among ↦ elim (Each-member (λ (k : ℕ). Contains targets k ⊎ Contains names k) added m drops.others_given among)
+          [ inl left ↦ inl left | inr given ↦ inr (to-all m given) ]
       | inr given ↦ inr given
     ]
 
     old-served : (m : ℕ) → Contains old.targets m ⊎ Contains (names_of instances) m → Served all added m
     old-served m served = elim served [
       | inl among ↦ inl (subst (λ (l : List ℕ). Contains l m) (sym adds.new_is) (Contains-append_left old.targets adds.more m among))
-      | inr given ↦ inr (subst (λ (l : List ℕ). Contains l m) (sym names-behind) (Contains-append_left (names_of instances) (n ∷ []) m given))
+      | inr given ↦ inr (subst (λ (l : List ℕ). Contains l m) (sym names-behind)
+          (Contains-append_left (names_of instances) (n ∷ []) m given))
     ]
 
     new-served : (m : ℕ) → Contains adds.more m ⊎ Contains names m → Served all added m
@@ -301,38 +387,56 @@ module _ (old : Kept) (n : ℕ) (r : Record) (names targets added : List ℕ) (c
     added-references : Each (Contains (references_of all)) added
     added-references = subst (Each (Contains (references_of all))) (sym adds.new_is)
         (Each-append (Contains (references_of all)) old.targets adds.more
-        (Each-weaker (Contains (references_of instances)) (Contains (references_of all)) (λ m among. subst (λ (l : List ℕ). Contains l m) (sym references-behind) (Contains-append_left (references_of instances) (record_references r) m among)) old.targets are.are_references)
-        (Each-weaker (Contains (record_references r)) (Contains (references_of all)) (λ m among. subst (λ (l : List ℕ). Contains l m) (sym references-behind) (Contains-append_right (references_of instances) (record_references r) m among)) adds.more adds.are_added))
+        (Each-weaker (Contains (references_of instances)) (Contains (references_of all))
+        (λ m among. subst (λ (l : List ℕ). Contains l m) (sym references-behind)
+        (Contains-append_left (references_of instances) (record_references r) m among)) old.targets are.are_references)
+        (Each-weaker (Contains (record_references r)) (Contains (references_of all))
+        (λ m among. subst (λ (l : List ℕ). Contains l m) (sym references-behind)
+        (Contains-append_right (references_of instances) (record_references r) m among)) adds.more adds.are_added))
 
     all-are : AreInstances all names targets
     all-are = record {
       names_are = λ m. (to-all m, from-all m);
       as_many = (let before = are.as_many in let size = length-append instances ((n, r) ∷ []) in omega (arith, as_many, before, size));
-      names_differ = none_twice-distinct (names_of all) (subst NoneTwice (sym names-behind) (NoneTwice-more (names_of instances) n (distinct-none_twice (names_of instances) are.names_differ) (λ among. another ((are.names_are n).1 among))));
-      are_references = Each-weaker (Contains added) (Contains (references_of all)) (λ m among. Each-member (Contains (references_of all)) added m added-references among) targets drops.are_old;
-      others_given = subst (Each (Served all targets)) (sym references-behind) (Each-append (Served all targets) (references_of instances) (record_references r)
-          (Each-weaker (λ (m : ℕ). Contains old.targets m ⊎ Contains (names_of instances) m) (Served all targets) (λ m served. dropped m (old-served m served)) (references_of instances) are.others_given)
-          (Each-weaker (λ (m : ℕ). Contains adds.more m ⊎ Contains names m) (Served all targets) (λ m served. dropped m (new-served m served)) (record_references r) adds.others_given));
+      names_differ = none_twice-distinct (names_of all) (subst NoneTwice (sym names-behind)
+          (NoneTwice-more (names_of instances) n (distinct-none_twice (names_of instances) are.names_differ)
+          (λ among. another ((are.names_are n).1 among))));
+      are_references = Each-weaker (Contains added) (Contains (references_of all))
+          (λ m among. Each-member (Contains (references_of all)) added m added-references among) targets drops.are_old;
+      others_given = subst (Each (Served all targets)) (sym references-behind)
+          (Each-append (Served all targets) (references_of instances) (record_references r)
+          (Each-weaker (λ (m : ℕ). Contains old.targets m ⊎ Contains (names_of instances) m) (Served all targets)
+          (λ m served. dropped m (old-served m served)) (references_of instances) are.others_given)
+          (Each-weaker (λ (m : ℕ). Contains adds.more m ⊎ Contains names m) (Served all targets)
+          (λ m served. dropped m (new-served m served)) (record_references r) adds.others_given));
     }
 
     all-counted : AreCounts (keywords_of instances) old.counts → AreCounts (keywords_of all) counts
     all-counted before =
-        let behind : keywords_of all ≡ keywords_of instances ++ record_keywords r = flat_map-append (λ (i : ℕ × Record). record_keywords i.1) instances ((n, r) ∷ []) ∙ ap (λ (l : List (List ℕ)). keywords_of instances ++ l) (append-nil (record_keywords r)) in
+        let behind : keywords_of all ≡ keywords_of instances ++ record_keywords r =
+        flat_map-append (λ (i : ℕ × Record). record_keywords i.1) instances ((n, r) ∷ [])
+        ∙ ap (λ (l : List (List ℕ)). keywords_of instances ++ l) (append-nil (record_keywords r)) in
         subst (λ (l : List (List ℕ)). AreCounts l counts) (sym behind) (counted (keywords_of instances) before)
 
   pub took-instance : Takes old (instance n r) (Ok tt) (record old { names = names; targets = targets; counts = counts })
   took-instance given keeps =
-      let parts : parts_among given ≡ parts_among (given ++ instance n r ∷ []) = sym (parts-append given (instance n r ∷ []) ∙ append-nil (parts_among given)) in
-      let headings : headings_among given ≡ headings_among (given ++ instance n r ∷ []) = sym (headings-append given (instance n r ∷ []) ∙ append-nil (headings_among given)) in
-      let instances : instances_among given ++ (n, r) ∷ [] ≡ instances_among (given ++ instance n r ∷ []) = sym (instances-append given (instance n r ∷ [])) in
+      let parts : parts_among given ≡ parts_among (given ++ instance n r ∷ []) =
+      sym (parts-append given (instance n r ∷ []) ∙ append-nil (parts_among given)) in
+      let headings : headings_among given ≡ headings_among (given ++ instance n r ∷ []) =
+      sym (headings-append given (instance n r ∷ []) ∙ append-nil (headings_among given)) in
+      let instances : instances_among given ++ (n, r) ∷ [] ≡ instances_among (given ++ instance n r ∷ []) =
+      sym (instances-append given (instance n r ∷ [])) in
       record {
         header_is = keeps.header_is ∙ parts;
         schema = subst (λ (ps : List Part). IsSchemaOf ps old.schema) parts keeps.schema;
         sections_are = keeps.sections_are ∙ headings;
         sections = subst (AreSections old.schema) headings keeps.sections;
-        instances = subst (λ (is : List (ℕ × Record)). AreInstances is names targets) instances (all-are (instances_among given) keeps.instances);
-        keywords = subst (λ (is : List (ℕ × Record)). AreCounts (keywords_of is) counts) instances (all-counted (instances_among given) keeps.instances keeps.keywords);
+        instances = subst (λ (is : List (ℕ × Record)). AreInstances is names targets) instances
+            (all-are (instances_among given) keeps.instances);
+        keywords = subst (λ (is : List (ℕ × Record)). AreCounts (keywords_of is) counts) instances
+            (all-counted (instances_among given) keeps.instances keeps.keywords);
       }
 
 pub instance-again : (old new : Kept) (n : ℕ) (r : Record) → Contains old.names n → Takes old (instance n r) (Err DuplicateName) new
-instance-again old new n r had other given keeps limits bytes taken = name-again limits bytes given n r taken ((keeps.instances.names_are n).0 had)
+instance-again old new n r had other given keeps limits bytes taken =
+    name-again limits bytes given n r taken ((keeps.instances.names_are n).0 had)

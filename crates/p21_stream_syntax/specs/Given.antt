@@ -35,14 +35,24 @@ nothing_kept = record { header = []; schema = []; sections = []; names = []; tar
 
 -- what the fields hold
 abbrev pub kept_of : Given → Kept
-kept_of given = record { header = part_views given.header.items; schema = given.schema.name.items; sections = given.sections; names = instance_names given.names; targets = targets_of given.waiting.references.items; counts = given.keywords }
+kept_of given = record {
+  header = part_views given.header.items;
+  schema = given.schema.name.items;
+  sections = given.sections;
+  names =
+      instance_names given.names;
+  targets = targets_of given.waiting.references.items;
+  counts = given.keywords;
+}
 
 -- ---- what it says of the statements
 
 -- each FILE_SCHEMA of these records begins with this name of a schema, which one has that isn't empty
 pub record IsSchemaOf (parts : List Part) (schema : List ℕ) : Type 0 where
-  pub each_names : (part : Part) (chars : List ℕ) → Contains parts part → IsFileSchema part chars → BeginsWithName chars × NamesSchema chars schema
-  pub one_names : (schema ≡ []) ⊎ ((part : Part) × (chars : List ℕ) × Contains parts part × IsFileSchema part chars × NamesSchema chars schema)
+  pub each_names : (part : Part) (chars : List ℕ) → Contains parts part → IsFileSchema part chars
+      → BeginsWithName chars × NamesSchema chars schema
+  pub one_names : (schema ≡ []) ⊎ ((part : Part) × (chars : List ℕ) × Contains parts part × IsFileSchema part chars
+      × NamesSchema chars schema)
 
 -- a section with a name stands behind the FILE_SCHEMA, and names its schema
 abbrev pub IsOfSchema : List ℕ → Heading → Type 0
@@ -76,7 +86,8 @@ pub record Keeps (given : List Statement) (kept : Kept) : Type 0 where
 
 -- no well-formed file begins with these statements and that one
 abbrev pub BeginNone : List Statement → Statement → Type 0
-BeginNone given statement = (limits : Limits) (bytes : List ℕ) → AreStatementsTaken bytes (given ++ statement ∷ []) → BeginsIllFormed limits bytes
+BeginNone given statement = (limits : Limits) (bytes : List ℕ) → AreStatementsTaken bytes (given ++ statement ∷ [])
+    → BeginsIllFormed limits bytes
 
 -- for all statements of which this is kept: the statement is kept too, or no well-formed file begins so
 abbrev pub Takes : Kept → Statement → Result (Unit {0}) Fault → Kept → Type 0
@@ -91,5 +102,6 @@ TakesSchema old chars (Err fault) new = fault ≢ NoMemory → (¬ BeginsWithNam
 
 -- and a header record gives it where it is a FILE_SCHEMA
 abbrev pub TakesPart : List ℕ → Part → Result (Unit {0}) Fault → List ℕ → Type 0
-TakesPart old part (Ok done) new = ((chars : List ℕ) × IsFileSchema part chars × TakesSchema old chars (Ok done) new) ⊎ (((chars : List ℕ) → IsFileSchema part chars → ⊥) × (new ≡ old))
+TakesPart old part (Ok done) new = ((chars : List ℕ) × IsFileSchema part chars × TakesSchema old chars (Ok done) new)
+    ⊎ (((chars : List ℕ) → IsFileSchema part chars → ⊥) × (new ≡ old))
 TakesPart old part (Err fault) new = (chars : List ℕ) × IsFileSchema part chars × TakesSchema old chars (Err fault) new

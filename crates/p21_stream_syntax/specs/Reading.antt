@@ -67,14 +67,18 @@ pub record IsReadToEnd (limits : Limits) (start now : Option (List ℕ)) (walk :
 
 -- so many bytes more, none at the end of the reader alone
 pub record ReadsMore (limits : Limits) (old new : Option (List ℕ)) (before after : Walk) (count : ℕ) : Type 0 where
-  pub along : (start : Option (List ℕ)) (size : ℕ) → IsReadFrom limits start old before size → IsReadFrom limits start new after (size + count)
+  pub along : (start : Option (List ℕ)) (size : ℕ) → IsReadFrom limits start old before size
+      → IsReadFrom limits start new after (size + count)
   pub ended : count ≡ 0 → IsAtEnd new
 
 -- what a fault says, wherever the reader began
 abbrev pub RefusesMore : Limits → Option (List ℕ) → Option (List ℕ) → Walk → Fault → Type 0
-RefusesMore limits old new before fault = (start : Option (List ℕ)) (size : ℕ) → IsReadFrom limits start old before size → RefusesSyntax limits start new fault
+RefusesMore limits old new before fault = (start : Option (List ℕ)) (size : ℕ) → IsReadFrom limits start old before size
+    → RefusesSyntax limits start new fault
 
 -- what a piece gives, whichever reader gave it
 abbrev pub PieceGives : Limits → Walk → List ℕ → Result (Unit {0}) Refusal → Walk → Type 0
-PieceGives limits before piece (Ok done) after = (bytes : List ℕ) → WalkHasTaken limits before bytes → WalkHasTaken limits after (bytes ++ piece)
-PieceGives limits before piece (Err refusal) after = (old new : Option (List ℕ)) → Consumes old new piece → RefusesMore limits old new before refusal.fault
+PieceGives limits before piece (Ok done) after = (bytes : List ℕ) → WalkHasTaken limits before bytes
+    → WalkHasTaken limits after (bytes ++ piece)
+PieceGives limits before piece (Err refusal) after = (old new : Option (List ℕ)) → Consumes old new piece
+    → RefusesMore limits old new before refusal.fault

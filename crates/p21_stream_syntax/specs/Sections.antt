@@ -29,5 +29,7 @@ number_of numbers name = get_by (λ (key : std.Vec ℕ Global). slice_cmp nat_cm
 
 -- each name leads to its section, and each section with a name stands under it
 pub record AreNamedBy (numbers : BTreeMap (std.Vec ℕ Global) ℕ) (headings : List Heading) : Type 0 where
-  pub found : (name : List ℕ) (number : ℕ) → number_of numbers name ≡ Some number → (schema : List ℕ) × (slice_get headings number ≡ Some (named name schema))
-  pub kept : (name schema : List ℕ) (number : ℕ) → slice_get headings number ≡ Some (named name schema) → number_of numbers name ≡ Some number
+  pub found : (name : List ℕ) (number : ℕ) → number_of numbers name ≡ Some number
+      → (schema : List ℕ) × (slice_get headings number ≡ Some (named name schema))
+  pub kept : (name schema : List ℕ) (number : ℕ) → slice_get headings number ≡ Some (named name schema)
+      → number_of numbers name ≡ Some number

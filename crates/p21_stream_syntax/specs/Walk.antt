@@ -37,7 +37,8 @@ TakesWithinPiece piece (Ok (Some count)) = count ≤ length piece
 TakesWithinPiece piece other = Unit {0}
 
 -- a history of so many tokens goes on behind so many bytes of a piece, with one token more
-pub record TakesOneToken (limits : Limits) (old : StatementHistory) (tokens : ℕ) (piece : List ℕ) (count : ℕ) (held : statements.Held) (kept : Kept) : Type 0 where
+pub record TakesOneToken (limits : Limits) (old : StatementHistory) (tokens : ℕ) (piece : List ℕ) (count : ℕ) (held : statements.Held)
+    (kept : Kept) : Type 0 where
   pub reading : StatementHistory
   pub live : IsLive limits held kept reading
   pub taken_are : reading.taken ≡ old.taken ++ take count piece
@@ -52,14 +53,19 @@ pub record IsIllFormedWithin (limits : Limits) (old : StatementHistory) (piece :
 
 -- what a token, or the rest of a piece, gives: for each history that is live, where the byte that was seen is offered first
 abbrev pub StepGives : Limits → statements.Held → Kept → List ℕ → Result (Option ℕ) Refusal → statements.Held → Kept → Type 0
-StepGives limits held kept piece (Ok None) next after = (reading : StatementHistory) → IsLive limits held kept reading → IsSeenAt reading.seen piece 0 → HasTaken limits next after (reading.taken ++ piece)
-StepGives limits held kept piece (Ok (Some count)) next after = (reading : StatementHistory) (live : IsLive limits held kept reading) → IsSeenAt reading.seen piece 0 → TakesOneToken limits reading (length live.reads.history.given) piece count next after
-StepGives limits held kept piece (Err refusal) next after = refusal.fault ≢ NoMemory → (reading : StatementHistory) → IsLive limits held kept reading → IsSeenAt reading.seen piece 0 → IsIllFormedWithin limits reading piece
+StepGives limits held kept piece (Ok None) next after = (reading : StatementHistory) → IsLive limits held kept reading
+    → IsSeenAt reading.seen piece 0 → HasTaken limits next after (reading.taken ++ piece)
+StepGives limits held kept piece (Ok (Some count)) next after = (reading : StatementHistory) (live : IsLive limits held kept reading)
+    → IsSeenAt reading.seen piece 0 → TakesOneToken limits reading (length live.reads.history.given) piece count next after
+StepGives limits held kept piece (Err refusal) next after = refusal.fault ≢ NoMemory → (reading : StatementHistory)
+    → IsLive limits held kept reading → IsSeenAt reading.seen piece 0 → IsIllFormedWithin limits reading piece
 
 -- what a whole piece gives, or a refusal within it
 abbrev pub ReadGives : Limits → statements.Held → Kept → List ℕ → Result (Unit {0}) Refusal → statements.Held → Kept → Type 0
-ReadGives limits held kept piece (Ok done) next after = (reading : StatementHistory) → IsLive limits held kept reading → IsSeenAt reading.seen piece 0 → HasTaken limits next after (reading.taken ++ piece)
-ReadGives limits held kept piece (Err refusal) next after = refusal.fault ≢ NoMemory → (reading : StatementHistory) → IsLive limits held kept reading → IsSeenAt reading.seen piece 0 → IsIllFormedWithin limits reading piece
+ReadGives limits held kept piece (Ok done) next after = (reading : StatementHistory) → IsLive limits held kept reading
+    → IsSeenAt reading.seen piece 0 → HasTaken limits next after (reading.taken ++ piece)
+ReadGives limits held kept piece (Err refusal) next after = refusal.fault ≢ NoMemory → (reading : StatementHistory)
+    → IsLive limits held kept reading → IsSeenAt reading.seen piece 0 → IsIllFormedWithin limits reading piece
 
 -- ---- the end
 
@@ -75,4 +81,5 @@ pub record IsFoundOf (limits : Limits) (bytes : List ℕ) (found : WellFormed) :
 -- what the end of the bytes gives, whatever the limits
 abbrev pub FinishGives : statements.Held → Kept → Result WellFormed Refusal → Type 0
 FinishGives held kept (Ok found) = (limits : Limits) (bytes : List ℕ) → HasTaken limits held kept bytes → IsFoundOf limits bytes found
-FinishGives held kept (Err refusal) = refusal.fault ≢ NoMemory → (limits : Limits) (bytes : List ℕ) → HasTaken limits held kept bytes → IsIllFormed limits bytes
+FinishGives held kept (Err refusal) = refusal.fault ≢ NoMemory → (limits : Limits) (bytes : List ℕ) → HasTaken limits held kept bytes
+    → IsIllFormed limits bytes

@@ -81,7 +81,8 @@ impl Given {
 
     /// Takes the line that begins a data section, by its record.
     fn take_heading(&mut self, part: Part) -> Result<(), Fault>
-        ensures gives { Takes (kept_of self.old) (section (data_start (heading_of (views (items_of part.params))))) result (kept_of self.new) }
+        ensures gives { Takes (kept_of self.old) (section (data_start (heading_of (views (items_of part.params))))) result
+            (kept_of self.new) }
         ensures kind { IfErr result (λ fault. IsOfBytes fault) }
     {
         let Some((name, text)) = heading(&part) else {
@@ -137,7 +138,8 @@ impl Given {
 
     /// The instance that has the first reference in the file to a name that none has. It takes no memory.
     pub(crate) fn first_missing(&self) -> Option<Name>
-        ensures some { IfSome result (λ holder. (target : ℕ) × Contains (kept_of self.now).targets target × ¬ Contains (kept_of self.now).names target) }
+        ensures some { IfSome result (λ holder. (target : ℕ) × Contains (kept_of self.now).targets target
+            × ¬ Contains (kept_of self.now).names target) }
         ensures none { IsNone result → Each (Contains (kept_of self.now).names) (kept_of self.now).targets }
     {
         self.waiting.first_missing(&self.names)

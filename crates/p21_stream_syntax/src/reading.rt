@@ -54,7 +54,8 @@ pub fn syntax_located<R: Read>(
     reader: &mut Watched<R>,
 ) -> Result<WellFormed, IllFormed>
     ensures ok { IfOk result (λ found. IsWellFormedInput limits (R.remaining reader.old.inner) (R.remaining reader.new.inner) found) }
-    ensures err { IfErr result (λ ill_formed. RefusesSyntax limits (R.remaining reader.old.inner) (R.remaining reader.new.inner) ill_formed.refusal.fault) }
+    ensures err { IfErr result (λ ill_formed. RefusesSyntax limits (R.remaining reader.old.inner) (R.remaining reader.new.inner)
+        ill_formed.refusal.fault) }
     ensures consumed { TakesAtMost (limits.file_source + 1) (R.remaining reader.old.inner) (R.remaining reader.new.inner) }
     ensures moved { reader.new.moved ≤ reader.old.moved + (limits.file_source + 1) }
     ensures read { OnOk result (reader.new.failures ≡ reader.old.failures) }
@@ -167,7 +168,8 @@ fn read_more<R: Read>(
     requires counted { limits.file_source < 2 ^ 64 }
     requires live { (bytes : List ℕ) × WalkHasTaken limits walk.old bytes }
     ensures ok { IfOk result (ReadsMore limits (R.remaining reader.old.inner) (R.remaining reader.new.inner) walk.old walk.new) }
-    ensures err { IfErr result (λ refusal. RefusesMore limits (R.remaining reader.old.inner) (R.remaining reader.new.inner) walk.old refusal.fault) }
+    ensures err { IfErr result (λ refusal. RefusesMore limits (R.remaining reader.old.inner) (R.remaining reader.new.inner) walk.old
+        refusal.fault) }
     ensures consumed { TakesAtMost (left + 1) (R.remaining reader.old.inner) (R.remaining reader.new.inner) }
     ensures moved { IfOk result (λ count. reader.new.moved ≤ reader.old.moved + count) }
     ensures moved_once { reader.new.moved ≤ reader.old.moved + 1 }

@@ -51,7 +51,8 @@ impl Waiting {
         of: &Record,
         names: &NamedMemberships,
     ) -> Result<(), NoMemory>
-        ensures { OnOk result (Adds (instance_names names.now) (record_references (record_view of.now)) (targets_of self.old.references.items) (targets_of self.new.references.items)) }
+        ensures { OnOk result (Adds (instance_names names.now) (record_references (record_view of.now))
+            (targets_of self.old.references.items) (targets_of self.new.references.items)) }
     {
         match of {
             Record::Simple(part) => add_part(part, holder, names, &mut self.references),
@@ -73,7 +74,8 @@ impl Waiting {
 
     /// The instance that has the first reference in the file to a name that has not come. It takes no memory.
     pub(crate) fn first_missing(&self, names: &NamedMemberships) -> Option<Name>
-        ensures some { IfSome result (λ holder. (target : ℕ) × Contains (targets_of self.now.references.items) target × ¬ Contains (instance_names names.now) target) }
+        ensures some { IfSome result (λ holder. (target : ℕ) × Contains (targets_of self.now.references.items) target
+            × ¬ Contains (instance_names names.now) target) }
         ensures none { IsNone result → Each (Contains (instance_names names.now)) (targets_of self.now.references.items) }
     {
         for index in 0..self.references.len() {
@@ -121,7 +123,8 @@ fn add_parts(
     names: &NamedMemberships,
     waiting: &mut Vec<Reference>,
 ) -> Result<(), NoMemory>
-    ensures { OnOk result (Adds (instance_names names.now) (parts_references parts.now) (targets_of waiting.old.items) (targets_of waiting.new.items)) }
+    ensures { OnOk result (Adds (instance_names names.now) (parts_references parts.now) (targets_of waiting.old.items)
+        (targets_of waiting.new.items)) }
 {
     for part in parts {
         if let Err(fault) = add_part(part, holder, names, waiting) {
@@ -138,7 +141,8 @@ fn add_part(
     names: &NamedMemberships,
     waiting: &mut Vec<Reference>,
 ) -> Result<(), NoMemory>
-    ensures { OnOk result (Adds (instance_names names.now) (references (part_view part.now).params) (targets_of waiting.old.items) (targets_of waiting.new.items)) }
+    ensures { OnOk result (Adds (instance_names names.now) (references (part_view part.now).params) (targets_of waiting.old.items)
+        (targets_of waiting.new.items)) }
 {
     add_listed(part.params.items(), holder, names, waiting)
 }
@@ -151,7 +155,8 @@ fn add_param(
     names: &NamedMemberships,
     waiting: &mut Vec<Reference>,
 ) -> Result<(), NoMemory>
-    ensures { OnOk result (Adds (instance_names names.now) (param_references (view param.now)) (targets_of waiting.old.items) (targets_of waiting.new.items)) }
+    ensures { OnOk result (Adds (instance_names names.now) (param_references (view param.now)) (targets_of waiting.old.items)
+        (targets_of waiting.new.items)) }
 {
     match param {
         Param::Name(target) => add_name(*target, holder, names, waiting),
@@ -175,7 +180,8 @@ fn add_listed(
     names: &NamedMemberships,
     waiting: &mut Vec<Reference>,
 ) -> Result<(), NoMemory>
-    ensures { OnOk result (Adds (instance_names names.now) (references (views params.now)) (targets_of waiting.old.items) (targets_of waiting.new.items)) }
+    ensures { OnOk result (Adds (instance_names names.now) (references (views params.now)) (targets_of waiting.old.items)
+        (targets_of waiting.new.items)) }
 {
     for i in 0..params.len() {
         if let Err(fault) = add_param(&params[i], holder, names, waiting) {

@@ -83,7 +83,8 @@ impl Sections {
 
     /// Adds the section that the record begins, under a name that none has yet.
     pub fn add(&mut self, alloc: Global, part: Part) -> Result<(), NoMemory>
-        requires { (name : List ℕ) → Contains (heading_names (heading_of (views (items_of part.params)))) name → Contains (section_names self.old) name → ⊥ }
+        requires { (name : List ℕ) → Contains (heading_names (heading_of (views (items_of part.params)))) name
+            → Contains (section_names self.old) name → ⊥ }
         ensures ok { OnOk result (self.new ≡ self.old ++ heading_of (views (items_of part.params)) ∷ []) }
     {
         let name = name_of(alloc, &part)?;

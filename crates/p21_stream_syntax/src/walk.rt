@@ -49,7 +49,8 @@ impl Walk {
     /// The refusal of its first byte, token or statement that is wrong.
     pub(crate) fn read(&mut self, piece: &[u8]) -> Result<(), Refusal>
         requires way { (limits : MeantLimits) × IsUnderWay limits self.old.statements (kept_of self.old.given) piece.now }
-        ensures gives { (limits : MeantLimits) → ReadGives limits self.old.statements (kept_of self.old.given) piece.now result self.new.statements (kept_of self.new.given) }
+        ensures gives { (limits : MeantLimits) → ReadGives limits self.old.statements (kept_of self.old.given) piece.now result
+            self.new.statements (kept_of self.new.given) }
         ensures kind { IfErr result (λ refusal. IsOfBytes refusal.fault) }
     {
         let mut rest = piece;
@@ -94,7 +95,8 @@ impl Walk {
     /// The refusal of a byte, of the token, or of the statement that it ends.
     fn step(&mut self, piece: &[u8]) -> Result<Option<usize>, Refusal>
         ensures takes { TakesWithinPiece piece.now result }
-        ensures gives { (limits : MeantLimits) → StepGives limits self.old.statements (kept_of self.old.given) piece.now result self.new.statements (kept_of self.new.given) }
+        ensures gives { (limits : MeantLimits) → StepGives limits self.old.statements (kept_of self.old.given) piece.now result
+            self.new.statements (kept_of self.new.given) }
         ensures kind { IfErr result (λ refusal. IsOfBytes refusal.fault) }
     {
         let answer = match self.statements.step(piece) {

@@ -17,7 +17,8 @@ order_of-requires c = c.requires.row.entities_are _ ((c.requires.closure c.args.
 pub append_rows-requires-clause-members : goal.append_rows-requires-clause-members
 append_rows-requires-clause-members c = λ e among.
     let P : List ℕ → Type 0 = λ es. Contains es e in
-    (c.requires.closure e).1 (order_within-only c.args.schema.now (length c.args.schema.now.entities) c.args.leaf.0 e (subst P c.order_of.ensures among))
+    (c.requires.closure e).1 (order_within-only c.args.schema.now (length c.args.schema.now.entities) c.args.leaf.0 e
+    (subst P c.order_of.ensures among))
 
 pub returns-clause-spelled : goal.returns-clause-spelled
 returns-clause-spelled c =

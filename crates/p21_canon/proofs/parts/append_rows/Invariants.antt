@@ -9,7 +9,8 @@ use Rattle.p21_canon.proofs.parts.append_rows.Given as goal
 
 abbrev pub invariant-loop-entity : goal.invariant-loop-entity
 invariant-loop-entity l = record {
-  text : l.out.items ≡ l.fn.out.items ++ with_commas_between (rows_texts l.schema (typed_view l.typed) (numbers (take l.entity-index l.entities)));
+  text : l.out.items ≡ l.fn.out.items ++ with_commas_between
+      (rows_texts l.schema (typed_view l.typed) (numbers (take l.entity-index l.entities)));
   still : l.first ≡ still_first true (rows_texts l.schema (typed_view l.typed) (numbers (take l.entity-index l.entities)));
   spelled : Each (λ e. AreSpelled l.schema (row_of (typed_view l.typed) e)) (numbers (take l.entity-index l.entities));
 }

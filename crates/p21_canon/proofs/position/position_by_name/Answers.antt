@@ -7,4 +7,5 @@ pub entity_name-name-requires : goal.entity_name-name-requires
 entity_name-name-requires c = c.requires.entities _ c.requires.member
 
 pub entity_name-requires : goal.entity_name-requires
-entity_name-requires c = c.requires.entities _ (numbered-at (λ (e : EntityId). e.0) c.args.entities.now _ (record { 0 = 0 }) (omega (arith, c.loop-low-test.true, c.loop-low.invariant.1)))
+entity_name-requires c = c.requires.entities _ (numbered-at (λ (e : EntityId). e.0) c.args.entities.now _ (record { 0 = 0 })
+    (omega (arith, c.loop-low-test.true, c.loop-low.invariant.1)))

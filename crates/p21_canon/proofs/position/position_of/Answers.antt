@@ -11,4 +11,5 @@ returns-then-entities-guess c =
     let es = c.args.entities.now in
     let k = c.position_by_name-guess.result in
     let at = slice_get-get_or es k (record { 0 = 0 }) c.if-guess-entities.true in
-    only-first (numbers es) k c.args.entity.0 c.requires.distinct (slice_get-map (λ (e : EntityId). e.0) es k ∙ ap (option_map (λ (e : EntityId). e.0)) at ∙ ap Some c.if-entities-guess.true)
+    only-first (numbers es) k c.args.entity.0 c.requires.distinct
+    (slice_get-map (λ (e : EntityId). e.0) es k ∙ ap (option_map (λ (e : EntityId). e.0)) at ∙ ap Some c.if-entities-guess.true)

@@ -6,7 +6,8 @@ use Rattle.p21_differences.proofs.changes.change_of.Goals as goal
 
 pub returns-then-eq : goal.returns-then-eq
 returns-then-eq c =
-    lines-same c.args.schema.now c.well_formed-2.ensures c.args.name c.args.first.now c.args.second.now ((bytes_eq-Decides c.args.first.now c.args.second.now).0 (sym c.eq.ensures ∙ c.if-eq.true))
+    lines-same c.args.schema.now c.well_formed-2.ensures c.args.name c.args.first.now c.args.second.now
+    ((bytes_eq-Decides c.args.first.now c.args.second.now).0 (sym c.eq.ensures ∙ c.if-eq.true))
 
 pub returns-then-have_one_set : goal.returns-then-have_one_set
 returns-then-have_one_set c =

@@ -18,10 +18,14 @@ loop-entity-preserved c =
     let k = c.loop-entity.entity-index in
     let members = c.loop-entity.members.items in
     elim c.if-has.branch [
-      | then-has+in_ok-push w ↦ one-among entities some k record { 0 = 0 } members c.if-has.members.items c.loop-entity-test.true c.loop-entity.invariant (c.has.ensures.0 w.if-has.true) (ap (λ v. v.items) w.members-is ∙ w.in_ok-push.ensures.items)
-      | else-has w ↦ one-apart entities some k record { 0 = 0 } members c.if-has.members.items c.loop-entity-test.true c.loop-entity.invariant (λ among. let t : true ≡ false = sym (c.has.ensures.1 among) ∙ w.if-has.false in cc) (ap (λ v. v.items) w.members-is)
+      | then-has+in_ok-push w ↦ one-among entities some k record { 0 = 0 } members c.if-has.members.items c.loop-entity-test.true
+          c.loop-entity.invariant (c.has.ensures.0 w.if-has.true) (ap (λ v. v.items) w.members-is ∙ w.in_ok-push.ensures.items)
+      | else-has w ↦ one-apart entities some k record { 0 = 0 } members c.if-has.members.items c.loop-entity-test.true
+          c.loop-entity.invariant (λ among. let t : true ≡ false = sym (c.has.ensures.1 among) ∙ w.if-has.false in cc)
+          (ap (λ v. v.items) w.members-is)
     ]
 
 pub returns : goal.returns
 returns c =
-    subst (λ (es : List EntityId). AreThoseAmong c.args.entities.now (numbers es) (numbers c.loop-entity.members.items)) (take_all c.loop-entity.entity-index c.args.some.now (omega (arith, c.loop-entity-test.false))) c.loop-entity.invariant
+    subst (λ (es : List EntityId). AreThoseAmong c.args.entities.now (numbers es) (numbers c.loop-entity.members.items))
+    (take_all c.loop-entity.entity-index c.args.some.now (omega (arith, c.loop-entity-test.false))) c.loop-entity.invariant

@@ -28,11 +28,13 @@ pub arranged_rows-requires-clause-differ : goal.arranged_rows-requires-clause-di
 arranged_rows-requires-clause-differ c =
     let (names, named, rises) = c.requires.shape.rising in
     let P : List EntityId → Type 0 = λ es. IsDistinct nat_eq (numbers es) in
-    subst P (sym c.items-2.ensures) (none_twice-distinct (numbers c.args.shape.entities) (rising-none_twice c.args.schema.now (numbers c.args.shape.entities) names named rises))
+    subst P (sym c.items-2.ensures) (none_twice-distinct (numbers c.args.shape.entities)
+    (rising-none_twice c.args.schema.now (numbers c.args.shape.entities) names named rises))
 
 pub arranged_rows-requires-clause-each : goal.arranged_rows-requires-clause-each
 arranged_rows-requires-clause-each c =
-    rows-count c.args.schema.now (record_view c.args.of) (numbers c.entities-in_order.result.now) c.in_ok-positions.positions c.in-Ok.rows.items (needs_view c.new-needs.result.items) (needs_view c.rows_of.new.needs.items) c.in-Ok.ensures
+    rows-count c.args.schema.now (record_view c.args.of) (numbers c.entities-in_order.result.now) c.in_ok-positions.positions
+    c.in-Ok.rows.items (needs_view c.new-needs.result.items) (needs_view c.rows_of.new.needs.items) c.in-Ok.ensures
     ∙ numbers-length c.entities-in_order.result.now
 
 pub returns : goal.returns
@@ -45,11 +47,15 @@ returns c =
     let needs = needs_view c.rows_of.new.needs.items in
     let arranged = rows_view c.in_ok-values.values.items in
     let at_listed : HasRows s of listed c.in_ok-positions.positions rows (needs_view c.new-needs.result.items) needs =
-    subst (λ ls. HasRows s of ls c.in_ok-positions.positions rows (needs_view c.new-needs.result.items) needs) c.entities-in_order.ensures c.in-Ok.ensures in
+    subst (λ ls. HasRows s of ls c.in_ok-positions.positions rows (needs_view c.new-needs.result.items) needs) c.entities-in_order.ensures
+    c.in-Ok.ensures in
     let at_set : HasRows s of listed entities rows (needs_view c.new-needs.result.items) needs =
-    subst (λ es. HasRows s of listed es rows (needs_view c.new-needs.result.items) needs) (c.in_ok-positions.ensures ∙ ap numbers c.items.ensures) at_listed in
-    let has : HasRows s of listed entities rows (needs_view []) needs = subst (λ xs. HasRows s of listed entities rows (needs_view xs) needs) c.new-needs.ensures.items at_set in
+    subst (λ es. HasRows s of listed es rows (needs_view c.new-needs.result.items) needs)
+    (c.in_ok-positions.ensures ∙ ap numbers c.items.ensures) at_listed in
+    let has : HasRows s of listed entities rows (needs_view []) needs =
+    subst (λ xs. HasRows s of listed entities rows (needs_view xs) needs) c.new-needs.ensures.items at_set in
     let arranged_listed : AreArranged listed rows (numbers c.items-2.result.now) arranged =
     subst (λ ls. AreArranged ls rows (numbers c.items-2.result.now) arranged) c.entities-in_order.ensures c.in_ok-values.ensures in
-    let are : AreArranged listed rows entities arranged = subst (λ xs. AreArranged listed rows (numbers xs) arranged) c.items-2.ensures arranged_listed in
+    let are : AreArranged listed rows entities arranged =
+    subst (λ xs. AreArranged listed rows (numbers xs) arranged) c.items-2.ensures arranged_listed in
     rw c.from_vec.ensures (checked s c.requires.formed c.requires.holds of listed entities c.requires.shape rows needs has arranged are)

@@ -12,16 +12,21 @@ append_present-requires c = known_at c.args.schema.now c.args.values.now _ _ c.v
 
 pub loop-value-preserved : goal.loop-value-preserved
 loop-value-preserved c = (
-  bytes-more c.args.schema.now c.args.values.now _ _ _ _ c.value-item.is c.loop-value-test.true c.loop-value.invariant.0 c.in_ok-append_present.ensures.bytes,
-  lengths-more c.args.schema.now c.args.values.now _ _ _ _ c.value-item.is c.loop-value-test.true c.loop-value.invariant.1 c.in_ok-append_present.ensures.lengths,
+  bytes-more c.args.schema.now c.args.values.now _ _ _ _ c.value-item.is c.loop-value-test.true c.loop-value.invariant.0
+      c.in_ok-append_present.ensures.bytes,
+  lengths-more c.args.schema.now c.args.values.now _ _ _ _ c.value-item.is c.loop-value-test.true c.loop-value.invariant.1
+      c.in_ok-append_present.ensures.lengths,
 )
 
 pub are_distinct-requires : goal.are_distinct-requires
-are_distinct-requires c = fits_bytes _ _ _ (c.deref.ensures.value ∙ c.loop-value.invariant.0) (c.deref-2.ensures.value ∙ c.loop-value.invariant.1)
+are_distinct-requires c = fits_bytes _ _ _ (c.deref.ensures.value ∙ c.loop-value.invariant.0)
+    (c.deref-2.ensures.value ∙ c.loop-value.invariant.1)
 
 pub returns : goal.returns
 returns c =
     let (optional, type, each) = c.requires.typed in
     IfOk-weaker c.are_distinct.result _ _
-    (λ different. differ-by_texts c.args.schema.now c.well_formed-2.ensures.types_distinct optional type c.args.values.now _ _ _ different each c.loop-value-test.false (c.deref.ensures.value ∙ c.loop-value.invariant.0) (c.deref-2.ensures.value ∙ c.loop-value.invariant.1))
+    (λ different. differ-by_texts c.args.schema.now c.well_formed-2.ensures.types_distinct optional type c.args.values.now _ _ _ different
+    each c.loop-value-test.false (c.deref.ensures.value ∙ c.loop-value.invariant.0)
+    (c.deref-2.ensures.value ∙ c.loop-value.invariant.1))
     c.are_distinct.ensures

@@ -5,4 +5,5 @@ use Rattle.p21_mapping.specs.PresentTexts.{present_texts}
 use Rattle.p21_mapping.proofs.distinct.are_different.Given as goal
 
 abbrev pub invariant-loop-value : goal.invariant-loop-value
-invariant-loop-value l = (l.bytes.items ≡ joined (present_texts l.schema (views (take l.value-index l.values)))) × (l.lengths.items ≡ lengths_of (present_texts l.schema (views (take l.value-index l.values))))
+invariant-loop-value l = (l.bytes.items ≡ joined (present_texts l.schema (views (take l.value-index l.values))))
+    × (l.lengths.items ≡ lengths_of (present_texts l.schema (views (take l.value-index l.values))))

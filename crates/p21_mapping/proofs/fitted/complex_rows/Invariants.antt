@@ -8,4 +8,5 @@ use Rattle.p21_mapping_values.specs.TypedView.{rows_view}
 use Rattle.p21_mapping.proofs.fitted.complex_rows.Given as goal
 
 abbrev pub invariant-loop-owner : goal.invariant-loop-owner
-invariant-loop-owner l = TakesParts l.set.schema.now l.set.entities (numbers (take l.owner-index l.listed)) (part_views l.fn.parts.items) (part_views (into_iter_items l.left)) (rows_view l.rows.items) (needs_view l.fn.needs.items) (needs_view l.needs.items)
+invariant-loop-owner l = TakesParts l.set.schema.now l.set.entities (numbers (take l.owner-index l.listed)) (part_views l.fn.parts.items)
+    (part_views (into_iter_items l.left)) (rows_view l.rows.items) (needs_view l.fn.needs.items) (needs_view l.needs.items)

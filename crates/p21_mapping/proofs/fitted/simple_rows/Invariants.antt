@@ -6,4 +6,5 @@ use Rattle.p21_mapping_values.specs.TypedView.{rows_view}
 use Rattle.p21_mapping.proofs.fitted.simple_rows.Given as goal
 
 abbrev pub invariant-loop-owner : goal.invariant-loop-owner
-invariant-loop-owner l = TakesRows l.set.schema.now l.set.entities (numbers (take l.owner-index l.listed)) (param_views l.fn.params.items) (param_views (reverse l.left.items)) (rows_view l.rows.items) (needs_view l.fn.needs.items) (needs_view l.needs.items)
+invariant-loop-owner l = TakesRows l.set.schema.now l.set.entities (numbers (take l.owner-index l.listed)) (param_views l.fn.params.items)
+    (param_views (reverse l.left.items)) (rows_view l.rows.items) (needs_view l.fn.needs.items) (needs_view l.needs.items)

@@ -7,4 +7,5 @@ use Rattle.p21_mapping.proofs.known.own_types.Given as goal
 
 -- these may stand at the places so far
 abbrev pub invariant-loop-index : goal.invariant-loop-index
-invariant-loop-index l = AllZip (TypeAt l.schema (order l.schema l.entity.0)) (map place (take l.index l.places.items)) (map place_type l.types.items)
+invariant-loop-index l = AllZip (TypeAt l.schema (order l.schema l.entity.0)) (map place (take l.index l.places.items))
+    (map place_type l.types.items)

@@ -2,4 +2,5 @@ use Rattle.p21_express_graph.proofs.Gatherings.{numbered-at}
 use Rattle.p21_mapping.proofs.refused_shape.note_other_count.Goals as goal
 
 pub attribute_count-wanted-requires : goal.attribute_count-wanted-requires
-attribute_count-wanted-requires c = c.requires _ (numbered-at (λ e. e.0) c.args.listed.now c.loop-entity.entity-index record { 0 = 0 } c.loop-entity-test.true)
+attribute_count-wanted-requires c = c.requires _ (numbered-at (λ e. e.0) c.args.listed.now c.loop-entity.entity-index record { 0 = 0 }
+    c.loop-entity-test.true)

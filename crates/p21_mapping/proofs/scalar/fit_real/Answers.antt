@@ -14,4 +14,5 @@ pub returns-in-Number : goal.returns-in-Number
 returns-in-Number c = number_at c.args.base _ c.args.real c.in-Plain.is c.in-Number.is c.holds.ensures
 
 pub returns-in_default-of : goal.returns-in_default-of
-returns-in_default-of c = at_other c.args.base _ (parameter.real c.args.real) c.in-Plain.is (λ is. cc) (λ is. cc) (real-nowhere _ c.args.real c.in_default-of.not-Real c.in_default-of.not-Number)
+returns-in_default-of c = at_other c.args.base _ (parameter.real c.args.real) c.in-Plain.is (λ is. cc) (λ is. cc)
+    (real-nowhere _ c.args.real c.in_default-of.not-Real c.in_default-of.not-Number)

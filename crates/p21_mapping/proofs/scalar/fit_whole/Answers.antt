@@ -12,7 +12,8 @@ pub returns-in-Whole : goal.returns-in-Whole
 returns-in-Whole c = whole_at c.args.base _ c.args.whole c.in-Plain.is c.in-Whole.is
 
 pub returns-in_ok-number-in-Number : goal.returns-in_ok-number-in-Number
-returns-in_ok-number-in-Number c = number_of_whole c.args.base _ c.args.whole _ c.in-Plain.is c.in-Number.is c.in_ok-number-in-Number.ensures c.holds.ensures
+returns-in_ok-number-in-Number c = number_of_whole c.args.base _ c.args.whole _ c.in-Plain.is c.in-Number.is
+    c.in_ok-number-in-Number.ensures c.holds.ensures
 
 pub returns-in_err-number-in-Number : goal.returns-in_err-number-in-Number
 returns-in_err-number-in-Number c =
@@ -20,4 +21,5 @@ returns-in_err-number-in-Number c =
     rw (p.1, p.2) (number_out_of_range c.args.base _ c.args.whole _ c.in-Plain.is c.in-Number.is c.in_err-number-in-Number.ensures)
 
 pub returns-in_default-of : goal.returns-in_default-of
-returns-in_default-of c = at_other c.args.base _ (parameter.whole c.args.whole) c.in-Plain.is (λ is. cc) (λ is. cc) (whole-nowhere _ c.args.whole c.in_default-of.not-Whole c.in_default-of.not-Number)
+returns-in_default-of c = at_other c.args.base _ (parameter.whole c.args.whole) c.in-Plain.is (λ is. cc) (λ is. cc)
+    (whole-nowhere _ c.args.whole c.in_default-of.not-Whole c.in_default-of.not-Number)

@@ -16,4 +16,5 @@ pub returns-in-Logical-clause-ok : goal.returns-in-Logical-clause-ok
 returns-in-Logical-clause-ok c = decides-logical c.args.base _ _ _ c.in-Plain.is c.in-Logical.is c.is_logical.ensures
 
 pub returns-in_default-clause-err : goal.returns-in_default-clause-err
-returns-in_default-clause-err c = refuses-plain c.args.base _ _ c.in-Plain.is (item-nowhere _ _ c.in_default.not-Boolean c.in_default.not-Logical)
+returns-in_default-clause-err c = refuses-plain c.args.base _ _ c.in-Plain.is
+    (item-nowhere _ _ c.in_default.not-Boolean c.in_default.not-Logical)

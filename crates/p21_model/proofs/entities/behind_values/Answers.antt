@@ -18,4 +18,5 @@ returns-in_default-split_first-clause-told c ps after left =
 pub returns-clause-told : goal.returns-clause-told
 returns-clause-told c ps after left =
     let (qs, more) = c.loop-left.invariant.0 ps after left in
-    tail_is _ _ _ _ (sym c.in-Some-split_first.ensures.cases.0 ∙ ended qs after c.loop-left.left.rest.now more (sym c.is_empty.ensures ∙ c.loop-left-test.false))
+    tail_is _ _ _ _ (sym c.in-Some-split_first.ensures.cases.0
+    ∙ ended qs after c.loop-left.left.rest.now more (sym c.is_empty.ensures ∙ c.loop-left-test.false))

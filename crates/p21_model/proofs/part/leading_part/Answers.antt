@@ -23,6 +23,7 @@ returns-clause-some c word rest e keyword named is =
     let found = keyword-found c.args.bytes.now word rest c.in-Some.word.now c.in-Some.behind.now keyword is c.in-Some.ensures.some in
     let some : c.in-Some.behind.now ≡ 40 ∷ rest = found.1 in
     let split = c.in-Some-split_first.ensures.cases.0 in (
-      c.holds_together.ensures.entities_distinct c.in-Some-entity.entity.0 e word (subst (EntityNamed c.args.schema.now c.in-Some-entity.entity.0) found.0 c.in-Some-entity.ensures) named,
+      c.holds_together.ensures.entities_distinct c.in-Some-entity.entity.0 e word
+          (subst (EntityNamed c.args.schema.now c.in-Some-entity.entity.0) found.0 c.in-Some-entity.ensures) named,
       tail_is _ _ _ _ (sym split ∙ some),
     )

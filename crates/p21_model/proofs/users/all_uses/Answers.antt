@@ -12,14 +12,16 @@ loop-instance-init c stated once =
 
 pub returns-in_default : goal.returns-in_default
 returns-in_default c stated once =
-    all-uses c.args.model.schema.now c.args.model.accepted.now.kept c.loop-instance.least c.loop-instance.rows.items (c.loop-instance.invariant stated once) (c.in_default.ensures.none refl)
+    all-uses c.args.model.schema.now c.args.model.accepted.now.kept c.loop-instance.least c.loop-instance.rows.items
+    (c.loop-instance.invariant stated once) (c.in_default.ensures.none refl)
 
 pub returns-in_default-checked_add : goal.returns-in_default-checked_add
 returns-in_default-checked_add c stated once =
     let s = c.args.model.schema.now in
     let kept = c.args.model.accepted.now.kept in
     last-uses s kept c.number_of-user.result c.in_ok-rows.rows.items c.in_default-checked_add.ensures
-    (instance-uses s kept c.loop-instance.least c.number_of-user.result c.in-Some.instance c.loop-instance.rows.items c.in_ok-rows.rows.items once (c.loop-instance.invariant stated once) c.number_of-user.ensures
+    (instance-uses s kept c.loop-instance.least c.number_of-user.result c.in-Some.instance c.loop-instance.rows.items
+    c.in_ok-rows.rows.items once (c.loop-instance.invariant stated once) c.number_of-user.ensures
     c.in-Some.ensures.schema c.in-Some.ensures.some (c.in-Some.ensures.stated stated) c.in_ok-rows.ensures c.in-Some.ensures.between)
 
 pub loop-instance-preserved : goal.loop-instance-preserved
@@ -28,5 +30,6 @@ loop-instance-preserved c stated once =
     let kept = c.args.model.accepted.now.kept in
     let Have : ℕ → Type 0 = λ n. HaveUsesBelow s kept n c.in_ok-rows.rows.items in
     subst Have (sym c.in-Some-checked_add.ensures.1)
-    (instance-uses s kept c.loop-instance.least c.number_of-user.result c.in-Some.instance c.loop-instance.rows.items c.in_ok-rows.rows.items once (c.loop-instance.invariant stated once) c.number_of-user.ensures
+    (instance-uses s kept c.loop-instance.least c.number_of-user.result c.in-Some.instance c.loop-instance.rows.items
+    c.in_ok-rows.rows.items once (c.loop-instance.invariant stated once) c.number_of-user.ensures
     c.in-Some.ensures.schema c.in-Some.ensures.some (c.in-Some.ensures.stated stated) c.in_ok-rows.ensures c.in-Some.ensures.between)

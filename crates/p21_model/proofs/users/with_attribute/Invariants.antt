@@ -7,7 +7,8 @@ use Rattle.p21_model.proofs.users.with_attribute.Given as goal
 
 -- with those of the names that are left, they are all
 abbrev pub invariant-loop-name : goal.invariant-loop-name
-invariant-loop-name l = (p : Param) → IsTextOf l.attribute.value.text.now p → AreNamed l.user (place_of l.attribute.place) p l.fn.rows.items l.more.items l.references.rest.now
+invariant-loop-name l = (p : Param) → IsTextOf l.attribute.value.text.now p
+    → AreNamed l.user (place_of l.attribute.place) p l.fn.rows.items l.more.items l.references.rest.now
 
 abbrev pub decreases-loop-name : goal.decreases-loop-name
 decreases-loop-name l = length l.references.rest.now

@@ -9,7 +9,8 @@ use Rattle.p21_model.proofs.users.with_instance.Given as goal
 -- with those at the attributes that are left, they are all
 abbrev pub invariant-loop-attribute : goal.invariant-loop-attribute
 invariant-loop-attribute l =
-    (record_ : Record) (stated : IsInstanceText l.instance.schema.now l.instance.name record_ l.instance.line.now) (found : List Row) → AreRowsOf l.instance.schema.now stated.canonical found
+    (record_ : Record) (stated : IsInstanceText l.instance.schema.now l.instance.name record_ l.instance.line.now) (found : List Row)
+    → AreRowsOf l.instance.schema.now stated.canonical found
     → AreAdded l.user l.fn.rows.items l.more.items l.attributes found
 
 abbrev pub decreases-loop-attribute : goal.decreases-loop-attribute

@@ -6,17 +6,22 @@ use Rattle.p21_model_uses.specs.declared.groups.Used.{Used}
 use Rattle.p21_model_uses.proofs.groups.groups_of.Goals as goal
 
 pub loop-at-init : goal.loop-at-init
-loop-at-init c = (subst (λ (us : List Used). AreGroupsOf c.args.rows.now 0 us) (sym c.new-used.ensures.items) (no-groups c.args.rows.now), omega arith)
+loop-at-init c = (
+  subst (λ (us : List Used). AreGroupsOf c.args.rows.now 0 us) (sym c.new-used.ensures.items) (no-groups c.args.rows.now),
+  omega arith,
+)
 
 pub loop-at-smaller : goal.loop-at-smaller
 loop-at-smaller c =
-    let up = group-ends c.args.rows.now c.loop-at.at c.end_of-end.result (0, 0, 0, 0) c.row_at-row.result.0 (ap (λ (u : UseRow). u.0) c.row_at-row.ensures) c.loop-at-test.true c.end_of-end.ensures.end in
+    let up = group-ends c.args.rows.now c.loop-at.at c.end_of-end.result (0, 0, 0, 0) c.row_at-row.result.0
+    (ap (λ (u : UseRow). u.0) c.row_at-row.ensures) c.loop-at-test.true c.end_of-end.ensures.end in
     omega (arith, up, c.loop-at-test.true, c.end_of-end.ensures.bound)
 
 pub loop-at-preserved : goal.loop-at-preserved
 loop-at-preserved c = (
   subst (λ (us : List Used). AreGroupsOf c.args.rows.now c.end_of-end.result us) (sym c.in_ok-push.ensures.items)
-      (one-more-group c.args.rows.now c.loop-at.at c.end_of-end.result (0, 0, 0, 0) c.row_at-row.result.0 c.loop-at.used.items c.in-Some.group c.requires c.loop-at-test.true c.end_of-end.ensures.bound (ap (λ (u : UseRow). u.0) c.row_at-row.ensures)
+      (one-more-group c.args.rows.now c.loop-at.at c.end_of-end.result (0, 0, 0, 0) c.row_at-row.result.0 c.loop-at.used.items
+      c.in-Some.group c.requires c.loop-at-test.true c.end_of-end.ensures.bound (ap (λ (u : UseRow). u.0) c.row_at-row.ensures)
       c.end_of-end.ensures.end c.in-Some.ensures.some.0 c.in-Some.ensures.some.1 c.in-Some.ensures.some.2 c.loop-at.invariant.0),
   c.end_of-end.ensures.bound,
 )
@@ -29,6 +34,7 @@ returns-clause-groups c =
 
 pub returns-in_default-clause-fault : goal.returns-in_default-clause-fault
 returns-in_default-clause-fault c =
-    let up = group-ends c.args.rows.now c.loop-at.at c.end_of-end.result (0, 0, 0, 0) c.row_at-row.result.0 (ap (λ (u : UseRow). u.0) c.row_at-row.ensures) c.loop-at-test.true c.end_of-end.ensures.end in
+    let up = group-ends c.args.rows.now c.loop-at.at c.end_of-end.result (0, 0, 0, 0) c.row_at-row.result.0
+    (ap (λ (u : UseRow). u.0) c.row_at-row.ensures) c.loop-at-test.true c.end_of-end.ensures.end in
     let far = c.in_default.ensures.none refl (omega (arith, up)) in
     omega (arith, far, c.end_of-end.ensures.bound)

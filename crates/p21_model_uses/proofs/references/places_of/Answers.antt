@@ -15,6 +15,8 @@ loop-at-preserved c =
 pub returns : goal.returns
 returns c =
     let all = c.loop-at.invariant ∙ ap (map place_of) (take_all c.loop-at.at c.args.rows.now (omega (arith, c.loop-at-test.false))) in
-    let sorted = each-once pair-order c.loop-at.places.items c.sort_unstable.new.self.items c.dedup.new.self.items c.sort_unstable.ensures.permutation c.sort_unstable.ensures.sorted (dedup_is pair_eq _ _ c.dedup.ensures.filtered)
+    let sorted = each-once pair-order c.loop-at.places.items c.sort_unstable.new.self.items c.dedup.new.self.items
+    c.sort_unstable.ensures.permutation c.sort_unstable.ensures.sorted (dedup_is pair_eq _ _ c.dedup.ensures.filtered)
     (omega (arith, c.dedup.ensures.bound, c.dedup.new.self.ok.0, c.sort_unstable.new.self.ok.0)) in
-    subst (λ (ns : List (ℕ × ℕ)). AreEachOnce pair_cmp (map place_of c.args.rows.now) ns) (sym c.shrink_to_fit.ensures.items) (subst (λ (ns : List (ℕ × ℕ)). AreEachOnce pair_cmp ns c.dedup.new.self.items) all sorted)
+    subst (λ (ns : List (ℕ × ℕ)). AreEachOnce pair_cmp (map place_of c.args.rows.now) ns) (sym c.shrink_to_fit.ensures.items)
+    (subst (λ (ns : List (ℕ × ℕ)). AreEachOnce pair_cmp ns c.dedup.new.self.items) all sorted)

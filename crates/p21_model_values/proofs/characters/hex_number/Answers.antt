@@ -6,17 +6,20 @@ use Rattle.p21_model_values.proofs.LedCharacters.{number-known}
 use Rattle.p21_model_values.proofs.characters.hex_number.Goals as goal
 
 pub overflow_mul-code : goal.overflow_mul-code
-overflow_mul-code c = let small : c.loop-digit.code < 16 ^ 7 = group_below c.loop-digit.digit-index c.loop-digit.code (omega arith) c.loop-digit.invariant.small in omega arith
+overflow_mul-code c = let small : c.loop-digit.code < 16 ^ 7 =
+    group_below c.loop-digit.digit-index c.loop-digit.code (omega arith) c.loop-digit.invariant.small in omega arith
 
 pub overflow_add-code : goal.overflow_add-code
 overflow_add-code c =
-    let small : c.loop-digit.code < 16 ^ 7 = group_below c.loop-digit.digit-index c.loop-digit.code (omega arith) c.loop-digit.invariant.small in
+    let small : c.loop-digit.code < 16 ^ 7 = group_below c.loop-digit.digit-index c.loop-digit.code (omega arith)
+    c.loop-digit.invariant.small in
     omega (arith, small, c.hex_value.ensures.small, c.from.ensures)
 
 pub returns-then-not-is_hex_digit : goal.returns-then-not-is_hex_digit
 returns-then-not-is_hex_digit c code small is =
     let all = subst AllHexDigits (sym is) (all_hex (length c.args.digits.now) code) in
-    let digit = sym (digit_at c.args.digits.now c.loop-digit.digit-index all (omega arith)) ∙ sym c.is_hex_digit.ensures ∙ c.if-not-is_hex_digit.true in
+    let digit = sym (digit_at c.args.digits.now c.loop-digit.digit-index all (omega arith)) ∙ sym c.is_hex_digit.ensures
+    ∙ c.if-not-is_hex_digit.true in
     cc
 
 pub loop-digit-preserved : goal.loop-digit-preserved

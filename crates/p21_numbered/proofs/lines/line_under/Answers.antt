@@ -19,5 +19,6 @@ returns c =
     let whole : c.write_record.new.out.items ≡ text = is ∙ ap (λ (xs : List ℕ). xs ++ text) c.new-text.ensures.items in
     let N : ℕ → Type 0 = λ n. IsCanonicalStatement s n (typed_view c.in_ok-renamed.renamed) text in
     let T : Typed → Type 0 = λ x. IsCanonicalStatement s (f c.args.instance.name) x text in
-    let P : List ℕ → Type 0 = λ xs. IsCanonicalStatement s (f c.args.instance.name) (renamed_typed f (typed_view c.args.instance.typed)) xs in
+    let P : List ℕ → Type 0 = λ xs. IsCanonicalStatement s (f c.args.instance.name) (renamed_typed f (typed_view c.args.instance.typed))
+    xs in
     (c.new_name-number.ensures, subst P (sym whole) (subst T c.in_ok-renamed.ensures (subst N c.new_name-number.ensures canonical)))

@@ -9,4 +9,5 @@ written_lines-requires c =
     let file = c.requires.file in
     let all = file_instances c.args.instances.items in
     let f = new_name c.args.names.now in
-    all-meant s c.well_formed-2.ensures file.bytes file.meaning file.reads all file.are f (differ-in_file s c.well_formed-2.ensures file.bytes file.meaning file.reads all file.are f c.requires.apart) c.requires.known
+    all-meant s c.well_formed-2.ensures file.bytes file.meaning file.reads all file.are f
+    (differ-in_file s c.well_formed-2.ensures file.bytes file.meaning file.reads all file.are f c.requires.apart) c.requires.known

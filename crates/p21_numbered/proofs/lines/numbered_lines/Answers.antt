@@ -19,28 +19,34 @@ file_order-requires c =
 
 pub returns-in-Err : goal.returns-in-Err
 returns-in-Err c bytes m reads are =
-    let A : List Code → Type 0 = λ all. AreInstancesOf m (file_instances all) in c.in-Err.ensures bytes m reads (subst A (sym c.deref.ensures.value) are)
+    let A : List Code → Type 0 = λ all. AreInstancesOf m (file_instances all) in
+    c.in-Err.ensures bytes m reads (subst A (sym c.deref.ensures.value) are)
 
 pub lines_under-requires-clause-apart : goal.lines_under-requires-clause-apart
 lines_under-requires-clause-apart c =
     let s = c.args.schema.now in
     let file : AreOfFile s (file_instances c.args.instances.items) = c.requires.file in
     let A : List Code → Type 0 = λ all. AreInstancesOf file.meaning (file_instances all) in
-    let answered : IsDecided (ranking_of s) file.meaning × IsAligned (ranking_of s) file.meaning c.in-Ok.order.items = c.in-Ok.ensures file.bytes file.meaning file.reads (subst A (sym c.deref.ensures.value) file.are) in
+    let answered : IsDecided (ranking_of s) file.meaning × IsAligned (ranking_of s) file.meaning c.in-Ok.order.items =
+    c.in-Ok.ensures file.bytes file.meaning file.reads (subst A (sym c.deref.ensures.value) file.are) in
     let G : List ℕ → Type 0 = λ xs. IsDistinct nat_eq xs → (n : ℕ) → Contains xs n → new_name c.in_ok-numbers.numbers n ≡ number_in xs n in
-    numbers-apart s c.well_formed-2.ensures file.bytes file.meaning file.reads (file_instances c.args.instances.items) file.are (ranking_of s) c.in-Ok.order.items answered.1.is_order (new_name c.in_ok-numbers.numbers)
+    numbers-apart s c.well_formed-2.ensures file.bytes file.meaning file.reads (file_instances c.args.instances.items) file.are
+    (ranking_of s) c.in-Ok.order.items answered.1.is_order (new_name c.in_ok-numbers.numbers)
     (subst G c.deref-2.ensures.value c.in_ok-numbers.ensures answered.1.is_order.once)
 
 pub returns : goal.returns
 returns c bytes m reads are =
     let s = c.args.schema.now in
     let A : List Code → Type 0 = λ all. AreInstancesOf m (file_instances all) in
-    let answered : IsDecided (ranking_of s) m × IsAligned (ranking_of s) m c.in-Ok.order.items = c.in-Ok.ensures bytes m reads (subst A (sym c.deref.ensures.value) are) in
+    let answered : IsDecided (ranking_of s) m × IsAligned (ranking_of s) m c.in-Ok.order.items =
+    c.in-Ok.ensures bytes m reads (subst A (sym c.deref.ensures.value) are) in
     let G : List ℕ → Type 0 = λ xs. IsDistinct nat_eq xs → (n : ℕ) → Contains xs n → new_name c.in_ok-numbers.numbers n ≡ number_in xs n in
     record {
       decided = answered.0;
       order = c.in-Ok.order.items;
       aligned = answered.1;
-      lines_are = lines-numbered s c.well_formed-2.ensures bytes m reads (file_instances c.args.instances.items) are (ranking_of s) c.in-Ok.order.items answered.1.is_order (new_name c.in_ok-numbers.numbers)
-          (subst G c.deref-2.ensures.value c.in_ok-numbers.ensures answered.1.is_order.once) (held_lines c.in_ok-lines.lines.items) c.in_ok-lines.ensures;
+      lines_are = lines-numbered s c.well_formed-2.ensures bytes m reads (file_instances c.args.instances.items) are (ranking_of s)
+          c.in-Ok.order.items answered.1.is_order (new_name c.in_ok-numbers.numbers)
+          (subst G c.deref-2.ensures.value c.in_ok-numbers.ensures answered.1.is_order.once) (held_lines c.in_ok-lines.lines.items)
+          c.in_ok-lines.ensures;
     }

@@ -20,7 +20,8 @@ loop-k-preserved c =
     let places : List (List ℕ) = lent_rows c.args.places.now in
     let from : ℕ → List Edge = edges_from c.args.positions.now places (held_nodes all) in
     let uses : held_uses c.deref.result.now ≡ (node_at (held_nodes all) k).uses =
-    ap held_uses c.deref.ensures.value ∙ ap (λ (n : Node). n.uses) (sym (get_or-map held_node all k c.index-nodes-k.result no_node c.loop-k-test.true)) in
+    ap held_uses c.deref.ensures.value ∙ ap (λ (n : Node). n.uses)
+    (sym (get_or-map held_node all k c.index-nodes-k.result no_node c.loop-k-test.true)) in
     c.in_ok-edges.ensures ∙ ap (λ (us : List Use). c.loop-k.edges.items ++ flat_map (edge_of c.args.positions.now places k) us) uses
     ∙ ap (λ (es : List Edge). es ++ from k) c.loop-k.invariant
     ∙ sym (ap (flat_map from) (range-more k) ∙ flat_map-last from (range_with_len 0 k) k)

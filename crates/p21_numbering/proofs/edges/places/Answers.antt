@@ -16,4 +16,5 @@ loop-node-preserved c =
     let first : lent_rows c.in_ok-places.places.items ≡ lent_rows c.loop-node.places.items ++ own_places (held_node c.node-item.result) =
     c.in_ok-places.ensures ∙ ap (λ us. lent_rows c.loop-node.places.items ++ map (λ (u : Use). u.0) (held_uses us)) c.deref.ensures.value in
     first ∙ ap (λ (ps : List (List ℕ)). ps ++ own_places (held_node c.node-item.result)) c.loop-node.invariant
-    ∙ sym (ap places_of (map-more held_node all k c.node-item.result c.node-item.is c.loop-node-test.true) ∙ flat_map-last own_places (held_nodes (take k all)) (held_node c.node-item.result))
+    ∙ sym (ap places_of (map-more held_node all k c.node-item.result c.node-item.is c.loop-node-test.true)
+    ∙ flat_map-last own_places (held_nodes (take k all)) (held_node c.node-item.result))

@@ -13,7 +13,10 @@ pub loop-k-preserved : goal.loop-k-preserved
 loop-k-preserved c =
     let all : List Code = c.args.nodes.now in
     let k : ℕ = c.loop-k.k in
-    let long : k ≡ length (held_nodes (take k all)) = sym (length-map (take k all) held_node ∙ length-take-le k all (omega (arith, c.loop-k-test.true))) in
+    let long : k ≡ length (held_nodes (take k all)) = sym
+    (length-map (take k all) held_node ∙ length-take-le k all (omega (arith, c.loop-k-test.true))) in
     let U : Code → Type 0 = λ n. Updates nat_cmp c.loop-k.positions c.insert.new.self n.name (Some k) in
     let P : List Node → Type 0 = λ ns. FindsNames c.insert.new.self ns in
-    subst P (sym (map-more held_node all k c.index-nodes-k.result c.index-nodes-k.is c.loop-k-test.true)) (names-more c.loop-k.positions c.insert.new.self (held_nodes (take k all)) (held_node c.index-nodes-k.result) k long c.loop-k.invariant (subst U (sym c.index-nodes-k.is) c.in_ok-insert.ensures.updates))
+    subst P (sym (map-more held_node all k c.index-nodes-k.result c.index-nodes-k.is c.loop-k-test.true))
+    (names-more c.loop-k.positions c.insert.new.self (held_nodes (take k all)) (held_node c.index-nodes-k.result) k long
+    c.loop-k.invariant (subst U (sym c.index-nodes-k.is) c.in_ok-insert.ensures.updates))

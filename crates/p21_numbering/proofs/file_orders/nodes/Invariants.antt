@@ -8,5 +8,7 @@ abbrev pub invariant-loop-k : goal.invariant-loop-k
 invariant-loop-k l = record {
   size : length l.nodes.items ≡ l.k;
   names : names (held_nodes l.nodes.items) ≡ names_of (file_instances (take l.k l.instances));
-  each : (k : ℕ) → k < l.k → IsNodeFor l.schema (instance_at (file_instances l.instances) k).name (instance_at (file_instances l.instances) k).typed (instance_at (file_instances l.instances) k).heading (node_at (held_nodes l.nodes.items) k);
+  each : (k : ℕ) → k < l.k → IsNodeFor l.schema (instance_at (file_instances l.instances) k).name
+      (instance_at (file_instances l.instances) k).typed (instance_at (file_instances l.instances) k).heading
+      (node_at (held_nodes l.nodes.items) k);
 }

@@ -8,5 +8,6 @@ use Rattle.p21_numbering.proofs.file_orders.ranked_instances.Given as goal
 abbrev pub invariant-loop-k : goal.invariant-loop-k
 invariant-loop-k l = record {
   size : length l.all.items ≡ l.k;
-  each : (k : ℕ) → k < l.k → IsRankedBy l.schema (standing_of l.standings) (instance_at (file_instances l.instances) k) (ranked_at (held_instances l.all.items) k);
+  each : (k : ℕ) → k < l.k → IsRankedBy l.schema (standing_of l.standings) (instance_at (file_instances l.instances) k)
+      (ranked_at (held_instances l.all.items) k);
 }

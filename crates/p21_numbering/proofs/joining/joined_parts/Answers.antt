@@ -29,9 +29,12 @@ pub loop-pair-preserved : goal.loop-pair-preserved
 loop-pair-preserved c =
     let pair : ℕ × ℕ = slice_index_or c.args.pairs.now c.loop-pair.pair-index (0, 0) in
     let low = c.requires pair (Contains-get_or c.args.pairs.now c.loop-pair.pair-index (0, 0) c.loop-pair-test.true) in
-    let P : List (ℕ × ℕ) → Type 0 = λ pairs. AreParts c.args.count pairs c.in_ok-parts.parts.of.items (held_rows c.in_ok-parts.parts.members.items) in
+    let P : List (ℕ × ℕ) → Type 0 = λ pairs. AreParts c.args.count pairs c.in_ok-parts.parts.of.items
+    (held_rows c.in_ok-parts.parts.members.items) in
     subst P (sym (take_more c.args.pairs.now c.loop-pair.pair-index (0, 0) c.loop-pair-test.true))
-    (one-pair_more c.args.count (take c.loop-pair.pair-index c.args.pairs.now) c.loop-pair.parts.of.items (held_rows c.loop-pair.parts.members.items) pair.0 pair.1 c.in_ok-parts.parts.of.items (held_rows c.in_ok-parts.parts.members.items) c.loop-pair.invariant
+    (one-pair_more c.args.count (take c.loop-pair.pair-index c.args.pairs.now) c.loop-pair.parts.of.items
+    (held_rows c.loop-pair.parts.members.items) pair.0 pair.1 c.in_ok-parts.parts.of.items (held_rows c.in_ok-parts.parts.members.items)
+    c.loop-pair.invariant
     (λ p among. c.requires p (Contains-take c.loop-pair.pair-index c.args.pairs.now p among)) low.0 low.1 c.in_ok-parts.ensures)
 
 pub returns-clause-joined : goal.returns-clause-joined

@@ -15,5 +15,8 @@ pub loop-one-preserved : goal.loop-one-preserved
 loop-one-preserved c =
     let one : ℕ = slice_index_or c.args.moved.now c.loop-one.one-index 0 in
     let low = c.requires one (Contains-get_or c.args.moved.now c.loop-one.one-index 0 c.loop-one-test.true) in
-    let P : List ℕ → Type 0 = λ moved. AreRelabelled moved c.args.number c.args.of.now.items (slice_set c.loop-one.of.items one c.args.number) in
-    subst P (sym (take_more c.args.moved.now c.loop-one.one-index 0 c.loop-one-test.true)) (one-relabelled (take c.loop-one.one-index c.args.moved.now) c.args.number c.args.of.now.items c.loop-one.of.items one c.loop-one.invariant low)
+    let P : List ℕ → Type 0 = λ moved. AreRelabelled moved c.args.number c.args.of.now.items
+    (slice_set c.loop-one.of.items one c.args.number) in
+    subst P (sym (take_more c.args.moved.now c.loop-one.one-index 0 c.loop-one-test.true))
+    (one-relabelled (take c.loop-one.one-index c.args.moved.now) c.args.number c.args.of.now.items c.loop-one.of.items one
+    c.loop-one.invariant low)

@@ -19,7 +19,13 @@ pub loop-n-preserved : goal.loop-n-preserved
 loop-n-preserved c =
     let rank : List ℕ = c.args.rank.now in
     let own : ℕ = rank_at rank c.loop-n.n in
-    let P : List Use → Type 0 = λ us. IsKeyed own (rank_at c.args.sizes.now own) (ranks_of rank c.args.fresh.now) us c.of-in-loop-n.result.now c.in_ok-key.key.items in
-    let Q : List Use → Type 0 = λ us. IsKeyed own (rank_at c.args.sizes.now own) (ranks_of rank c.args.fresh.now) (uses_of c.args.uses.now c.loop-n.n) us c.in_ok-key.key.items in
-    let same : Q (uses_of c.args.users.now c.loop-n.n) = subst Q c.of-in-loop-n.ensures (subst P c.of.ensures c.in_ok-key.ensures) in
-    (search rules, rows-more (λ m row. IsKeyed (rank_at rank m) (rank_at c.args.sizes.now (rank_at rank m)) (ranks_of rank c.args.fresh.now) (uses_of c.args.uses.now m) (uses_of c.args.users.now m) row) c.loop-n.keys.items c.push.new.self.items c.in_ok-key.key c.loop-n.n c.loop-n.invariant.0 c.in_ok-push.ensures.items c.loop-n.invariant.1 same)
+    let P : List Use → Type 0 = λ us. IsKeyed own (rank_at c.args.sizes.now own) (ranks_of rank c.args.fresh.now) us
+    c.of-in-loop-n.result.now c.in_ok-key.key.items in
+    let Q : List Use → Type 0 = λ us. IsKeyed own (rank_at c.args.sizes.now own) (ranks_of rank c.args.fresh.now)
+    (uses_of c.args.uses.now c.loop-n.n) us c.in_ok-key.key.items in
+    let same : Q (uses_of c.args.users.now c.loop-n.n) = subst Q c.of-in-loop-n.ensures (subst P c.of.ensures c.in_ok-key.ensures) in (
+      search rules,
+      rows-more (λ m row. IsKeyed (rank_at rank m) (rank_at c.args.sizes.now (rank_at rank m)) (ranks_of rank c.args.fresh.now)
+          (uses_of c.args.uses.now m) (uses_of c.args.users.now m) row) c.loop-n.keys.items c.push.new.self.items c.in_ok-key.key c.loop-n.n
+          c.loop-n.invariant.0 c.in_ok-push.ensures.items c.loop-n.invariant.1 same,
+    )

@@ -10,5 +10,6 @@ pub returns : goal.returns
 returns c =
     IfOk-weaker c.with_text.result _ _ (λ row is.
     is
-    ∙ ap (λ (xs : List ℕ). xs ++ (map suc c.args.text.now ++ (0 ∷ []))) (c.in_ok-row.ensures ∙ ap (λ (xs : List ℕ). xs ++ row_of_texts (lent_rows c.args.heading.now)) c.in_ok-room.ensures.items)
+    ∙ ap (λ (xs : List ℕ). xs ++ (map suc c.args.text.now ++ (0 ∷ [])))
+    (c.in_ok-row.ensures ∙ ap (λ (xs : List ℕ). xs ++ row_of_texts (lent_rows c.args.heading.now)) c.in_ok-room.ensures.items)
     ∙ sym (row-push (lent_rows c.args.heading.now) c.args.text.now)) c.with_text.ensures

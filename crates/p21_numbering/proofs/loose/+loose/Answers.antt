@@ -15,17 +15,20 @@ element_in st ns v = loose_element st ns (view v)
 pub loose_in-loop-value-preserved : goal.loose_in-loop-value-preserved
 loose_in-loop-value-preserved t c =
     let st : Standing = standing_of c.args.standings.now in
-    first-next (value_in st) c.args.values.now c.loop-value.value-index c.value-item.result c.value-item.is c.loop-value-test.true c.loop-value.invariant (sym c.in_ok-found.ensures ∙ c.in-None.is)
+    first-next (value_in st) c.args.values.now c.loop-value.value-index c.value-item.result c.value-item.is c.loop-value-test.true
+    c.loop-value.invariant (sym c.in_ok-found.ensures ∙ c.in-None.is)
 
 pub loose_in-returns-in-Some : goal.loose_in-returns-in-Some
 loose_in-returns-in-Some t c =
     let st : Standing = standing_of c.args.standings.now in
-    sym (first-found (value_in st) c.args.values.now c.loop-value.value-index c.value-item.result c.in-Some.name c.value-item.is c.loop-value-test.true c.loop-value.invariant (sym c.in_ok-found.ensures ∙ c.in-Some.is)) ∙ loose-in st c.args.values.now
+    sym (first-found (value_in st) c.args.values.now c.loop-value.value-index c.value-item.result c.in-Some.name c.value-item.is
+    c.loop-value-test.true c.loop-value.invariant (sym c.in_ok-found.ensures ∙ c.in-Some.is)) ∙ loose-in st c.args.values.now
 
 pub loose_in-returns : goal.loose_in-returns
 loose_in-returns t c =
     let st : Standing = standing_of c.args.standings.now in
-    sym (first-none (value_in st) c.args.values.now c.loop-value.value-index c.loop-value-test.false c.loop-value.invariant) ∙ loose-in st c.args.values.now
+    sym (first-none (value_in st) c.args.values.now c.loop-value.value-index c.loop-value-test.false c.loop-value.invariant)
+    ∙ loose-in st c.args.values.now
 
 pub loose_in_set-loop-value-preserved : goal.loose_in_set-loop-value-preserved
 loose_in_set-loop-value-preserved t c =
@@ -33,7 +36,8 @@ loose_in_set-loop-value-preserved t c =
     let ns : List ℕ = c.in_ok-names.names.items in
     let P : List ℕ → Type 0 = λ xs. IsCount st xs c.in_ok-counts.counts in
     let counted : IsCount st ns c.in_ok-counts.counts = subst P c.deref.ensures.value c.in_ok-counts.ensures in
-    first-next (element_in st ns) c.args.values.now c.loop-value.value-index c.value-item.result c.value-item.is c.loop-value-test.true c.loop-value.invariant (sym (c.in_ok-found.ensures ns counted) ∙ c.in-None.is)
+    first-next (element_in st ns) c.args.values.now c.loop-value.value-index c.value-item.result c.value-item.is c.loop-value-test.true
+    c.loop-value.invariant (sym (c.in_ok-found.ensures ns counted) ∙ c.in-None.is)
 
 pub loose_in_set-returns-in-Some : goal.loose_in_set-returns-in-Some
 loose_in_set-returns-in-Some t c =
@@ -41,7 +45,8 @@ loose_in_set-returns-in-Some t c =
     let ns : List ℕ = c.in_ok-names.names.items in
     let P : List ℕ → Type 0 = λ xs. IsCount st xs c.in_ok-counts.counts in
     let counted : IsCount st ns c.in_ok-counts.counts = subst P c.deref.ensures.value c.in_ok-counts.ensures in
-    sym (first-found (element_in st ns) c.args.values.now c.loop-value.value-index c.value-item.result c.in-Some.name c.value-item.is c.loop-value-test.true c.loop-value.invariant (sym (c.in_ok-found.ensures ns counted) ∙ c.in-Some.is))
+    sym (first-found (element_in st ns) c.args.values.now c.loop-value.value-index c.value-item.result c.in-Some.name c.value-item.is
+    c.loop-value-test.true c.loop-value.invariant (sym (c.in_ok-found.ensures ns counted) ∙ c.in-Some.is))
     ∙ loose-among st ns c.args.values.now ∙ ap (λ (xs : List ℕ). loose_among st xs (views c.args.values.now)) c.in_ok-names.ensures
 
 pub loose_in_set-returns : goal.loose_in_set-returns

@@ -6,7 +6,9 @@ use Rattle.p21_numbering.proofs.FirstFound.{first_in}
 use Rattle.p21_numbering.proofs.loose.+loose.Given as goal
 
 abbrev pub invariant-loose_in-loop-value : goal.invariant-loose_in-loop-value
-invariant-loose_in-loop-value l = first_in (λ (v : Value). loose_value (standing_of l.standings) (view v)) (take l.value-index l.values) ≡ None
+invariant-loose_in-loop-value l = first_in (λ (v : Value). loose_value (standing_of l.standings) (view v))
+    (take l.value-index l.values) ≡ None
 
 abbrev pub invariant-loose_in_set-loop-value : goal.invariant-loose_in_set-loop-value
-invariant-loose_in_set-loop-value l = first_in (λ (v : Value). loose_element (standing_of l.standings) l.names.items (view v)) (take l.value-index l.values) ≡ None
+invariant-loose_in_set-loop-value l = first_in (λ (v : Value). loose_element (standing_of l.standings) l.names.items (view v))
+    (take l.value-index l.values) ≡ None

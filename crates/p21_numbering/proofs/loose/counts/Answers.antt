@@ -10,7 +10,8 @@ use Rattle.p21_numbering.proofs.loose.counts.Goals as goal
 
 pub overflow_add-before : goal.overflow_add-before
 overflow_add-before c =
-    let low = count-low (standing_of c.args.standings.now) c.args.names.now c.loop-i.i c.loop-i.counts (omega (arith, c.loop-i-test.true)) c.loop-i.invariant c.rank-rank.result in
+    let low = count-low (standing_of c.args.standings.now) c.args.names.now c.loop-i.i c.loop-i.counts (omega (arith, c.loop-i-test.true))
+    c.loop-i.invariant c.rank-rank.result in
     let fits : c.count-before.result < length c.args.names.now = omega (arith, low, c.count-before.ensures, c.loop-i-test.true) in
     search (rules, fits)
 
@@ -20,8 +21,10 @@ loop-i-preserved c =
     let here : ℕ = st.rank (get_or c.args.names.now c.loop-i.i 0) in
     let P : ℕ → Type 0 = λ n. Updates nat_cmp c.loop-i.counts c.insert.new.self n (Some (c.count-before.result + 1)) in
     let Q : ℕ → Type 0 = λ n. Updates nat_cmp c.loop-i.counts c.insert.new.self here (Some (n + 1)) in
-    let before : c.count-before.result ≡ new_name c.loop-i.counts here = c.count-before.ensures ∙ ap (new_name c.loop-i.counts) c.rank-rank.ensures in
-    count-next st c.args.names.now c.loop-i.i c.loop-i.counts c.insert.new.self c.loop-i-test.true (subst Q before (subst P c.rank-rank.ensures c.in_ok-insert.ensures.updates)) c.loop-i.invariant
+    let before : c.count-before.result ≡ new_name c.loop-i.counts here = c.count-before.ensures
+    ∙ ap (new_name c.loop-i.counts) c.rank-rank.ensures in
+    count-next st c.args.names.now c.loop-i.i c.loop-i.counts c.insert.new.self c.loop-i-test.true
+    (subst Q before (subst P c.rank-rank.ensures c.in_ok-insert.ensures.updates)) c.loop-i.invariant
 
 pub returns : goal.returns
 returns c =

@@ -6,4 +6,5 @@ use Rattle.p21_numbering.proofs.FirstFound.{first_in}
 use Rattle.p21_numbering.proofs.loose.loose_in_rows.Given as goal
 
 abbrev pub invariant-loop-row : goal.invariant-loop-row
-invariant-loop-row l = first_in (λ (row : Values). loose_in (standing_of l.standings) (views (list_of row))) (take l.row-index l.rows) ≡ None
+invariant-loop-row l = first_in (λ (row : Values). loose_in (standing_of l.standings) (views (list_of row)))
+    (take l.row-index l.rows) ≡ None

@@ -15,5 +15,9 @@ loop-k-preserved c j low =
     ]
 
 pub returns-in-Some : goal.returns-in-Some
-returns-in-Some c =
-    (c.loop-k.k, omega (arith, c.loop-k-test.true, length-map c.args.instances.now held_instance), sym (ap (λ (r : Ranked). r.loose) c.at.ensures) ∙ c.in-Some.is)
+returns-in-Some c = (
+  c.loop-k.k,
+  omega (arith, c.loop-k-test.true, length-map c.args.instances.now held_instance),
+  sym
+      (ap (λ (r : Ranked). r.loose) c.at.ensures) ∙ c.in-Some.is,
+)

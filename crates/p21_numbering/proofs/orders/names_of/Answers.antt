@@ -7,7 +7,8 @@ use Rattle.p21_numbering.specs.Ranked.{Ranked, held_instances, name_of}
 use Rattle.p21_numbering.proofs.orders.names_of.Goals as goal
 
 pub at-one-requires : goal.at-one-requires
-at-one-requires c = c.requires (slice_index_or c.args.sorted.now c.loop-entry.entry-index (0, 0, 0)) (Contains-get_or c.args.sorted.now c.loop-entry.entry-index (0, 0, 0) c.loop-entry-test.true)
+at-one-requires c = c.requires (slice_index_or c.args.sorted.now c.loop-entry.entry-index (0, 0, 0))
+    (Contains-get_or c.args.sorted.now c.loop-entry.entry-index (0, 0, 0) c.loop-entry-test.true)
 
 pub loop-entry-preserved : goal.loop-entry-preserved
 loop-entry-preserved c =
@@ -17,4 +18,5 @@ loop-entry-preserved c =
     c.in_ok-push.ensures.items
     ∙ ap (λ (ns : List ℕ). ns ++ c.at-one.result.now.name ∷ []) c.loop-entry.invariant
     ∙ ap (λ (r : Ranked). map name (take i sorted) ++ r.name ∷ []) c.at-one.ensures
-    ∙ sym (ap (map name) (take_more sorted i (0, 0, 0) c.loop-entry-test.true) ∙ map-append name (take i sorted) (slice_index_or sorted i (0, 0, 0) ∷ []))
+    ∙ sym (ap (map name) (take_more sorted i (0, 0, 0) c.loop-entry-test.true)
+    ∙ map-append name (take i sorted) (slice_index_or sorted i (0, 0, 0) ∷ []))

@@ -10,4 +10,5 @@ pub returns-in-Some : goal.returns-in-Some
 returns-in-Some c s formed bytes m reads ranking are =
     let (k, low, is) = c.in-Some.ensures in
     let P : Unordered → Type 0 = λ fault. Orders ranking m (Err fault) in
-    subst P (sym c.alike.ensures) (loose-alike s formed bytes m reads ranking (held_instances c.args.instances.now) are k low c.in-Some.found is c.other_of.result c.other_of.ensures)
+    subst P (sym c.alike.ensures) (loose-alike s formed bytes m reads ranking (held_instances c.args.instances.now) are k low
+    c.in-Some.found is c.other_of.result c.other_of.ensures)

@@ -16,8 +16,15 @@ loop-k-preserved c j low rank differ =
 
 pub returns-then-is_other : goal.returns-then-is_other
 returns-then-is_other c k low rank differ =
-    let (same, other) = c.is_other.ensures.yes c.if-is_other.true in
-    (c.loop-k.k, omega (arith, c.loop-k-test.true, length-map c.args.instances.now held_instance), sym (ap (λ (r : Ranked). r.name) c.at-one.ensures), sym (ap (λ (r : Ranked). r.rank) c.at-one.ensures) ∙ same, other)
+    let (same, other) = c.is_other.ensures.yes c.if-is_other.true in (
+      c.loop-k.k,
+      omega (arith, c.loop-k-test.true, length-map c.args.instances.now held_instance),
+      sym
+          (ap (λ (r : Ranked). r.name) c.at-one.ensures),
+      sym (ap (λ (r : Ranked). r.rank) c.at-one.ensures) ∙ same,
+      other,
+    )
 
 pub returns : goal.returns
-returns c k low rank differ = absurd (c.loop-k.invariant k (omega (arith, low, c.loop-k-test.false, length-map c.args.instances.now held_instance)) rank differ)
+returns c k low rank differ = absurd (c.loop-k.invariant k
+    (omega (arith, low, c.loop-k-test.false, length-map c.args.instances.now held_instance)) rank differ)

@@ -15,11 +15,13 @@ loop-k-preserved c =
     let all : List Ranked = held_instances c.args.instances.now in
     let k : ℕ = c.loop-k.k in
     let low : k < length all = omega (arith, c.loop-k-test.true, length-map c.args.instances.now held_instance) in
-    let long : k ≡ length (map named_node (take k all)) = sym (length-map (take k all) named_node ∙ length-take-le k all (omega (arith, low))) in
+    let long : k ≡ length (map named_node (take k all)) =
+    sym (length-map (take k all) named_node ∙ length-take-le k all (omega (arith, low))) in
     let more = ap (map named_node) (take_more all k no_instance low) ∙ map-append named_node (take k all) (ranked_at all k ∷ []) in
     let U : Ranked → Type 0 = λ r. Updates nat_cmp c.loop-k.positions c.insert.new.self r.name (Some k) in
     let P : List Node → Type 0 = λ ns. FindsNames c.insert.new.self ns in
-    subst P (sym more) (names-more c.loop-k.positions c.insert.new.self (map named_node (take k all)) (named_node (ranked_at all k)) k long c.loop-k.invariant (subst U c.at.ensures c.in_ok-insert.ensures.updates))
+    subst P (sym more) (names-more c.loop-k.positions c.insert.new.self (map named_node (take k all)) (named_node (ranked_at all k)) k long
+    c.loop-k.invariant (subst U c.at.ensures c.in_ok-insert.ensures.updates))
 
 pub returns : goal.returns
 returns c =

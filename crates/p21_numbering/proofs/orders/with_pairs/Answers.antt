@@ -14,4 +14,5 @@ loop-name-preserved c =
     let base : List (ℕ × ℕ) = c.args.pairs.items in
     c.in_ok-more.ensures ∙ ap (λ (ps : List (ℕ × ℕ)). ps ++ from name) c.loop-name.invariant
     ∙ append_assoc base (flat_map from (take i c.args.beside.now)) (from name)
-    ∙ ap (λ (ps : List (ℕ × ℕ)). base ++ ps) (sym (ap (flat_map from) (take_more c.args.beside.now i 0 c.loop-name-test.true) ∙ flat_map-last from (take i c.args.beside.now) name))
+    ∙ ap (λ (ps : List (ℕ × ℕ)). base ++ ps) (sym (ap (flat_map from) (take_more c.args.beside.now i 0 c.loop-name-test.true)
+    ∙ flat_map-last from (take i c.args.beside.now) name))

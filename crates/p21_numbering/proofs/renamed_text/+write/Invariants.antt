@@ -6,7 +6,8 @@ use Rattle.p21_numbering.proofs.RenamedTexts.{new_text}
 use Rattle.p21_numbering.proofs.renamed_text.+write.Given as goal
 
 abbrev pub invariant-write_list-loop-i : goal.invariant-write_list-loop-i
-invariant-write_list-loop-i l = l.out.items ≡ (l.fn.out.items ++ 40 ∷ []) ++ with_commas_between (map (new_text l.schema (new_name l.names)) (take l.i l.values))
+invariant-write_list-loop-i l = l.out.items ≡ (l.fn.out.items ++ 40 ∷ [])
+    ++ with_commas_between (map (new_text l.schema (new_name l.names)) (take l.i l.values))
 
 abbrev pub invariant-write_unordered-loop-value : goal.invariant-write_unordered-loop-value
 invariant-write_unordered-loop-value l = record {

@@ -11,11 +11,14 @@ use Rattle.p21_spec_file.specs.Value as meant
 use Rattle.p21_numbering.proofs.renaming.renamed_rows.Goals as goal
 
 pub loop-row-init : goal.loop-row-init
-loop-row-init c = none-taken _ (λ (r : Values). views (list_of r)) c.reverse.new.self.items c.args.rows.items c.in_ok-all.all.items c.reverse.ensures.items c.in_ok-all.ensures.items
+loop-row-init c = none-taken _ (λ (r : Values). views (list_of r)) c.reverse.new.self.items c.args.rows.items c.in_ok-all.all.items
+    c.reverse.ensures.items c.in_ok-all.ensures.items
 
 pub loop-row-preserved : goal.loop-row-preserved
 loop-row-preserved c =
-    one-taken _ (λ (r : Values). views (list_of r)) c.loop-row.left.items c.pop.new.self.items c.args.rows.items c.in-Some.row c.in_ok-row.row c.loop-row.all.items c.push.new.self.items c.loop-row.invariant c.in-Some.ensures.items c.in_ok-row.ensures c.in_ok-push.ensures.items
+    one-taken _ (λ (r : Values). views (list_of r)) c.loop-row.left.items c.pop.new.self.items c.args.rows.items c.in-Some.row
+    c.in_ok-row.row c.loop-row.all.items c.push.new.self.items c.loop-row.invariant c.in-Some.ensures.items c.in_ok-row.ensures
+    c.in_ok-push.ensures.items
 
 abbrev row_view : Values → meant.Values
 row_view row = views (list_of row)
@@ -23,5 +26,7 @@ row_view row = views (list_of row)
 pub returns : goal.returns
 returns c =
     let f : ℕ → ℕ = new_name c.args.names.now in
-    let empty : c.loop-row.left.items ≡ [] = nothing-left c.loop-row.left.items (omega (arith, c.in_default.ensures.cases.0, c.loop-row.left.ok.0)) in
-    all-taken (λ (r : Values). renamed_values f (row_view r)) row_view c.loop-row.left.items c.args.rows.items c.loop-row.all.items c.loop-row.invariant empty ∙ sym (map-mapped (renamed_values f) row_view c.args.rows.items)
+    let empty : c.loop-row.left.items ≡ [] = nothing-left c.loop-row.left.items
+    (omega (arith, c.in_default.ensures.cases.0, c.loop-row.left.ok.0)) in
+    all-taken (λ (r : Values). renamed_values f (row_view r)) row_view c.loop-row.left.items c.args.rows.items c.loop-row.all.items
+    c.loop-row.invariant empty ∙ sym (map-mapped (renamed_values f) row_view c.args.rows.items)

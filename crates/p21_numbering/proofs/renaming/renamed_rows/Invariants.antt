@@ -7,7 +7,8 @@ use Rattle.p21_spec_numbering.specs.Renamed.{renamed_values}
 use Rattle.p21_numbering.proofs.renaming.renamed_rows.Given as goal
 
 abbrev pub invariant-loop-row : goal.invariant-loop-row
-invariant-loop-row l = Halfway (λ (r : Values). renamed_values (new_name l.names) (views (list_of r))) (λ (r : Values). views (list_of r)) l.left.items l.fn.rows.items l.all.items
+invariant-loop-row l = Halfway (λ (r : Values). renamed_values (new_name l.names) (views (list_of r))) (λ (r : Values). views (list_of r))
+    l.left.items l.fn.rows.items l.all.items
 
 abbrev pub decreases-loop-row : goal.decreases-loop-row
 decreases-loop-row l = length l.left.items

@@ -25,7 +25,8 @@ row_view row = views (list_of row)
 pub loop-values-init : goal.loop-values-init
 loop-values-init c =
     let ids : c.items.result.now ≡ c.args.typed.now.parts = search rules in
-    c.in_ok-row.ensures ∙ ap (λ (es : List EntityId). map suc (ids_view es) ++ (0 ∷ [])) ids ∙ sym (append-nil (map suc (ids_view c.args.typed.now.parts) ++ (0 ∷ [])))
+    c.in_ok-row.ensures ∙ ap (λ (es : List EntityId). map suc (ids_view es) ++ (0 ∷ [])) ids
+    ∙ sym (append-nil (map suc (ids_view c.args.typed.now.parts) ++ (0 ∷ [])))
 
 pub with_values-requires : goal.with_values-requires
 with_values-requires c =
@@ -33,7 +34,8 @@ with_values-requires c =
     let rows : c.items-values-items.result.now ≡ c.args.typed.now.values = search rules in
     let E : List Row → Type 0 = λ rs. Each (HaveKnownTypes s) (rows_view rs) in
     let Q : List Value → Type 0 = λ vs. HaveKnownTypes s (views vs) in
-    subst Q (sym c.items-in-loop-values.ensures) (each-at (HaveKnownTypes s) row_view c.items-values-items.result.now c.loop-values.values-index c.values-item.result c.values-item.is c.loop-values-test.true (subst E (sym rows) c.requires.known))
+    subst Q (sym c.items-in-loop-values.ensures) (each-at (HaveKnownTypes s) row_view c.items-values-items.result.now
+    c.loop-values.values-index c.values-item.result c.values-item.is c.loop-values-test.true (subst E (sym rows) c.requires.known))
 
 pub loop-values-preserved : goal.loop-values-preserved
 loop-values-preserved c =
@@ -45,11 +47,14 @@ loop-values-preserved c =
     let row : Row = c.values-item.result in
     let all : List Row = c.items-values-items.result.now in
     let more : flat_map (row_texts s f) (take (i + 1) all) ≡ flat_map (row_texts s f) (take i all) ++ row_texts s f row =
-    ap (flat_map (row_texts s f)) (take_more all i row c.loop-values-test.true ∙ ap (λ (r : Row). take i all ++ r ∷ []) (sym c.values-item.is)) ∙ flat_map-last (row_texts s f) (take i all) row in
+    ap (flat_map (row_texts s f)) (take_more all i row c.loop-values-test.true
+    ∙ ap (λ (r : Row). take i all ++ r ∷ []) (sym c.values-item.is)) ∙ flat_map-last (row_texts s f) (take i all) row in
     let P : List Row → Type 0 = λ rs. c.in_ok-row-2.row.items ≡ front ++ row_of_texts (flat_map (row_texts s f) (take (i + 1) rs)) in
     let Q : List Row → Type 0 = λ rs. c.loop-values.row.items ≡ front ++ row_of_texts (flat_map (row_texts s f) (take i rs)) in
-    subst P rows (values-next front c.loop-values.row.items c.in_ok-row-2.row.items (flat_map (row_texts s f) (take i all)) (row_texts s f row) (subst Q (sym rows) c.loop-values.invariant)
-    (c.in_ok-row-2.ensures ∙ ap (λ (vs : List Value). c.loop-values.row.items ++ row_of_texts (value_texts s (renamed_values f (views vs)))) c.items-in-loop-values.ensures)
+    subst P rows (values-next front c.loop-values.row.items c.in_ok-row-2.row.items (flat_map (row_texts s f) (take i all))
+    (row_texts s f row) (subst Q (sym rows) c.loop-values.invariant)
+    (c.in_ok-row-2.ensures ∙ ap (λ (vs : List Value). c.loop-values.row.items ++ row_of_texts (value_texts s (renamed_values f (views vs))))
+    c.items-in-loop-values.ensures)
     ∙ ap (λ (ts : List (List ℕ)). front ++ row_of_texts ts) (sym more))
 
 pub returns : goal.returns
@@ -60,9 +65,13 @@ returns c =
     let front : List ℕ = map suc (ids_view c.args.typed.now.parts) ++ (0 ∷ []) in
     let texts : List (List ℕ) = flat_map (value_texts s) (map (renamed_values f) (rows_view c.args.typed.now.values)) in
     let heading : List (List ℕ) = lent_rows c.args.heading.now in
-    let whole_ : take c.loop-values.values-index c.args.typed.now.values ≡ c.args.typed.now.values = take_all c.loop-values.values-index c.args.typed.now.values (omega (arith, c.loop-values-test.false, ap (λ (rs : List Row). length rs) rows)) in
+    let whole_ : take c.loop-values.values-index c.args.typed.now.values ≡ c.args.typed.now.values =
+    take_all c.loop-values.values-index c.args.typed.now.values
+    (omega (arith, c.loop-values-test.false, ap (λ (rs : List Row). length rs) rows)) in
     c.in_ok-with_texts.ensures
-    ∙ ap (λ (xs : List ℕ). xs ++ row_of_texts heading) (c.loop-values.invariant ∙ ap (λ (ts : List (List ℕ)). front ++ row_of_texts ts) (ap (flat_map (row_texts s f)) whole_ ∙ rows_texts-are s f c.args.typed.now.values))
+    ∙ ap (λ (xs : List ℕ). xs ++ row_of_texts heading)
+    (c.loop-values.invariant ∙ ap (λ (ts : List (List ℕ)). front ++ row_of_texts ts)
+    (ap (flat_map (row_texts s f)) whole_ ∙ rows_texts-are s f c.args.typed.now.values))
     ∙ append_assoc front (row_of_texts texts) (row_of_texts heading)
     ∙ ap (λ (xs : List ℕ). front ++ xs) (sym (rows-joined texts heading))
     ∙ append_assoc (map suc (ids_view c.args.typed.now.parts)) (0 ∷ []) (row_of_texts (texts ++ heading))

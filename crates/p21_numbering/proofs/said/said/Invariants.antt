@@ -7,4 +7,5 @@ use Rattle.p21_numbering.proofs.RenamedTexts.{row_texts}
 use Rattle.p21_numbering.proofs.said.said.Given as goal
 
 abbrev pub invariant-loop-values : goal.invariant-loop-values
-invariant-loop-values l = l.row.items ≡ (map suc (ids_view l.typed.parts) ++ (0 ∷ [])) ++ row_of_texts (flat_map (row_texts l.schema (new_name l.names)) (take l.values-index l.typed.values))
+invariant-loop-values l = l.row.items ≡ (map suc (ids_view l.typed.parts) ++ (0 ∷ []))
+    ++ row_of_texts (flat_map (row_texts l.schema (new_name l.names)) (take l.values-index l.typed.values))

@@ -16,13 +16,18 @@ pub loop-value-preserved : goal.loop-value-preserved
 loop-value-preserved c =
     let text : Value → List ℕ = new_text c.args.schema.now (new_name c.args.names.now) in
     let x : Value = c.value-item.result in
-    let written : c.deref.result.now ≡ text x = c.deref.ensures.value ∙ c.in_ok-write_renamed.ensures ∙ ap (λ (xs : List ℕ). xs ++ text x) c.new-text.ensures.items in
-    values-next c.args.row.items c.loop-value.more.items c.in_ok-more.more.items (map text (take c.loop-value.value-index c.args.values.now)) (text x ∷ []) c.loop-value.invariant
+    let written : c.deref.result.now ≡ text x = c.deref.ensures.value ∙ c.in_ok-write_renamed.ensures
+    ∙ ap (λ (xs : List ℕ). xs ++ text x) c.new-text.ensures.items in
+    values-next c.args.row.items c.loop-value.more.items c.in_ok-more.more.items
+    (map text (take c.loop-value.value-index c.args.values.now)) (text x ∷ []) c.loop-value.invariant
     (c.in_ok-more.ensures ∙ ap (λ (xs : List ℕ). c.loop-value.more.items ++ (map suc xs ++ (0 ∷ []))) written)
-    ∙ ap (λ (ts : List (List ℕ)). c.args.row.items ++ row_of_texts ts) (sym (map-more text c.args.values.now c.loop-value.value-index x c.value-item.is c.loop-value-test.true))
+    ∙ ap (λ (ts : List (List ℕ)). c.args.row.items ++ row_of_texts ts)
+    (sym (map-more text c.args.values.now c.loop-value.value-index x c.value-item.is c.loop-value-test.true))
 
 pub returns : goal.returns
 returns c =
     c.loop-value.invariant
     ∙ ap (λ (ts : List (List ℕ)). c.args.row.items ++ row_of_texts ts)
-    (ap (map (new_text c.args.schema.now (new_name c.args.names.now))) (take_all c.loop-value.value-index c.args.values.now (omega (arith, c.loop-value-test.false))) ∙ texts-are c.args.schema.now (new_name c.args.names.now) c.args.values.now)
+    (ap (map (new_text c.args.schema.now (new_name c.args.names.now)))
+    (take_all c.loop-value.value-index c.args.values.now (omega (arith, c.loop-value-test.false)))
+    ∙ texts-are c.args.schema.now (new_name c.args.names.now) c.args.values.now)

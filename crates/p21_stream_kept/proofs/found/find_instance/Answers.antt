@@ -13,5 +13,7 @@ returns-in-Err-clause-kind c = subst IsOfStatement (sym c.from.ensures) (check-o
 
 pub returns-clause-finds : goal.returns-clause-finds
 returns-clause-finds c =
-    let P : List ℕ → Type 0 = λ old. AppendsStatement c.args.schema.now c.args.name (typed_view c.in-Ok.checked.0) old c.write_record.new.out.items in
-    found c.args.schema.now c.args.name (record_view c.args.of) (typed_view c.in-Ok.checked.0) (needs_view c.in-Ok.checked.1.items) c.in-Ok.ensures c.write_record.new.out.items (subst P c.clear.ensures.items c.in-Ok-write_record.ensures.ok)
+    let P : List ℕ → Type 0 = λ old. AppendsStatement c.args.schema.now c.args.name (typed_view c.in-Ok.checked.0) old
+    c.write_record.new.out.items in
+    found c.args.schema.now c.args.name (record_view c.args.of) (typed_view c.in-Ok.checked.0) (needs_view c.in-Ok.checked.1.items)
+    c.in-Ok.ensures c.write_record.new.out.items (subst P c.clear.ensures.items c.in-Ok-write_record.ensures.ok)

@@ -8,7 +8,8 @@ pub returns-then-not-is_identifier_character-clause-longest : goal.returns-then-
 returns-then-not-is_identifier_character-clause-longest c =
     longest-at c.args.text.now c.loop-place.place c.loop-place-test.true c.loop-place.invariant
     (λ of.
-    let same = c.index-text-place.is ∙ get_or_default_zero c.args.text.now c.loop-place.place c.index-text-place.result c.loop-place-test.true in
+    let same = c.index-text-place.is ∙ get_or_default_zero c.args.text.now c.loop-place.place c.index-text-place.result
+    c.loop-place-test.true in
     let passes : c.is_identifier_character.result ≡ true = c.is_identifier_character.ensures.1 (subst IsIdentifierByte (sym same) of) in
     let fails = c.if-not-is_identifier_character.true in
     cc)

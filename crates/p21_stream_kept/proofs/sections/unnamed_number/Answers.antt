@@ -17,7 +17,8 @@ loop-number-preserved c k below at = elim (cases_lt k c.loop-number.number) [
       let x = c.index-sections-number.result in
       let same : k ≡ c.loop-number.number = omega (arith, h, below) in
       let here = subst (λ (n : ℕ). slice_get (headings_of sections) n ≡ Some unnamed) same at in
-      let is : heading_in x.part ≡ unnamed = same_Some (heading_in x.part) unnamed (sym (heading-at sections c.loop-number.number x c.index-sections-number.is c.loop-number-test.true) ∙ here) in
+      let is : heading_in x.part ≡ unnamed = same_Some (heading_in x.part) unnamed
+      (sym (heading-at sections c.loop-number.number x c.index-sections-number.is c.loop-number-test.true) ∙ here) in
       let passes = c.is_unnamed.ensures.1 is in
       let fails = c.if-is_unnamed.false in
       cc

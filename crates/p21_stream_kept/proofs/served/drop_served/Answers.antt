@@ -17,12 +17,21 @@ loop-index-preserved c =
     let now : List held.Reference = c.loop-index.waiting.items in
     let left = c.loop-index.left in
     let x : held.Reference = c.index.result.now in
-    let low : c.loop-index.index < length now = omega (arith, c.loop-index-test.true, c.len-index-end.ensures, c.loop-index.invariant.as_many) in
+    let low : c.loop-index.index < length now = omega (
+      arith,
+      c.loop-index-test.true,
+      c.len-index-end.ensures,
+      c.loop-index.invariant.as_many,
+    ) in
     let P : ℕ → Type 0 = λ n. AreLooked s stored front old (set now left x) n (c.loop-index.index + 1) in record {
       as_many = length-set now left x ∙ c.loop-index.invariant.as_many;
       looked = elim c.if-not-is_served_now.branch [
-        | then-not-is_served_now w ↦ subst P (sym w.left-is) (looked-unserved s stored front old now left c.loop-index.index c.loop-index.invariant.looked x c.index.ensures low (c.is_served_now.ensures.unserved w.if-not-is_served_now.true))
-        | else-not-is_served_now w ↦ subst P (sym w.left-is) (looked-served s stored front old now left c.loop-index.index c.loop-index.invariant.looked x c.index.ensures low (c.is_served_now.ensures.served w.if-not-is_served_now.false))
+        | then-not-is_served_now w ↦ subst P (sym w.left-is)
+            (looked-unserved s stored front old now left c.loop-index.index c.loop-index.invariant.looked x c.index.ensures low
+            (c.is_served_now.ensures.unserved w.if-not-is_served_now.true))
+        | else-not-is_served_now w ↦ subst P (sym w.left-is)
+            (looked-served s stored front old now left c.loop-index.index c.loop-index.invariant.looked x c.index.ensures low
+            (c.is_served_now.ensures.served w.if-not-is_served_now.false))
       ];
       right = c.is_served_now.ensures.right;
     }
@@ -36,4 +45,5 @@ returns-clause-drops c =
     let now : List held.Reference = c.loop-index.waiting.items in
     let Drops : List held.Reference → Type 0 = λ left. DropsBehind s stored front old (references_of left) in
     subst Drops (sym (c.give_back.ensures.items ∙ c.truncate.ensures.items))
-    (looked-all s stored front old now c.loop-index.left c.loop-index.index c.loop-index.invariant.looked (omega (arith, c.loop-index-test.false, c.len-index-end.ensures, c.loop-index.invariant.as_many)))
+    (looked-all s stored front old now c.loop-index.left c.loop-index.index c.loop-index.invariant.looked
+    (omega (arith, c.loop-index-test.false, c.len-index-end.ensures, c.loop-index.invariant.as_many)))

@@ -15,7 +15,8 @@ returns-in-Some c =
     let P : List Reference → Type 0 = λ rs. AnswersUnserved s stored rs (Some (item.holder, c.in-Some.fault)) in
     c.loop-reference.invariant (Some (item.holder, c.in-Some.fault))
     (subst P (sym (references-from c.args.waiting.now c.loop-reference.reference-index item c.reference-item.is c.loop-reference-test.true))
-    (unserved-here s stored item.holder (need_view item.need) (references_of (drop (c.loop-reference.reference-index + 1) c.args.waiting.now)) c.in-Some.fault c.in-Some.ensures))
+    (unserved-here s stored item.holder (need_view item.need)
+    (references_of (drop (c.loop-reference.reference-index + 1) c.args.waiting.now)) c.in-Some.fault c.in-Some.ensures))
 
 pub loop-reference-preserved : goal.loop-reference-preserved
 loop-reference-preserved c = λ result answers.
@@ -25,9 +26,11 @@ loop-reference-preserved c = λ result answers.
     let P : List Reference → Type 0 = λ rs. AnswersUnserved s stored rs result in
     c.loop-reference.invariant result
     (subst P (sym (references-from c.args.waiting.now c.loop-reference.reference-index item c.reference-item.is c.loop-reference-test.true))
-    (unserved-behind s stored (reference_of item) (references_of (drop (c.loop-reference.reference-index + 1) c.args.waiting.now)) c.in_default.ensures result answers))
+    (unserved-behind s stored (reference_of item) (references_of (drop (c.loop-reference.reference-index + 1) c.args.waiting.now))
+    c.in_default.ensures result answers))
 
 pub returns : goal.returns
 returns c =
     let P : List Reference → Type 0 = λ rs. AnswersUnserved c.args.schema.now (stored_in c.args.stored.now) rs None in
-    c.loop-reference.invariant None (subst P (sym (ap references_of (drop_all c.loop-reference.reference-index c.args.waiting.now c.loop-reference-test.false))) tt)
+    c.loop-reference.invariant None (subst P (sym (ap references_of (drop_all c.loop-reference.reference-index c.args.waiting.now
+    c.loop-reference-test.false))) tt)

@@ -16,34 +16,53 @@ pub returns-in_default-clause-unserved : goal.returns-in_default-clause-unserved
 returns-in_default-clause-unserved c = λ none.
     let target = ap (λ (n : Need). n.target) c.need.view_is in
     inl
-    (none-of_name c.args.schema.now c.args.stored.now.memberships (instances_of c.args.stored.now.instances) (need_view c.args.need.now) (subst (λ n. Contains (instance_names (instances_of c.args.stored.now.instances)) n → ⊥) target (c.in_default.ensures.none refl)))
+    (none-of_name c.args.schema.now c.args.stored.now.memberships (instances_of c.args.stored.now.instances) (need_view c.args.need.now)
+    (subst (λ n. Contains (instance_names (instances_of c.args.stored.now.instances)) n → ⊥) target (c.in_default.ensures.none refl)))
 
 pub returns-then-serve_again-clause-served : goal.returns-then-serve_again-clause-served
 returns-then-serve_again-clause-served c = λ yes.
     let membership = membership_of c.get.result.0 c.get.result.1.now in
-    let x : store.StoredInstance = record { name = c.need.inside.0.0.0; membership = c.in-Some.membership; text = c.in-Some.ensures.some.0 } in
-    (stored_with (Some membership) x, stored-found c.args.stored.now.memberships (instances_of c.args.stored.now.instances) x membership c.in-Some.ensures.some.1 c.get.ensures, ap (λ (n : Need). n.target) c.need.view_is, c.serve_again.ensures c.if-serve_again.true)
+    let x : store.StoredInstance = record {
+      name = c.need.inside.0.0.0;
+      membership = c.in-Some.membership;
+      text =
+          c.in-Some.ensures.some.0;
+    } in (
+      stored_with (Some membership) x,
+      stored-found c.args.stored.now.memberships (instances_of c.args.stored.now.instances) x membership
+          c.in-Some.ensures.some.1 c.get.ensures,
+      ap (λ (n : Need). n.target) c.need.view_is,
+      c.serve_again.ensures c.if-serve_again.true,
+    )
 
 pub returns-then-entities-gt-MOST_LOOKED_THROUGH-clause-served : goal.returns-then-entities-gt-MOST_LOOKED_THROUGH-clause-served
 returns-then-entities-gt-MOST_LOOKED_THROUGH-clause-served c =
     let own = membership_of c.get.result.0 c.get.result.1.now in
-    (set-tells c.args.schema.now c.args.stored.now.memberships (instances_of c.args.stored.now.instances) (need_view c.args.need.now) c.need.inside.0.0.0 c.in-Some.membership c.in-Some.ensures.some.0 (ap (λ (n : Need). n.target) c.need.view_is) c.in-Some.ensures.some.1
+    (set-tells c.args.schema.now c.args.stored.now.memberships (instances_of c.args.stored.now.instances) (need_view c.args.need.now)
+    c.need.inside.0.0.0 c.in-Some.membership c.in-Some.ensures.some.0 (ap (λ (n : Need). n.target) c.need.view_is)
+    c.in-Some.ensures.some.1
     own c.get.ensures c.large_set_serves.result (c.large_set_serves.ensures.serves own c.get.ensures)).0
 
 pub returns-then-entities-gt-MOST_LOOKED_THROUGH-clause-unserved : goal.returns-then-entities-gt-MOST_LOOKED_THROUGH-clause-unserved
 returns-then-entities-gt-MOST_LOOKED_THROUGH-clause-unserved c = λ no.
     let own = membership_of c.get.result.0 c.get.result.1.now in
     inr
-    ((set-tells c.args.schema.now c.args.stored.now.memberships (instances_of c.args.stored.now.instances) (need_view c.args.need.now) c.need.inside.0.0.0 c.in-Some.membership c.in-Some.ensures.some.0 (ap (λ (n : Need). n.target) c.need.view_is) c.in-Some.ensures.some.1
+    ((set-tells c.args.schema.now c.args.stored.now.memberships (instances_of c.args.stored.now.instances) (need_view c.args.need.now)
+    c.need.inside.0.0.0 c.in-Some.membership c.in-Some.ensures.some.0 (ap (λ (n : Need). n.target) c.need.view_is)
+    c.in-Some.ensures.some.1
     own c.get.ensures c.large_set_serves.result (c.large_set_serves.ensures.serves own c.get.ensures)).1 no)
 
 pub returns-clause-served : goal.returns-clause-served
 returns-clause-served c =
-    (set-tells c.args.schema.now c.args.stored.now.memberships (instances_of c.args.stored.now.instances) (need_view c.args.need.now) c.need.inside.0.0.0 c.in-Some.membership c.in-Some.ensures.some.0 (ap (λ (n : Need). n.target) c.need.view_is) c.in-Some.ensures.some.1
+    (set-tells c.args.schema.now c.args.stored.now.memberships (instances_of c.args.stored.now.instances) (need_view c.args.need.now)
+    c.need.inside.0.0.0 c.in-Some.membership c.in-Some.ensures.some.0 (ap (λ (n : Need). n.target) c.need.view_is)
+    c.in-Some.ensures.some.1
     (membership_of c.get.result.0 c.get.result.1.now) c.get.ensures c.serves.result c.serves.ensures).0
 
 pub returns-clause-unserved : goal.returns-clause-unserved
 returns-clause-unserved c = λ no.
     inr
-    ((set-tells c.args.schema.now c.args.stored.now.memberships (instances_of c.args.stored.now.instances) (need_view c.args.need.now) c.need.inside.0.0.0 c.in-Some.membership c.in-Some.ensures.some.0 (ap (λ (n : Need). n.target) c.need.view_is) c.in-Some.ensures.some.1
+    ((set-tells c.args.schema.now c.args.stored.now.memberships (instances_of c.args.stored.now.instances) (need_view c.args.need.now)
+    c.need.inside.0.0.0 c.in-Some.membership c.in-Some.ensures.some.0 (ap (λ (n : Need). n.target) c.need.view_is)
+    c.in-Some.ensures.some.1
     (membership_of c.get.result.0 c.get.result.1.now) c.get.ensures c.serves.result c.serves.ensures).1 no)

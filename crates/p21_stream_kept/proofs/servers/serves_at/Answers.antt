@@ -10,5 +10,7 @@ use Rattle.p21_stream_kept.proofs.servers.serves_at.Goals as goal
 pub returns-in-Some : goal.returns-in-Some
 returns-in-Some c = λ serves.
     serves-by_one c.args.schema.now (member c.args.need.now.wanted) c.args.entities.now c.args.place c.in-Some.entity.now
-    (slice_get_read c.args.entities.now (length c.args.entities.now) c.args.place c.in-Some.entity.now refl c.in-Some.ensures.lookup.3.0 c.in-Some.ensures.lookup.1)
-    (subst (λ (es : List EntityId). Serves c.args.schema.now (member c.args.need.now.wanted) (ids_view es)) c.from_ref.ensures.value (c.serves.ensures.0 serves))
+    (slice_get_read c.args.entities.now (length c.args.entities.now) c.args.place c.in-Some.entity.now refl c.in-Some.ensures.lookup.3.0
+    c.in-Some.ensures.lookup.1)
+    (subst (λ (es : List EntityId). Serves c.args.schema.now (member c.args.need.now.wanted) (ids_view es)) c.from_ref.ensures.value
+    (c.serves.ensures.0 serves))

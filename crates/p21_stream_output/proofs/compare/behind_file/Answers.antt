@@ -23,4 +23,5 @@ returns c =
     let top : List ℕ = header_text c.args.header.now in
     let mid : List ℕ = sections_text (map (written_section c.args.instances.now) c.args.sections.now) in
     let end : List ℕ = line_of (codes "END-ISO-10303-21;") in
-    then_match (λ rest. rest.now) _ top (mid ++ end) _ _ c.in-Some.ensures (then_match (λ rest. rest.now) _ mid end _ _ c.in-Some-behind_sections.ensures c.behind_line.ensures)
+    then_match (λ rest. rest.now) _ top (mid ++ end) _ _ c.in-Some.ensures
+    (then_match (λ rest. rest.now) _ mid end _ _ c.in-Some-behind_sections.ensures c.behind_line.ensures)

@@ -10,7 +10,8 @@ pub returns-then-line-len : goal.returns-then-line-len
 returns-then-line-len c =
     let texts = texts_at c.args.instances.now c.args.section.now.instance_positions in
     ap line_of c.section_text-text.ensures
-    ∙ sym (closed-at c.args.section.now.line.items texts c.args.line (omega (arith, c.if-line-len.true, c.len.ensures, length-map c.args.section.now.instance_positions (text_at c.args.instances.now))))
+    ∙ sym (closed-at c.args.section.now.line.items texts c.args.line
+    (omega (arith, c.if-line-len.true, c.len.ensures, length-map c.args.section.now.instance_positions (text_at c.args.instances.now))))
 
 pub returns : goal.returns
 returns c =
@@ -18,4 +19,12 @@ returns c =
     let end = line_of (codes "ENDSEC;") in
     sym (append_assoc c.section_text-text.result.now (10 ∷ []) end)
     ∙ ap (λ text. line_of text ++ end) c.section_text-text.ensures
-    ∙ sym (closed-last c.args.section.now.line.items texts c.args.line (omega (arith, c.requires.line, c.if-line-len.false, c.len.ensures, length-map c.args.section.now.instance_positions (text_at c.args.instances.now))))
+    ∙ sym (closed-last c.args.section.now.line.items texts c.args.line
+    (omega (
+      arith,
+      c.requires.line,
+      c.if-line-len.false,
+      c.len.ensures,
+      length-map c.args.section.now.instance_positions
+          (text_at c.args.instances.now),
+    )))

@@ -18,7 +18,8 @@ returns-in_default-put_sections-clause-err g c =
     let top : List ℕ = header_text c.args.header.now in
     let mid : List ℕ = sections_text (map (written_section c.args.instances.now) c.args.sections.now) in
     let end : List ℕ = line_of (codes "END-ISO-10303-21;") in
-    then_part _ _ _ w top c.put_header.new.waiting (mid ++ end) c.in-Ok.ensures.ok (part_more _ _ c.put_header.new.waiting mid end c.in_default-put_sections.ensures.err)
+    then_part _ _ _ w top c.put_header.new.waiting (mid ++ end) c.in-Ok.ensures.ok
+    (part_more _ _ c.put_header.new.waiting mid end c.in_default-put_sections.ensures.err)
 
 pub returns-in_default-put_line-clause-err : goal.returns-in_default-put_line-clause-err
 returns-in_default-put_line-clause-err g c =
@@ -26,7 +27,9 @@ returns-in_default-put_line-clause-err g c =
     let top : List ℕ = header_text c.args.header.now in
     let mid : List ℕ = sections_text (map (written_section c.args.instances.now) c.args.sections.now) in
     let end : List ℕ = line_of (codes "END-ISO-10303-21;") in
-    then_part _ _ _ w top c.put_header.new.waiting (mid ++ end) c.in-Ok.ensures.ok (then_part _ _ _ c.put_header.new.waiting mid c.put_sections.new.waiting end c.in-Ok-put_sections.ensures.ok c.in_default-put_line.ensures.err)
+    then_part _ _ _ w top c.put_header.new.waiting (mid ++ end) c.in-Ok.ensures.ok
+    (then_part _ _ _ c.put_header.new.waiting mid c.put_sections.new.waiting end c.in-Ok-put_sections.ensures.ok
+    c.in_default-put_line.ensures.err)
 
 pub returns-clause-ok : goal.returns-clause-ok
 returns-clause-ok g c =
@@ -34,4 +37,6 @@ returns-clause-ok g c =
     let top : List ℕ = header_text c.args.header.now in
     let mid : List ℕ = sections_text (map (written_section c.args.instances.now) c.args.sections.now) in
     let end : List ℕ = line_of (codes "END-ISO-10303-21;") in
-    then_all _ _ _ w top c.put_header.new.waiting (mid ++ end) _ c.in-Ok.ensures.ok (then_all _ _ _ c.put_header.new.waiting mid c.put_sections.new.waiting end _ c.in-Ok-put_sections.ensures.ok c.in-Ok-put_line.ensures.ok)
+    then_all _ _ _ w top c.put_header.new.waiting (mid ++ end) _ c.in-Ok.ensures.ok
+    (then_all _ _ _ c.put_header.new.waiting mid c.put_sections.new.waiting end _ c.in-Ok-put_sections.ensures.ok
+    c.in-Ok-put_line.ensures.ok)

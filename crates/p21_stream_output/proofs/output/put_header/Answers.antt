@@ -25,7 +25,8 @@ returns-in_default-put_line-clause-err g c =
     let top : List ℕ = line_of (codes "ISO-10303-21;") ++ line_of (codes "HEADER;") in
     let mid : List ℕ = c.args.header.now in
     let end : List ℕ = line_of (codes "ENDSEC;") in
-    then_part _ _ _ w top c.put.new.self (mid ++ end) c.in-Ok.ensures.ok (then_part _ _ _ c.put.new.self mid c.put-2.new.self end c.in-Ok-put.ensures.ok c.in_default-put_line.ensures.err)
+    then_part _ _ _ w top c.put.new.self (mid ++ end) c.in-Ok.ensures.ok
+    (then_part _ _ _ c.put.new.self mid c.put-2.new.self end c.in-Ok-put.ensures.ok c.in_default-put_line.ensures.err)
 
 pub returns-clause-ok : goal.returns-clause-ok
 returns-clause-ok g c =
@@ -33,4 +34,5 @@ returns-clause-ok g c =
     let top : List ℕ = line_of (codes "ISO-10303-21;") ++ line_of (codes "HEADER;") in
     let mid : List ℕ = c.args.header.now in
     let end : List ℕ = line_of (codes "ENDSEC;") in
-    then_all _ _ _ w top c.put.new.self (mid ++ end) _ c.in-Ok.ensures.ok (then_all _ _ _ c.put.new.self mid c.put-2.new.self end _ c.in-Ok-put.ensures.ok c.in-Ok-put_line.ensures.ok)
+    then_all _ _ _ w top c.put.new.self (mid ++ end) _ c.in-Ok.ensures.ok
+    (then_all _ _ _ c.put.new.self mid c.put-2.new.self end _ c.in-Ok-put.ensures.ok c.in-Ok-put_line.ensures.ok)

@@ -7,7 +7,8 @@ use Rattle.p21_stream_output.proofs.output.put_lines.Given as goal
 
 abbrev pub invariant-loop-next : goal.invariant-loop-next
 invariant-loop-next g l = record {
-  puts : AppendsAllBut (g.W.Write.contents l.fn.writer.inner) (g.W.Write.contents l.writer.inner) (l.fn.waiting ++ flat_map line_of (map (text_at l.instances) (take l.next l.instance_positions))) l.waiting;
+  puts : AppendsAllBut (g.W.Write.contents l.fn.writer.inner) (g.W.Write.contents l.writer.inner)
+      (l.fn.waiting ++ flat_map line_of (map (text_at l.instances) (take l.next l.instance_positions))) l.waiting;
   failures : l.writer.failures ≡ l.fn.writer.failures;
 }
 

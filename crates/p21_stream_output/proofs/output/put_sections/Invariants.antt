@@ -7,6 +7,7 @@ use Rattle.p21_stream_output.proofs.output.put_sections.Given as goal
 
 abbrev pub invariant-loop-section : goal.invariant-loop-section
 invariant-loop-section g l = record {
-  puts : AppendsAllBut (g.W.Write.contents l.fn.writer.inner) (g.W.Write.contents l.writer.inner) (l.fn.waiting ++ flat_map section_text (map (written_section l.instances) (take l.section-index l.sections))) l.waiting;
+  puts : AppendsAllBut (g.W.Write.contents l.fn.writer.inner) (g.W.Write.contents l.writer.inner)
+      (l.fn.waiting ++ flat_map section_text (map (written_section l.instances) (take l.section-index l.sections))) l.waiting;
   failures : l.writer.failures ≡ l.fn.writer.failures;
 }

@@ -6,6 +6,7 @@ use Rattle.p21_stream_output.proofs.output.put_texts.Given as goal
 
 abbrev pub invariant-loop-text : goal.invariant-loop-text
 invariant-loop-text g l = record {
-  puts : AppendsAllBut (g.W.Write.contents l.fn.writer.inner) (g.W.Write.contents l.writer.inner) (l.fn.waiting ++ flat_map line_of (map (λ (text : Bor (List ℕ)). text.now) (take l.text-index l.texts))) l.waiting;
+  puts : AppendsAllBut (g.W.Write.contents l.fn.writer.inner) (g.W.Write.contents l.writer.inner)
+      (l.fn.waiting ++ flat_map line_of (map (λ (text : Bor (List ℕ)). text.now) (take l.text-index l.texts))) l.waiting;
   failures : l.writer.failures ≡ l.fn.writer.failures;
 }

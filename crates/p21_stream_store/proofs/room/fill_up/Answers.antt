@@ -5,6 +5,7 @@ use Rattle.p21_stream_store.proofs.room.fill_up.Goals as goal
 pub loop-preserved : goal.loop-preserved
 loop-preserved g c = record {
   count = omega (arith, c.push_reserved.ensures.len, c.loop.invariant.count);
-  same = λ other. ap (λ (l : List _). slice_index_or l other c.args.fill) c.push_reserved.ensures.items ∙ default_behind c.loop.list.items c.args.fill other ∙ c.loop.invariant.same other;
+  same = λ other. ap (λ (l : List _). slice_index_or l other c.args.fill) c.push_reserved.ensures.items
+      ∙ default_behind c.loop.list.items c.args.fill other ∙ c.loop.invariant.same other;
   room = c.push_reserved.ensures.capacity ∙ c.loop.invariant.room;
 }

@@ -8,7 +8,8 @@ use Rattle.p21_stream_store.proofs.texts.search_bounds.Goals.{else-next-count-vi
 pub returns-then-full-guess-clause-high : goal.returns-then-full-guess-clause-high
 returns-then-full-guess-clause-high c =
     let starts = search_starts _ _ _ c.requires.firsts c.requires.index in
-    let first = first_at-read c.args.full.now c.args.end _ c.index-full-guess.result (omega (arith, starts.0, c.min-guess.ensures)) c.index-full-guess.is in
+    let first = first_at-read c.args.full.now c.args.end _ c.index-full-guess.result (omega (arith, starts.0, c.min-guess.ensures))
+    c.index-full-guess.is in
     omega (arith, first, ap (λ (f : FullBlock). f.first) c.index-full-guess.is, c.if-full-guess.true)
 
 pub returns-then-full-next-clause-low : goal.returns-then-full-next-clause-low
@@ -22,7 +23,8 @@ returns-then-full-next-clause-high c = (search_starts _ _ _ c.requires.firsts c.
 pub returns-clause-low : goal.returns-clause-low
 returns-clause-low c =
     let starts = search_starts _ _ _ c.requires.firsts c.requires.index in
-    let first = first_at-read c.args.full.now c.args.end _ c.index-full-guess.result (omega (arith, starts.0, c.min-guess.ensures)) c.index-full-guess.is in
+    let first = first_at-read c.args.full.now c.args.end _ c.index-full-guess.result (omega (arith, starts.0, c.min-guess.ensures))
+    c.index-full-guess.is in
     omega (arith, first, ap (λ (f : FullBlock). f.first) c.index-full-guess.is, c.if-full-guess.false)
 
 pub returns-clause-high : goal.returns-clause-high

@@ -18,7 +18,8 @@ slice_bounds-result-count c = next_rises _ _ _ c.requires.starts c.requires.inde
 
 pub slice_bounds-result-length : goal.slice_bounds-result-length
 slice_bounds-result-length c =
-    part_length _ _ _ (next_rises _ _ _ c.requires.starts c.requires.index c.if-starts-index-eq1.false) (next_within _ _ _ c.requires.starts c.requires.index c.if-starts-index-eq1.false)
+    part_length _ _ _ (next_rises _ _ _ c.requires.starts c.requires.index c.if-starts-index-eq1.false)
+    (next_within _ _ _ c.requires.starts c.requires.index c.if-starts-index-eq1.false)
 
 pub returns : goal.returns
 returns c = read_before _ _ _ c.requires.index c.if-starts-index-eq1.false

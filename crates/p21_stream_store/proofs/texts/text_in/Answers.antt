@@ -4,7 +4,12 @@ use Rattle.p21_stream_store.specs.declared.texts.FullBlock.{FullBlock}
 use Rattle.p21_stream_store.proofs.texts.text_in.Goals as goal
 
 pub loop-high-init : goal.loop-high-init
-loop-high-init c = (c.search_bounds-low.ensures.order, c.search_bounds-low.ensures.within, c.search_bounds-low.ensures.low, c.search_bounds-low.ensures.high)
+loop-high-init c = (
+  c.search_bounds-low.ensures.order,
+  c.search_bounds-low.ensures.within,
+  c.search_bounds-low.ensures.low,
+  c.search_bounds-low.ensures.high,
+)
 
 pub loop-high-preserved-then-full-middle : goal.loop-high-preserved-then-full-middle
 loop-high-preserved-then-full-middle c =

@@ -6,13 +6,16 @@ pub returns-in-Err-clause-err : goal.returns-in-Err-clause-err
 returns-in-Err-clause-err g c = loop-refused _ _ _ _ c.loop-count.walk _ _ _ c.loop-count.invariant.so_far c.in-Err.ensures.err
 
 pub returns-in-Err-clause-consumed : goal.returns-in-Err-clause-consumed
-returns-in-Err-clause-consumed g c = loop-consumed _ _ _ _ c.loop-count.walk _ _ refl c.loop-count.invariant.so_far c.in-Err.ensures.consumed
+returns-in-Err-clause-consumed g c = loop-consumed _ _ _ _ c.loop-count.walk _ _ refl c.loop-count.invariant.so_far
+    c.in-Err.ensures.consumed
 
 pub returns-then-count-eq0-clause-ok : goal.returns-then-count-eq0-clause-ok
-returns-then-count-eq0-clause-ok g c = loop-whole _ _ _ _ c.loop-count.walk c.read_more.new.walk _ _ _ c.loop-count.invariant.so_far c.in-Ok.ensures.ok c.if-count-eq0.true
+returns-then-count-eq0-clause-ok g c = loop-whole _ _ _ _ c.loop-count.walk c.read_more.new.walk _ _ _ c.loop-count.invariant.so_far
+    c.in-Ok.ensures.ok c.if-count-eq0.true
 
 pub returns-then-count-eq0-clause-consumed : goal.returns-then-count-eq0-clause-consumed
-returns-then-count-eq0-clause-consumed g c = loop-consumed _ _ _ _ c.loop-count.walk _ _ refl c.loop-count.invariant.so_far c.in-Ok.ensures.consumed
+returns-then-count-eq0-clause-consumed g c = loop-consumed _ _ _ _ c.loop-count.walk _ _ refl c.loop-count.invariant.so_far
+    c.in-Ok.ensures.consumed
 
 pub read_more-requires-clause-live : goal.read_more-requires-clause-live
 read_more-requires-clause-live g c = loop-between _ _ _ c.loop-count.walk _ _ c.loop-count.invariant.so_far

@@ -12,6 +12,7 @@ returns-in-Err-clause-err g c = c.in-Err.ensures.gives _ _ c.in-Ok.ensures.bytes
 pub returns-in-Ok-take_piece-clause-ok : goal.returns-in-Ok-take_piece-clause-ok
 returns-in-Ok-take_piece-clause-ok g c = record {
   along = λ start size from.
-      reads-more c.args.limits start _ _ c.args.walk.now c.take_piece.new.walk _ size c.in-Ok.count c.in-Ok.ensures.bytes.0 (length-take-le c.in-Ok.count c.read_piece.new.piece c.in-Ok.ensures.count.0) c.in-Ok-take_piece.ensures.gives from;
+      reads-more c.args.limits start _ _ c.args.walk.now c.take_piece.new.walk _ size c.in-Ok.count c.in-Ok.ensures.bytes.0
+      (length-take-le c.in-Ok.count c.read_piece.new.piece c.in-Ok.ensures.count.0) c.in-Ok-take_piece.ensures.gives from;
   ended = λ none. c.in-Ok.ensures.bytes.1 none (search rules);
 }

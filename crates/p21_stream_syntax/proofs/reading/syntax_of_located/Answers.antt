@@ -10,7 +10,8 @@ read-requires c =
 pub returns-in-Err-clause-err : goal.returns-in-Err-clause-err
 returns-in-Err-clause-err c other =
     let none = nothing-taken c.args.limits c.new-walk.result c.new-walk.ensures.live c.new-walk.ensures.limits c.new-walk.ensures.kept in
-    text-refused c.args.limits c.new-walk.result c.read.new.self c.args.file.now c.in-Err.refusal c.type_inv.file none (c.in-Err.ensures.gives c.args.limits) other
+    text-refused c.args.limits c.new-walk.result c.read.new.self c.args.file.now c.in-Err.refusal c.type_inv.file none
+    (c.in-Err.ensures.gives c.args.limits) other
 
 pub returns-in-Ok-finish-clause-ok : goal.returns-in-Ok-finish-clause-ok
 returns-in-Ok-finish-clause-ok c =

@@ -7,4 +7,5 @@ use Rattle.p21_stream_syntax.proofs.references.+add.Given as goal
 
 -- the references of the parameters so far
 abbrev pub invariant-add_listed-loop-i : goal.invariant-add_listed-loop-i
-invariant-add_listed-loop-i l = Adds (instance_names l.names) (references (views (take l.i l.params))) (targets_of l.fn.waiting.items) (targets_of l.waiting.items)
+invariant-add_listed-loop-i l = Adds (instance_names l.names) (references (views (take l.i l.params))) (targets_of l.fn.waiting.items)
+    (targets_of l.waiting.items)

@@ -19,8 +19,10 @@ loop-index-preserved c =
     let P : ℕ → Type 0 = λ n. AreLooked names old (set now left x) n (c.loop-index.index + 1) in record {
       as_many = length-set now left x ∙ many;
       looked = elim c.if-not-has_come.branch [
-        | then-not-has_come w ↦ subst P (sym w.left-is) (looked-left names old now left c.loop-index.index c.loop-index.invariant.looked x c.index.ensures low)
-        | else-not-has_come w ↦ subst P (sym w.left-is) (looked-given names old now left c.loop-index.index c.loop-index.invariant.looked x c.index.ensures low (c.has_come.ensures.0 w.if-not-has_come.false))
+        | then-not-has_come w ↦ subst P (sym w.left-is) (looked-left names old now left c.loop-index.index c.loop-index.invariant.looked x
+            c.index.ensures low)
+        | else-not-has_come w ↦ subst P (sym w.left-is) (looked-given names old now left c.loop-index.index c.loop-index.invariant.looked x
+            c.index.ensures low (c.has_come.ensures.0 w.if-not-has_come.false))
       ];
     }
 
@@ -31,4 +33,5 @@ returns c =
     let now : List Reference = c.loop-index.waiting.items in
     let many = c.loop-index.invariant.as_many in
     subst (λ (l : List Reference). Drops names old (targets_of l)) (sym c.truncate.ensures.items)
-    (looked-all names old now c.loop-index.left c.loop-index.index c.loop-index.invariant.looked (omega (arith, c.loop-index-test.false, c.len-index-end.ensures, many)))
+    (looked-all names old now c.loop-index.left c.loop-index.index c.loop-index.invariant.looked
+    (omega (arith, c.loop-index-test.false, c.len-index-end.ensures, many)))

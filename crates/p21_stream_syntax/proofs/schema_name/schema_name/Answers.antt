@@ -11,4 +11,6 @@ upper_case_of-requires c = front-each c.args.text.now c.prefix_length-end.result
 
 pub returns : goal.returns
 returns c =
-    IfOk-weaker _ _ _ (λ (name : std.Vec ℕ Global) (same : name.items ≡ map upper (take c.prefix_length-end.result c.args.text.now)). (names c.args.text.now name.items c.prefix_length-end.result c.prefix_length-end.ensures.longest).0 (sym same)) c.upper_case_of.ensures
+    IfOk-weaker _ _ _ (λ (name : std.Vec ℕ Global) (same : name.items ≡ map upper (take c.prefix_length-end.result c.args.text.now)).
+    (names c.args.text.now name.items c.prefix_length-end.result c.prefix_length-end.ensures.longest).0 (sym same))
+    c.upper_case_of.ensures

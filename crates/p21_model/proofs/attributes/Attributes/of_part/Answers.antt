@@ -15,5 +15,7 @@ returns-clause-some c part parts end rows left are =
     let own = are.2 in
     let o = opened s part parts end c.args.bytes.now own.entity left own.named in
     let found = c.in-Some.ensures.some o.word o.rest own.entity o.keyword o.named o.bytes_are in
-    part-rows s part parts end c.args.bytes.now c.in-Some.rest.now (own_places s) are.0 are.1 rows own o are.3 are.4 _ (alone-found s (numbers c.order_of.result.now) (numbers c.alone.result.now) c.in-Some.entity.0 own.entity c.order_of.ensures c.alone.ensures.found found.0)
+    part-rows s part parts end c.args.bytes.now c.in-Some.rest.now (own_places s) are.0 are.1 rows own o are.3 are.4 _
+    (alone-found s (numbers c.order_of.result.now) (numbers c.alone.result.now) c.in-Some.entity.0 own.entity c.order_of.ensures
+    c.alone.ensures.found found.0)
     found.1

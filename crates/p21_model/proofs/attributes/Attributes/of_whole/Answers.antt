@@ -14,4 +14,5 @@ returns-clause-told c part end rows left own =
     let s = c.args.schema.now in
     let o = opened s part [] end c.args.bytes.now own.entity left own.named in
     let found = c.in-Some.ensures.some o.word o.rest own.entity o.keyword o.named o.bytes_are in
-    part-rows s part [] end c.args.bytes.now c.in-Some.rest.now (places s) rows [] rows own o refl (sym (append-nil rows)) _ (order-found s (numbers c.order_of.result.now) c.in-Some.entity.0 own.entity c.order_of.ensures found.0) found.1
+    part-rows s part [] end c.args.bytes.now c.in-Some.rest.now (places s) rows [] rows own o refl (sym (append-nil rows)) _
+    (order-found s (numbers c.order_of.result.now) c.in-Some.entity.0 own.entity c.order_of.ensures found.0) found.1

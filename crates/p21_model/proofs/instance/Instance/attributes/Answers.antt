@@ -9,12 +9,14 @@ returns-clause-told c record_ stated =
     let s = c.args.self.now.schema.now in
     let t = told s c.args.self.now.name record_ c.args.self.now.line.now stated in
     let cut = line-cut s c.args.self.now.name record_ c.args.self.now.line.now stated in
-    let text = subst (IsRecordText stated.canonical) (sym (c.record_of.ensures ∙ name-behind c.args.self.now.name c.args.self.now.line.now cut.rest cut.line_is)) cut.is_text in
+    let text = subst (IsRecordText stated.canonical) (sym
+    (c.record_of.ensures ∙ name-behind c.args.self.now.name c.args.self.now.line.now cut.rest cut.line_is)) cut.is_text in
     record { rows = t.rows; told = t.told; tells = c.of_record.ensures.told stated.canonical t.rows text t.told.are }
 
 pub returns-clause-any : goal.returns-clause-any
 returns-clause-any c record_ stated rows are =
     let s = c.args.self.now.schema.now in
     let cut = line-cut s c.args.self.now.name record_ c.args.self.now.line.now stated in
-    let text = subst (IsRecordText stated.canonical) (sym (c.record_of.ensures ∙ name-behind c.args.self.now.name c.args.self.now.line.now cut.rest cut.line_is)) cut.is_text in
+    let text = subst (IsRecordText stated.canonical) (sym
+    (c.record_of.ensures ∙ name-behind c.args.self.now.name c.args.self.now.line.now cut.rest cut.line_is)) cut.is_text in
     c.of_record.ensures.told stated.canonical rows text are

@@ -9,4 +9,5 @@ returns-clause-uses c stated once u =
 
 pub returns-in_err-table-clause-fault : goal.returns-in_err-table-clause-fault
 returns-in_err-table-clause-fault c =
-    too-many c.args.model.schema.now c.args.model.accepted.now.kept c.in_ok-rows.rows.items c.in_err-table.field-0.0 c.from_residual-in_err-table.result c.from_residual-in_err-table.ensures.1 c.in_ok-rows.ensures c.in_err-table.ensures.fault
+    too-many c.args.model.schema.now c.args.model.accepted.now.kept c.in_ok-rows.rows.items c.in_err-table.field-0.0
+    c.from_residual-in_err-table.result c.from_residual-in_err-table.ensures.1 c.in_ok-rows.ensures c.in_err-table.ensures.fault

@@ -12,5 +12,7 @@ returns-in_default c =
 pub returns : goal.returns
 returns c =
     let same : c.args.self.now ≡ c.self.inside.rest = search rules in
-    subst (λ (old : List UseRow). HandsOutUse old (Some (record { user = c.in-Some.user; place = record { entity = record { 0 = c.in-Some.entity }; index = c.in-Some.index } })) c.next.new.self) (sym same)
+    subst (λ (old : List UseRow). HandsOutUse old (Some
+    (record { user = c.in-Some.user; place = record { entity = record { 0 = c.in-Some.entity }; index = c.in-Some.index } }))
+    c.next.new.self) (sym same)
     (one_handed _ _ (c.in-Some.user, c.in-Some.entity, c.in-Some.index) _ c.in-Some.ensures refl refl)

@@ -14,7 +14,12 @@ returns-in_default-clause-real c d t = no_real c.args.self.text.now c.in_default
 pub returns-in_default-decimals-clause-whole : goal.returns-in_default-decimals-clause-whole
 returns-in_default-decimals-clause-whole c z t =
     let (at, other) = rw c.in_default-decimals.is at c.in-Some.ensures.some in
-    record { value_is = whole-digits c.args.self.text.now _ _ _ z at (whole-spelled c.args.self.text.now z t); no_fraction = refl; no_exponent = refl }
+    record {
+      value_is = whole-digits c.args.self.text.now _ _ _ z at (whole-spelled c.args.self.text.now z t);
+      no_fraction =
+          refl;
+      no_exponent = refl;
+    }
 
 pub returns-in_default-decimals-clause-real : goal.returns-in_default-decimals-clause-real
 returns-in_default-decimals-clause-real c d t =

@@ -9,4 +9,5 @@ returns-then-behind-lt2 c word p text =
     omega (arith, long, c.if-behind-lt2.true)
 
 pub returns : goal.returns
-returns c word p text = typed-inside word c.in_ok-word.word.now c.in_ok-word.behind.now p (typed-once c.args.self.text.now word c.in_ok-word.word.now c.in_ok-word.behind.now p text c.in_ok-word.ensures.some)
+returns c word p text = typed-inside word c.in_ok-word.word.now c.in_ok-word.behind.now p
+    (typed-once c.args.self.text.now word c.in_ok-word.word.now c.in_ok-word.behind.now p text c.in_ok-word.ensures.some)

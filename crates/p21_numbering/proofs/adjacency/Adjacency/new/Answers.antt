@@ -14,7 +14,8 @@ returns-clause-are c =
     let size : length c.in_ok-uses.uses.items ≡ length edges = ap length c.in_ok-uses.ensures ∙ length-map edges other_end in
     record {
       long = c.in_ok-starts.ensures.long;
-      rise = λ n low. starts-rise edges n (at n) (at (n + 1)) (c.in_ok-starts.ensures.each n (omega (arith, low))) (c.in_ok-starts.ensures.each (n + 1) (omega (arith, low)));
+      rise = λ n low. starts-rise edges n (at n) (at (n + 1)) (c.in_ok-starts.ensures.each n (omega (arith, low)))
+          (c.in_ok-starts.ensures.each (n + 1) (omega (arith, low)));
       end = λ n low. let is = c.in_ok-starts.ensures.each n low in omega (arith, is.low, size);
       within = λ u among.
           let P : List Use → Type 0 = λ us. Contains us u in
@@ -26,4 +27,5 @@ returns-clause-are c =
 pub returns-clause-each : goal.returns-clause-each
 returns-clause-each c n low =
     let at : ℕ → ℕ = λ n. rank_at c.in_ok-starts.starts.items n in
-    own-uses c.args.edges.now c.in_ok-uses.uses.items n (at n) (at (n + 1)) c.in_ok-uses.ensures (c.in_ok-starts.ensures.each n (omega (arith, low))) (c.in_ok-starts.ensures.each (n + 1) (omega (arith, low)))
+    own-uses c.args.edges.now c.in_ok-uses.uses.items n (at n) (at (n + 1)) c.in_ok-uses.ensures
+    (c.in_ok-starts.ensures.each n (omega (arith, low))) (c.in_ok-starts.ensures.each (n + 1) (omega (arith, low)))

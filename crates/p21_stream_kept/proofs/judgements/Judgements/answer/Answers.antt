@@ -14,18 +14,35 @@ use Rattle.p21_stream_kept.proofs.judgements.Judgements.answer.Goals as goal
 pub returns-in_default-clause-answers : goal.returns-in_default-clause-answers
 returns-in_default-clause-answers c =
     let target = ap (λ (n : Need). n.target) c.need.view_is in
-    none-of_name c.args.schema.now c.args.stored.now.memberships (instances_of c.args.stored.now.instances) (need_view c.args.need.now) (subst (λ n. Contains (instance_names (instances_of c.args.stored.now.instances)) n → ⊥) target (c.in_default.ensures.none refl))
+    none-of_name c.args.schema.now c.args.stored.now.memberships (instances_of c.args.stored.now.instances) (need_view c.args.need.now)
+    (subst (λ n. Contains (instance_names (instances_of c.args.stored.now.instances)) n → ⊥) target (c.in_default.ensures.none refl))
 
 pub returns-then-judge-clause-answers : goal.returns-then-judge-clause-answers
 returns-then-judge-clause-answers c =
     let instances = instances_of c.args.stored.now.instances in
-    let x : store.StoredInstance = record { name = c.need.inside.0.0.0; membership = c.in-Some.membership; text = c.in-Some.ensures.some.0 } in
-    let (own, at) = at-below c.args.stored.now.memberships c.in-Some.membership (Each-member _ instances x c.requires.stored c.in-Some.ensures.some.1) in
-    (set-tells c.args.schema.now c.args.stored.now.memberships instances (need_view c.args.need.now) c.need.inside.0.0.0 c.in-Some.membership c.in-Some.ensures.some.0 (ap (λ (n : Need). n.target) c.need.view_is) c.in-Some.ensures.some.1 own at c.judge.result (c.judge.ensures.serves own at)).0 c.if-judge.true
+    let x : store.StoredInstance = record {
+      name = c.need.inside.0.0.0;
+      membership = c.in-Some.membership;
+      text =
+          c.in-Some.ensures.some.0;
+    } in
+    let (own, at) = at-below c.args.stored.now.memberships c.in-Some.membership
+    (Each-member _ instances x c.requires.stored c.in-Some.ensures.some.1) in
+    (set-tells c.args.schema.now c.args.stored.now.memberships instances (need_view c.args.need.now) c.need.inside.0.0.0
+    c.in-Some.membership c.in-Some.ensures.some.0 (ap (λ (n : Need). n.target) c.need.view_is) c.in-Some.ensures.some.1 own at
+    c.judge.result (c.judge.ensures.serves own at)).0 c.if-judge.true
 
 pub returns-else-judge-clause-answers : goal.returns-else-judge-clause-answers
 returns-else-judge-clause-answers c =
     let instances = instances_of c.args.stored.now.instances in
-    let x : store.StoredInstance = record { name = c.need.inside.0.0.0; membership = c.in-Some.membership; text = c.in-Some.ensures.some.0 } in
-    let (own, at) = at-below c.args.stored.now.memberships c.in-Some.membership (Each-member _ instances x c.requires.stored c.in-Some.ensures.some.1) in
-    (set-tells c.args.schema.now c.args.stored.now.memberships instances (need_view c.args.need.now) c.need.inside.0.0.0 c.in-Some.membership c.in-Some.ensures.some.0 (ap (λ (n : Need). n.target) c.need.view_is) c.in-Some.ensures.some.1 own at c.judge.result (c.judge.ensures.serves own at)).1 c.if-judge.false
+    let x : store.StoredInstance = record {
+      name = c.need.inside.0.0.0;
+      membership = c.in-Some.membership;
+      text =
+          c.in-Some.ensures.some.0;
+    } in
+    let (own, at) = at-below c.args.stored.now.memberships c.in-Some.membership
+    (Each-member _ instances x c.requires.stored c.in-Some.ensures.some.1) in
+    (set-tells c.args.schema.now c.args.stored.now.memberships instances (need_view c.args.need.now) c.need.inside.0.0.0
+    c.in-Some.membership c.in-Some.ensures.some.0 (ap (λ (n : Need). n.target) c.need.view_is) c.in-Some.ensures.some.1 own at
+    c.judge.result (c.judge.ensures.serves own at)).1 c.if-judge.false

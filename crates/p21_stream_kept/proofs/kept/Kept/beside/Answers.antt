@@ -12,5 +12,8 @@ use Rattle.p21_stream_kept.proofs.kept.Kept.beside.Goals as goal
 pub new-earlier-requires-clause-once : goal.new-earlier-requires-clause-once
 new-earlier-requires-clause-once c =
     let (s, limits, given, keeps) = c.requires.keeps in
-    let differ = subst (λ (k : Kept). IsDistinct nat_eq (map (λ (x : StoredEntry). x.name) k.stored)) (sym c.earlier.view_is) (keeps-names_differ s limits given c.args.earlier keeps) in
-    subst (λ (xs : List StoredInstance). IsDistinct nat_eq (instance_names xs)) (sym c.into_lines.ensures) (subst (IsDistinct nat_eq) (stored-names c.earlier.inside.stored.memberships (instances_of c.earlier.inside.stored.instances)) differ)
+    let differ = subst (λ (k : Kept). IsDistinct nat_eq (map (λ (x : StoredEntry). x.name) k.stored)) (sym c.earlier.view_is)
+    (keeps-names_differ s limits given c.args.earlier keeps) in
+    subst (λ (xs : List StoredInstance). IsDistinct nat_eq (instance_names xs)) (sym c.into_lines.ensures)
+    (subst (IsDistinct nat_eq) (stored-names c.earlier.inside.stored.memberships (instances_of c.earlier.inside.stored.instances))
+    differ)

@@ -12,4 +12,5 @@ use Rattle.p21_stream_kept.proofs.kept.Kept.is_same.Goals as goal
 pub is_same-requires-clause-once : goal.is_same-requires-clause-once
 is_same-requires-clause-once c =
     subst (λ (k : KeptInstances). IsDistinct nat_eq (instance_names (instances_of k))) c.in-Beside.is
-    (subst (IsDistinct nat_eq) (stored-names c.self.inside.stored.memberships (instances_of c.self.inside.stored.instances)) (subst (λ (k : Kept). IsDistinct nat_eq (map (λ (x : StoredEntry). x.name) k.stored)) (sym c.self.view_is) c.requires))
+    (subst (IsDistinct nat_eq) (stored-names c.self.inside.stored.memberships (instances_of c.self.inside.stored.instances))
+    (subst (λ (k : Kept). IsDistinct nat_eq (map (λ (x : StoredEntry). x.name) k.stored)) (sym c.self.view_is) c.requires))

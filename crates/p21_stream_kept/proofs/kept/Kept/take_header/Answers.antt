@@ -18,9 +18,11 @@ returns-then-not-has_schema_name-clause-gives c =
 pub returns-then-not-fits_limits-clause-gives : goal.returns-then-not-fits_limits-clause-gives
 returns-then-not-fits_limits-clause-gives c =
     let old : Kept = kept_of c.self.inside in
-    subst (λ (k : Kept). StepGives c.args.schema.now c.args.limits k (header (part_view c.args.part.now)) (Err CanonicalTooLong) k) c.self.view_is
+    subst (λ (k : Kept). StepGives c.args.schema.now c.args.limits k (header (part_view c.args.part.now)) (Err CanonicalTooLong) k)
+    c.self.view_is
     (refused-header c.args.schema.now c.args.limits old old (part_view c.args.part.now) (λ room.
-    let passes : c.fits_limits.result ≡ true = c.fits_limits.ensures.decides.1 (subst (λ n. FitsLimits c.args.limits (old.bytes + old.framing) n) (sym c.in-Ok.ensures.size) room) in
+    let passes : c.fits_limits.result ≡ true = c.fits_limits.ensures.decides.1
+    (subst (λ n. FitsLimits c.args.limits (old.bytes + old.framing) n) (sym c.in-Ok.ensures.size) room) in
     let fails = c.if-not-fits_limits.true in
     cc))
 
@@ -32,6 +34,7 @@ returns-clause-gives c =
     let new : Kept = record old { header = c.append_record.new.out.items; bytes = old.bytes + c.in-Ok.size; framing = old.framing + 1 } in
     subst (λ (k : Kept). StepGives c.args.schema.now c.args.limits k (header (part_view c.args.part.now)) (Ok tt) new) c.self.view_is
     (took-header c.args.schema.now c.args.limits old new (part_view c.args.part.now)
-    (subst (λ n. FitsLimits c.args.limits (old.bytes + old.framing) n) c.in-Ok.ensures.size (c.fits_limits.ensures.decides.0 c.if-not-fits_limits.false))
+    (subst (λ n. FitsLimits c.args.limits (old.bytes + old.framing) n) c.in-Ok.ensures.size
+    (c.fits_limits.ensures.decides.0 c.if-not-fits_limits.false))
     (λ chars is. subst (λ n. NamesSchema chars n) c.name.ensures (c.has_schema_name.ensures.yes c.if-not-has_schema_name.false chars is))
     (λ i. record old { header = lines i; bytes = bytes i; framing = old.framing + 1 }))

@@ -15,7 +15,8 @@ returns-then-not-fits_limits-clause-gives c = λ s.
     subst (λ (k : Kept). StepGives s c.args.limits k (section (line_of c.args.line)) (Err CanonicalTooLong) k) c.self.view_is
     (refused-line c.args.limits old old c.args.line
     (λ room.
-    let passes : c.fits_limits.result ≡ true = c.fits_limits.ensures.decides.1 (subst (λ n. FitsLimits c.args.limits (old.bytes + old.framing) n) (sym c.line_size-size.ensures) room) in
+    let passes : c.fits_limits.result ≡ true = c.fits_limits.ensures.decides.1
+    (subst (λ n. FitsLimits c.args.limits (old.bytes + old.framing) n) (sym c.line_size-size.ensures) room) in
     let fails = c.if-not-fits_limits.true in
     cc)
     s)
@@ -28,14 +29,16 @@ returns-clause-gives c = λ s.
     let new : Kept = record old { headings = c.begin.new.self; framing = old.framing + (c.line_size-size.result + 1) } in
     subst (λ (k : Kept). StepGives s c.args.limits k (section (line_of c.args.line)) (Ok tt) new) c.self.view_is
     (took-line c.args.limits old new c.args.line
-    (subst (λ n. FitsLimits c.args.limits (old.bytes + old.framing) n) c.line_size-size.ensures (c.fits_limits.ensures.decides.0 c.if-not-fits_limits.false))
+    (subst (λ n. FitsLimits c.args.limits (old.bytes + old.framing) n) c.line_size-size.ensures
+    (c.fits_limits.ensures.decides.0 c.if-not-fits_limits.false))
     (λ i. record old { headings = headings i; framing = framing i })
     s)
 
 pub invariant_of-self : goal.invariant_of-self
 invariant_of-self c = record {
   memberships = c.self.invariant.memberships;
-  sections = sections_wider (length c.self.inside.sections) (length c.begin.new.self) c.self.inside.stored.memberships c.begin.ensures.more c.self.invariant.sections;
+  sections = sections_wider (length c.self.inside.sections) (length c.begin.new.self) c.self.inside.stored.memberships c.begin.ensures.more
+      c.self.invariant.sections;
   named = c.self.invariant.named;
   counted = c.self.invariant.counted;
   looked = c.self.invariant.looked;
@@ -45,7 +48,8 @@ invariant_of-self c = record {
 pub invariant_of-self-2 : goal.invariant_of-self-2
 invariant_of-self-2 c = record {
   memberships = c.self.invariant.memberships;
-  sections = sections_wider (length c.self.inside.sections) (length c.begin.new.self) c.self.inside.stored.memberships c.begin.ensures.more c.self.invariant.sections;
+  sections = sections_wider (length c.self.inside.sections) (length c.begin.new.self) c.self.inside.stored.memberships c.begin.ensures.more
+      c.self.invariant.sections;
   named = c.self.invariant.named;
   counted = let fits = c.fits_limits.ensures.fits c.if-not-fits_limits.false in omega (arith, fits);
   looked = c.self.invariant.looked;

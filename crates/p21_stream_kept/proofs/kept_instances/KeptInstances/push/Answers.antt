@@ -7,4 +7,6 @@ use Rattle.p21_stream_kept.proofs.kept_instances.KeptInstances.push.Goals as goa
 
 pub returns-in-Beside-clause-equal : goal.returns-in-Beside-clause-equal
 returns-in-Beside-clause-equal c =
-    subst (λ (k : KeptInstances). OnOk c.push-in-Beside.result (IsTrue c.push-in-Beside.new.self.equal ↔ (IsTrue (are_equal k) × IsAmongEarlier (lines_kept k) (c.args.name, c.args.line.now)))) (sym c.in-Beside.is) c.push-in-Beside.ensures.equal
+    subst (λ (k : KeptInstances). OnOk c.push-in-Beside.result
+    (IsTrue c.push-in-Beside.new.self.equal ↔ (IsTrue (are_equal k) × IsAmongEarlier (lines_kept k) (c.args.name, c.args.line.now))))
+    (sym c.in-Beside.is) c.push-in-Beside.ensures.equal

@@ -8,14 +8,17 @@ use Rattle.p21_stream_store.specs.StoredInstance.{instance_names}
 use Rattle.p21_stream_output.proofs.accepted.Accepted.section_line.Goals as goal
 
 pub section_line-requires-clause-named : goal.section_line-requires-clause-named
-section_line-requires-clause-named c = lines-named (output_of c.self.inside.header.items c.self.inside.sections.items c.self.inside.instances c.self.inside.statement) c.self.invariant.2
+section_line-requires-clause-named c = lines-named
+    (output_of c.self.inside.header.items c.self.inside.sections.items c.self.inside.instances c.self.inside.statement) c.self.invariant.2
 
 pub returns-clause-some : goal.returns-clause-some
 returns-clause-some c =
     let Of : List Section → Output = λ xs. output_of c.self.inside.header.items xs c.self.inside.instances c.self.inside.statement in
     let Lines : List Section → Type 0 = λ xs. HasLines (Of xs) in
-    line-found c.args.self.now c.self.inside.header.items c.deref.result.now c.self.inside.instances c.self.inside.statement c.args.name c.name.inside.0 c.section_line.result (ap Of c.deref.ensures.value ∙ c.self.view_is) c.name.view_is
-    (subst (HavePositions c.self.inside.instances) (sym c.deref.ensures.value) c.self.invariant.0) (subst Lines (sym c.deref.ensures.value) c.self.invariant.2) c.section_line.ensures.some
+    line-found c.args.self.now c.self.inside.header.items c.deref.result.now c.self.inside.instances c.self.inside.statement c.args.name
+    c.name.inside.0 c.section_line.result (ap Of c.deref.ensures.value ∙ c.self.view_is) c.name.view_is
+    (subst (HavePositions c.self.inside.instances) (sym c.deref.ensures.value) c.self.invariant.0)
+    (subst Lines (sym c.deref.ensures.value) c.self.invariant.2) c.section_line.ensures.some
 
 pub returns-clause-none : goal.returns-clause-none
 returns-clause-none c none among =

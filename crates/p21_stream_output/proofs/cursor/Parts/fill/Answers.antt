@@ -7,8 +7,10 @@ loop-filled-preserved c =
     let parts = c.args.self.now in
     let at = c.behind-rest.new.cursor in
     let text = rest_of parts c.args.cursor.now in
-    let stands = same-stands text (rest_of parts c.loop-filled.cursor) (rest_of parts at) c.args.buffer.now c.loop-filled.buffer c.loop-filled.filled c.behind-rest.ensures.same c.loop-filled.invariant.0 in (
-      more-filled text c.args.buffer.now c.loop-filled.buffer c.put-count.new.buffer c.behind-rest.result.now (line_at parts at.part at.line) (behind_line parts at.part at.line) at.byte c.loop-filled.filled c.put-count.result stands
+    let stands = same-stands text (rest_of parts c.loop-filled.cursor) (rest_of parts at) c.args.buffer.now c.loop-filled.buffer
+    c.loop-filled.filled c.behind-rest.ensures.same c.loop-filled.invariant.0 in (
+      more-filled text c.args.buffer.now c.loop-filled.buffer c.put-count.new.buffer c.behind-rest.result.now
+          (line_at parts at.part at.line) (behind_line parts at.part at.line) at.byte c.loop-filled.filled c.put-count.result stands
           c.behind-rest.ensures.front c.put-count.ensures.count c.put-count.ensures.buffer,
       c.behind-rest.ensures.part,
     )

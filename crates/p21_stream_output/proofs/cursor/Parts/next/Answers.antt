@@ -15,9 +15,11 @@ returns-then-cursor-last c = record {
   part_is = omega (arith, c.if-cursor-last.true, c.last.ensures.last);
   line_is = c.last.ensures.lines (c.args.cursor.part + 1) (omega (arith, c.if-cursor-last.true));
   first = refl;
-  rest = sym (next-part c.args.self.now c.args.cursor.part c.args.cursor.line (omega (arith, c.if-cursor-last_line.false, c.last_line.ensures)));
+  rest = sym (next-part c.args.self.now c.args.cursor.part c.args.cursor.line
+      (omega (arith, c.if-cursor-last_line.false, c.last_line.ensures)));
 }
 
 pub returns : goal.returns
 returns c =
-    at-end c.args.self.now c.args.cursor.part c.args.cursor.line (omega (arith, c.if-cursor-last_line.false, c.last_line.ensures)) (omega (arith, c.if-cursor-last.false, c.last.ensures.last))
+    at-end c.args.self.now c.args.cursor.part c.args.cursor.line (omega (arith, c.if-cursor-last_line.false, c.last_line.ensures))
+    (omega (arith, c.if-cursor-last.false, c.last.ensures.last))

@@ -5,5 +5,6 @@ use Rattle.p21_stream_statements.proofs.statement_reader.StatementReader.pending
 
 pub returns-clause-pending : goal.returns-clause-pending
 returns-clause-pending c =
-    subst (λ (h : Held). (reading : StatementHistory) → IsLive h reading → HasOpenStatement reading c.pending.result h.parser.depth) c.self.view_is
+    subst (λ (h : Held). (reading : StatementHistory) → IsLive h reading → HasOpenStatement reading c.pending.result h.parser.depth)
+    c.self.view_is
     (opens (record { lexer = c.self.inside.lexer; parser = c.self.inside.parser }) c.pending.result c.pending.ensures.pending)

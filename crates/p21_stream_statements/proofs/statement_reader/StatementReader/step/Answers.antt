@@ -16,14 +16,17 @@ pub returns-in-Err-clause-gives : goal.returns-in-Err-clause-gives
 returns-in-Err-clause-gives c =
     subst (λ (h : Held). Owes h c.args.piece.now c.from.result) c.self.view_is
     (subst (λ f. Owes (record { lexer = c.self.inside.lexer; parser = c.self.inside.parser }) c.args.piece.now f) (sym c.from.ensures)
-    (token-refused (record { lexer = c.self.inside.lexer; parser = c.self.inside.parser }) c.args.piece.now c.in-Err.fault c.next.new.self c.in-Err.ensures.history))
+    (token-refused (record { lexer = c.self.inside.lexer; parser = c.self.inside.parser }) c.args.piece.now c.in-Err.fault c.next.new.self
+    c.in-Err.ensures.history))
 
 pub returns-in-Ok-take-clause-gives : goal.returns-in-Ok-take-clause-gives
 returns-in-Ok-take-clause-gives c =
     let held : Held = record { lexer = c.self.inside.lexer; parser = c.self.inside.parser } in
-    subst (λ (h : Held). StepGives h c.args.piece.now (Ok (Some (c.in-Ok.answer.0, c.in-Ok-take.event))) (record { lexer = c.next.new.self; parser = c.take.new.self })) c.self.view_is
+    subst (λ (h : Held). StepGives h c.args.piece.now (Ok (Some (c.in-Ok.answer.0, c.in-Ok-take.event)))
+    (record { lexer = c.next.new.self; parser = c.take.new.self })) c.self.view_is
     (went-on held c.args.piece.now c.in-Ok.answer.0 c.in-Some.token c.next.new.self c.in-Ok-take.event c.take.new.self
-    (subst (λ t. NextGives c.self.inside.lexer c.args.piece.now (Ok (c.in-Ok.answer.0, t)) c.next.new.self) c.in-Some.is c.in-Ok.ensures.history)
+    (subst (λ t. NextGives c.self.inside.lexer c.args.piece.now (Ok (c.in-Ok.answer.0, t)) c.next.new.self) c.in-Some.is
+    c.in-Ok.ensures.history)
     c.in-Ok-take.ensures.gives)
 
 pub returns-in-Err-take-clause-gives : goal.returns-in-Err-take-clause-gives
@@ -32,27 +35,33 @@ returns-in-Err-take-clause-gives c =
     subst (λ (h : Held). Owes h c.args.piece.now c.from-in-Err-take.result) c.self.view_is
     (subst (λ f. Owes held c.args.piece.now f) (sym c.from-in-Err-take.ensures)
     (parse-refused held c.args.piece.now c.in-Ok.answer.0 c.in-Some.token c.next.new.self c.in-Err-take.fault c.take.new.self
-    (subst (λ t. NextGives c.self.inside.lexer c.args.piece.now (Ok (c.in-Ok.answer.0, t)) c.next.new.self) c.in-Some.is c.in-Ok.ensures.history)
+    (subst (λ t. NextGives c.self.inside.lexer c.args.piece.now (Ok (c.in-Ok.answer.0, t)) c.next.new.self) c.in-Some.is
+    c.in-Ok.ensures.history)
     c.in-Ok.ensures.whole.0
     c.in-Err-take.ensures.gives))
 
 pub returns-in-Err-clause-no_memory : goal.returns-in-Err-clause-no_memory
 returns-in-Err-clause-no_memory c =
     subst (λ (h : Held). NeedsNoMemory h c.args.piece.now (Err c.from.result)) c.self.view_is
-    (quiet-refused (record { lexer = c.self.inside.lexer; parser = c.self.inside.parser }) c.args.piece.now c.in-Err.fault c.from.result c.from.ensures c.in-Err.ensures.no_memory)
+    (quiet-refused (record { lexer = c.self.inside.lexer; parser = c.self.inside.parser }) c.args.piece.now c.in-Err.fault c.from.result
+    c.from.ensures c.in-Err.ensures.no_memory)
 
 pub returns-in-Ok-take-clause-no_memory : goal.returns-in-Ok-take-clause-no_memory
 returns-in-Ok-take-clause-no_memory c =
     let held : Held = record { lexer = c.self.inside.lexer; parser = c.self.inside.parser } in
     subst (λ (h : Held). NeedsNoMemory h c.args.piece.now (Ok (Some (c.in-Ok.answer.0, c.in-Ok-take.event)))) c.self.view_is
-    (quiet-token held c.args.piece.now c.in-Ok.answer.0 c.in-Some.token c.next.new.self (subst (λ t. NextGives c.self.inside.lexer c.args.piece.now (Ok (c.in-Ok.answer.0, t)) c.next.new.self) c.in-Some.is c.in-Ok.ensures.history)
+    (quiet-token held c.args.piece.now c.in-Ok.answer.0 c.in-Some.token c.next.new.self
+    (subst (λ t. NextGives c.self.inside.lexer c.args.piece.now (Ok (c.in-Ok.answer.0, t)) c.next.new.self) c.in-Some.is
+    c.in-Ok.ensures.history)
     (Ok (Some (c.in-Ok.answer.0, c.in-Ok-take.event))))
 
 pub returns-in-Err-take-clause-no_memory : goal.returns-in-Err-take-clause-no_memory
 returns-in-Err-take-clause-no_memory c =
     let held : Held = record { lexer = c.self.inside.lexer; parser = c.self.inside.parser } in
     subst (λ (h : Held). NeedsNoMemory h c.args.piece.now (Err c.from-in-Err-take.result)) c.self.view_is
-    (quiet-token held c.args.piece.now c.in-Ok.answer.0 c.in-Some.token c.next.new.self (subst (λ t. NextGives c.self.inside.lexer c.args.piece.now (Ok (c.in-Ok.answer.0, t)) c.next.new.self) c.in-Some.is c.in-Ok.ensures.history)
+    (quiet-token held c.args.piece.now c.in-Ok.answer.0 c.in-Some.token c.next.new.self
+    (subst (λ t. NextGives c.self.inside.lexer c.args.piece.now (Ok (c.in-Ok.answer.0, t)) c.next.new.self) c.in-Some.is
+    c.in-Ok.ensures.history)
     (Err c.from-in-Err-take.result))
 
 pub returns-in-Err-clause-kind : goal.returns-in-Err-clause-kind
@@ -64,7 +73,8 @@ returns-in-Err-take-clause-kind c = subst IsOfBytes (sym c.from-in-Err-take.ensu
 pub returns-in-Err-clause-place : goal.returns-in-Err-clause-place
 returns-in-Err-clause-place c =
     let held : Held = record { lexer = c.self.inside.lexer; parser = c.self.inside.parser } in
-    subst (λ (h : Held). (reading : StatementHistory) → IsLive h reading → IsSeenAt reading.seen c.args.piece.now 0 → HasPlace (limits_of h) reading.taken c.args.piece.now c.from.result c.next.new.self.file) c.self.view_is (λ reading live at.
+    subst (λ (h : Held). (reading : StatementHistory) → IsLive h reading → IsSeenAt reading.seen c.args.piece.now 0
+    → HasPlace (limits_of h) reading.taken c.args.piece.now c.from.result c.next.new.self.file) c.self.view_is (λ reading live at.
     subst (λ f. HasPlace (limits_of held) reading.taken c.args.piece.now f c.next.new.self.file) (sym c.from.ensures)
     (token-placed held c.args.piece.now c.next.new.self c.in-Err.fault c.in-Err.ensures.history reading live at))
 
@@ -91,7 +101,8 @@ returns-in-Ok-take-clause-begins c =
     let new : Held = record { lexer = c.next.new.self; parser = c.take.new.self } in
     subst (λ (h : Held). StepBegins h (Ok (Some (c.in-Ok.answer.0, c.in-Ok-take.event))) new) c.self.view_is
     (step-begins held c.in-Ok.answer.0 c.in-Some.token c.in-Ok-take.event new c.in-Ok.ensures.limits
-    (subst (λ t. RestsBehindSemicolon (Ok (c.in-Ok.answer.0, t)) c.next.new.self) c.in-Some.is c.in-Ok.ensures.rests) c.in-Ok-take.ensures.stage)
+    (subst (λ t. RestsBehindSemicolon (Ok (c.in-Ok.answer.0, t)) c.next.new.self) c.in-Some.is c.in-Ok.ensures.rests)
+    c.in-Ok-take.ensures.stage)
 
 pub returns-in-Err-take-clause-begins : goal.returns-in-Err-take-clause-begins
 returns-in-Err-take-clause-begins c =

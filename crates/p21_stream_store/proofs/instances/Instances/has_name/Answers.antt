@@ -7,7 +7,8 @@ use Rattle.p21_stream_store.proofs.instances.Instances.has_name.Goals as goal
 pub returns-then-not-may_have : goal.returns-then-not-may_have
 returns-then-not-may_have c = (
   λ there. cc,
-  λ among. absurd (subst (λ (all : List StoredInstance). Contains (instance_names all) c.args.name → ⊥) c.self.view_is (c.may_have.ensures c.if-not-may_have.true) among),
+  λ among. absurd (subst (λ (all : List StoredInstance). Contains (instance_names all) c.args.name → ⊥) c.self.view_is
+      (c.may_have.ensures c.if-not-may_have.true) among),
 )
 
 pub returns : goal.returns

@@ -12,6 +12,8 @@ loop-index-preserved c =
       texts = c.push.ensures
           ∙ ap (λ (lines : List (List ℕ)). lines ++ c.text.result.now ∷ []) c.loop-index.invariant.texts
           ∙ ap (λ (text : List ℕ). before ++ text ∷ []) (sym c.text.ensures.2)
-          ∙ sym (one_more_text kept c.args.positions.now c.args.from c.loop-index.index c.get-place.result c.text.ensures.0 c.get-place.ensures c.text.ensures.1);
-      many = ap length c.push.ensures ∙ length-append c.loop-index.lines (c.text.result.now ∷ []) ∙ ap (λ (n : ℕ). n + 1) c.loop-index.invariant.many;
+          ∙ sym (one_more_text kept c.args.positions.now c.args.from c.loop-index.index c.get-place.result c.text.ensures.0
+          c.get-place.ensures c.text.ensures.1);
+      many = ap length c.push.ensures ∙ length-append c.loop-index.lines (c.text.result.now ∷ [])
+          ∙ ap (λ (n : ℕ). n + 1) c.loop-index.invariant.many;
     }

@@ -14,7 +14,8 @@ returns-clause-rising c e =
     let find = position_in run c.self.inside.marks c.self.inside.others in
     let (first, step, some, is) = c.rises.ensures in
     let all : length run ≡ c.self.inside.count = sym c.len.ensures.len ∙ equal c.len.result c.self.inside.count e in
-    let are = run_is_all run c.self.inside.names.0 c.self.inside.marks c.self.inside.others first step some is (all ∙ c.self.inside.names.1.0) c.self.inside.names.1.1 in
+    let are = run_is_all run c.self.inside.names.0 c.self.inside.marks c.self.inside.others first step some is
+    (all ∙ c.self.inside.names.1.0) c.self.inside.names.1.1 in
     let same : run ≡ c.args.self.now = sym (names_are find c.self.inside.count c.self.inside.names run (sym all) are) ∙ c.self.view_is in
     (first, step, some, subst (λ (l : List ℕ). l ≡ numbers_by first step (length l)) same is)
 

@@ -8,13 +8,17 @@ pub returns-in-Some-clause-some : goal.returns-in-Some-clause-some
 returns-in-Some-clause-some c = (c.membership.ensures.0, found _ _ _ c.self.view_is _ _ _ c.in-Some.ensures.found.2 c.membership.ensures.1)
 
 pub returns-in-Some-clause-between : goal.returns-in-Some-clause-between
-returns-in-Some-clause-between c other from below there = c.in-Some.ensures.between other from below (among_names _ _ _ c.self.view_is c.self.invariant.texts other there)
+returns-in-Some-clause-between c other from below there =
+    c.in-Some.ensures.between other from below (among_names _ _ _ c.self.view_is c.self.invariant.texts other there)
 
 pub returns-in-Some-clause-fits : goal.returns-in-Some-clause-fits
-returns-in-Some-clause-fits c other there = c.in-Some.ensures.fits other (among_names _ _ _ c.self.view_is c.self.invariant.texts other there)
+returns-in-Some-clause-fits c other there = c.in-Some.ensures.fits other
+    (among_names _ _ _ c.self.view_is c.self.invariant.texts other there)
 
 pub returns-in-None-clause-none : goal.returns-in-None-clause-none
-returns-in-None-clause-none c e other from there = c.in-None.ensures.none e other from (among_names _ _ _ c.self.view_is c.self.invariant.texts other there)
+returns-in-None-clause-none c e other from there =
+    c.in-None.ensures.none e other from (among_names _ _ _ c.self.view_is c.self.invariant.texts other there)
 
 pub returns-in-None-clause-fits : goal.returns-in-None-clause-fits
-returns-in-None-clause-fits c other there = c.in-None.ensures.fits other (among_names _ _ _ c.self.view_is c.self.invariant.texts other there)
+returns-in-None-clause-fits c other there = c.in-None.ensures.fits other
+    (among_names _ _ _ c.self.view_is c.self.invariant.texts other there)

@@ -9,7 +9,8 @@ pub returns-then-not-may_have_come : goal.returns-then-not-may_have_come
 returns-then-not-may_have_come c =
     let seen = subst (λ (all : List StoredInstance). AreSeen c.self.inside.seen.items all) c.self.view_is c.self.invariant.1 in (
       λ there. cc,
-      λ among. absurd (subst (λ (words : List ℕ). MayHaveCome words c.args.name → ⊥) c.deref.ensures.value (c.may_have_come.ensures c.if-not-may_have_come.true) (seen c.args.name among)),
+      λ among. absurd (subst (λ (words : List ℕ). MayHaveCome words c.args.name → ⊥) c.deref.ensures.value
+          (c.may_have_come.ensures c.if-not-may_have_come.true) (seen c.args.name among)),
     )
 
 pub returns : goal.returns

@@ -9,7 +9,8 @@ pub invariant_of-result : goal.invariant_of-result
 invariant_of-result c = (
   ap (λ (l : List StoredInstance). length l) (sym (none-noted c.new.result (c.new.ensures 0))),
   λ name among.
-      absurd (Contains-none name (subst (λ (l : List StoredInstance). Contains (instance_names l) name) (ap (λ (l : List StoredInstance). l ++ c.new-2.result) (none-noted c.new.result (c.new.ensures 0)) ∙ c.new-2.ensures) among)),
+      absurd (Contains-none name (subst (λ (l : List StoredInstance). Contains (instance_names l) name)
+      (ap (λ (l : List StoredInstance). l ++ c.new-2.result) (none-noted c.new.result (c.new.ensures 0)) ∙ c.new-2.ensures) among)),
 )
 
 pub returns : goal.returns

@@ -4,9 +4,11 @@ use Rattle.p21_stream_store.proofs.pages.Pages.get.Goals as goal
 
 pub returns-then-index-len : goal.returns-then-index-len
 returns-then-index-len g c =
-    none_in _ c.args.self.now.pages.items c.args.name c.index-page.result.now (omega (arith, c.if-number-len.false, c.len.ensures)) c.index-page.ensures (omega (arith, c.if-index-len.true, c.len-2.ensures))
+    none_in _ c.args.self.now.pages.items c.args.name c.index-page.result.now (omega (arith, c.if-number-len.false, c.len.ensures))
+    c.index-page.ensures (omega (arith, c.if-index-len.true, c.len-2.ensures))
 
 pub returns : goal.returns
 returns g c =
-    number_read _ c.args.self.now.pages.items c.args.name c.index-page.result.now (omega (arith, c.if-number-len.false, c.len.ensures)) c.index-page.ensures
+    number_read _ c.args.self.now.pages.items c.args.name c.index-page.result.now (omega (arith, c.if-number-len.false, c.len.ensures))
+    c.index-page.ensures
     _ (omega (arith, c.if-index-len.false, c.len-2.ensures)) c.index.ensures

@@ -18,4 +18,5 @@ overflow_add-result c =
 pub returns : goal.returns
 returns c =
     let size = sym (length-run c.self.inside.first c.self.inside.step c.self.inside.count) ∙ ap length c.self.view_is in
-    ap (λ (l : List ℕ). slice_get l c.args.place) (sym c.self.view_is) ∙ run_got c.self.inside.first c.self.inside.step c.self.inside.count c.args.place (omega (arith, size, c.requires))
+    ap (λ (l : List ℕ). slice_get l c.args.place) (sym c.self.view_is)
+    ∙ run_got c.self.inside.first c.self.inside.step c.self.inside.count c.args.place (omega (arith, size, c.requires))

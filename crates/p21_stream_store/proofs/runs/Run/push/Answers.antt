@@ -6,5 +6,7 @@ use Rattle.p21_stream_store.proofs.runs.Run.push.Goals as goal
 pub returns : goal.returns
 returns c =
     run_more c.self.inside.first c.self.inside.step c.self.inside.count
-    ∙ ap (λ (n : ℕ). numbers_by c.self.inside.first c.self.inside.step c.self.inside.count ++ n ∷ []) (next_is c.self.inside.first c.self.inside.step c.self.inside.count c.args.number c.if-self-eq0.false c.if-number-last.false c.if-number-last-2.false)
+    ∙ ap (λ (n : ℕ). numbers_by c.self.inside.first c.self.inside.step c.self.inside.count ++ n ∷ [])
+    (next_is c.self.inside.first c.self.inside.step c.self.inside.count c.args.number c.if-self-eq0.false c.if-number-last.false
+    c.if-number-last-2.false)
     ∙ ap (λ (l : List ℕ). l ++ c.args.number ∷ []) c.self.view_is

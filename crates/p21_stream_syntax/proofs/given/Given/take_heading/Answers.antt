@@ -21,15 +21,18 @@ pub returns-then-has_name-clause-gives : goal.returns-then-has_name-clause-gives
 returns-then-has_name-clause-gives c =
     let old : Kept = kept_of c.args.self.now in
     let P : Heading → Type 0 = λ h. Takes old (section (data_start h)) (Err SectionTwice) old in
-    subst P (sym c.in-Some.ensures.some) (heading-again old old c.in-Some.name.now c.in-Some.text.now (c.has_name.ensures.0 c.if-has_name.true))
+    subst P (sym c.in-Some.ensures.some) (heading-again old old c.in-Some.name.now c.in-Some.text.now
+    (c.has_name.ensures.0 c.if-has_name.true))
 
 pub returns-clause-gives : goal.returns-clause-gives
 returns-clause-gives c =
     let old : Kept = kept_of c.args.self.now in
     let known = c.is_named_by.ensures.0 c.if-not-is_named_by.false in
     let sections = c.in-Ok.ensures.ok ∙ ap (λ (h : Heading). old.sections ++ h ∷ []) c.in-Some.ensures.some in
-    subst (λ (hs : List Heading). Takes old (section (data_start (heading_of (views (items_of c.args.part.params))))) (Ok tt) (record old { sections = hs })) (sym sections)
-    (subst (λ (h : Heading). Takes old (section (data_start h)) (Ok tt) (record old { sections = old.sections ++ named c.in-Some.name.now c.in-Some.text.now ∷ [] })) (sym c.in-Some.ensures.some)
+    subst (λ (hs : List Heading). Takes old (section (data_start (heading_of (views (items_of c.args.part.params))))) (Ok tt)
+    (record old { sections = hs })) (sym sections)
+    (subst (λ (h : Heading). Takes old (section (data_start h)) (Ok tt)
+    (record old { sections = old.sections ++ named c.in-Some.name.now c.in-Some.text.now ∷ [] })) (sym c.in-Some.ensures.some)
     (took-heading old c.in-Some.name.now c.in-Some.text.now known.0 known.1 (λ had.
     let passes : c.has_name.result ≡ true = c.has_name.ensures.1 had in
     let fails = c.if-has_name.false in

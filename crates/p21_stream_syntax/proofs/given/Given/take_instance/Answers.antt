@@ -12,17 +12,25 @@ use Rattle.p21_stream_syntax.proofs.given.Given.take_instance.Goals as goal
 pub returns-then-has_name-clause-gives : goal.returns-then-has_name-clause-gives
 returns-then-has_name-clause-gives c =
     let old : Kept = kept_of c.args.self.now in
-    instance-again old old c.args.name (record_view c.args.of.now) (subst (Contains old.names) c.name.view_is (c.has_name.ensures.0 c.if-has_name.true))
+    instance-again old old c.args.name (record_view c.args.of.now)
+    (subst (Contains old.names) c.name.view_is (c.has_name.ensures.0 c.if-has_name.true))
 
 pub returns-clause-gives : goal.returns-clause-gives
 returns-clause-gives c =
     let old : Kept = kept_of c.args.self.now in
     let n = c.name.inside.0 in
     let x = without_text n 0 in
-    let new : Kept = record old { names = instance_names c.push.new.self; targets = targets_of c.look_again.new.self.references.items; counts = c.add-2.new.self } in
+    let new : Kept = record old {
+      names = instance_names c.push.new.self;
+      targets =
+          targets_of c.look_again.new.self.references.items;
+      counts = c.add-2.new.self;
+    } in
     subst (λ (m : ℕ). Takes old (instance m (record_view c.args.of.now)) (Ok tt) new) c.name.view_is
-    (took-instance old n (record_view c.args.of.now) (instance_names c.push.new.self) (targets_of c.look_again.new.self.references.items) (targets_of c.add.new.self.references.items) c.add-2.new.self
-    (name-added x c.args.self.now.names c.push.new.self c.in-Ok.ensures.ok) (name-counted x c.args.self.now.names c.push.new.self c.in-Ok.ensures.ok)
+    (took-instance old n (record_view c.args.of.now) (instance_names c.push.new.self) (targets_of c.look_again.new.self.references.items)
+    (targets_of c.add.new.self.references.items) c.add-2.new.self
+    (name-added x c.args.self.now.names c.push.new.self c.in-Ok.ensures.ok)
+    (name-counted x c.args.self.now.names c.push.new.self c.in-Ok.ensures.ok)
     (λ had.
     let passes : c.has_name.result ≡ true = c.has_name.ensures.1 had in
     let fails = c.if-has_name.false in

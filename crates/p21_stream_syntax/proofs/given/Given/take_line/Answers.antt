@@ -9,4 +9,5 @@ use Rattle.p21_stream_syntax.proofs.given.Given.take_line.Goals as goal
 pub returns-clause-gives : goal.returns-clause-gives
 returns-clause-gives c =
     let old : Kept = kept_of c.args.self.now in
-    subst (λ (hs : List Heading). Takes old (section (line_of c.args.line)) (Ok tt) (record old { sections = hs })) (sym c.in-Ok.ensures.ok) (took-line old c.args.line)
+    subst (λ (hs : List Heading). Takes old (section (line_of c.args.line)) (Ok tt) (record old { sections = hs })) (sym c.in-Ok.ensures.ok)
+    (took-line old c.args.line)

@@ -14,9 +14,15 @@ returns-then-is_empty c =
 pub returns : goal.returns
 returns c =
     let name = c.args.self.now.name in
-    let some : name.items ≢ [] = some-items name.items (λ none. eqb-false (vec_len name) 0 (sym c.is_empty.ensures ∙ c.if-is_empty.false) (omega (arith, none, name.ok.0))) in
+    let some : name.items ≢ [] = some-items name.items
+    (λ none. eqb-false (vec_len name) 0 (sym c.is_empty.ensures ∙ c.if-is_empty.false) (omega (arith, none, name.ok.0))) in
     let text_is = c.chars.ensures in
     let name_is = c.deref.ensures.value in (
-      λ is. (some, subst (λ (n : List ℕ). NamesSchema c.args.text.now n) name_is (subst (λ (t : List ℕ). NamesSchema t c.deref.result.now) text_is (c.names_schema.ensures.0 is))),
-      λ both. c.names_schema.ensures.1 (subst (λ (n : List ℕ). NamesSchema c.chars.result.now n) (sym name_is) (subst (λ (t : List ℕ). NamesSchema t name.items) (sym text_is) both.1)),
+      λ is. (
+        some,
+        subst (λ (n : List ℕ). NamesSchema c.args.text.now n) name_is
+            (subst (λ (t : List ℕ). NamesSchema t c.deref.result.now) text_is (c.names_schema.ensures.0 is)),
+      ),
+      λ both. c.names_schema.ensures.1 (subst (λ (n : List ℕ). NamesSchema c.chars.result.now n) (sym name_is)
+          (subst (λ (t : List ℕ). NamesSchema t name.items) (sym text_is) both.1)),
     )

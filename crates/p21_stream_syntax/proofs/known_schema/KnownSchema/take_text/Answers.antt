@@ -18,7 +18,8 @@ take_again-requires-clause-begins c = subst BeginsWithName c.chars.ensures (c.be
 pub take_again-requires-clause-known : goal.take_again-requires-clause-known
 take_again-requires-clause-known c =
     let name = c.args.self.now.name in
-    some-items name.items (λ none. eqb-false (vec_len name) 0 (sym c.is_empty.ensures ∙ c.if-not-is_empty.true) (omega (arith, none, name.ok.0)))
+    some-items name.items (λ none. eqb-false (vec_len name) 0 (sym c.is_empty.ensures ∙ c.if-not-is_empty.true)
+    (omega (arith, none, name.ok.0)))
 
 pub returns-clause-gives : goal.returns-clause-gives
 returns-clause-gives c =

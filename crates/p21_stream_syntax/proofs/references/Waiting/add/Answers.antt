@@ -9,5 +9,7 @@ use Rattle.p21_stream_syntax.proofs.references.Waiting.add.Goals as goal
 
 pub returns-in-Complex : goal.returns-in-Complex
 returns-in-Complex c =
-    let same = ap parts_references c.items.ensures.are ∙ sym (references-mapped c.in-Complex.parts) ∙ ap (λ (r : Record). record_references (record_view r)) (sym c.in-Complex.is) in
-    subst (λ (l : List ℕ). OnOk c.add_parts.result (Adds (instance_names c.args.names.now) l (targets_of c.args.self.now.references.items) (targets_of c.add_parts.new.waiting.items))) same c.add_parts.ensures
+    let same = ap parts_references c.items.ensures.are ∙ sym (references-mapped c.in-Complex.parts)
+    ∙ ap (λ (r : Record). record_references (record_view r)) (sym c.in-Complex.is) in
+    subst (λ (l : List ℕ). OnOk c.add_parts.result (Adds (instance_names c.args.names.now) l (targets_of c.args.self.now.references.items)
+    (targets_of c.add_parts.new.waiting.items))) same c.add_parts.ensures

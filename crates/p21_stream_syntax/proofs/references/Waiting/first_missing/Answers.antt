@@ -11,7 +11,8 @@ pub returns-then-not-has_come-clause-some : goal.returns-then-not-has_come-claus
 returns-then-not-has_come-clause-some c =
     let items = c.args.self.now.references.items in
     let x : Reference = c.index.result.now in
-    let low : c.loop-index.index < length items = omega (arith, c.loop-index-test.true, c.len-index-end.ensures, c.args.self.now.references.ok.0) in (
+    let low : c.loop-index.index < length items = omega
+    (arith, c.loop-index-test.true, c.len-index-end.ensures, c.args.self.now.references.ok.0) in (
       x.target,
       target-there items c.loop-index.index x c.index.ensures low,
       λ given.
@@ -24,11 +25,15 @@ pub loop-index-preserved : goal.loop-index-preserved
 loop-index-preserved c =
     let items = c.args.self.now.references.items in
     let x : Reference = c.index.result.now in
-    let low : c.loop-index.index < length items = omega (arith, c.loop-index-test.true, c.len-index-end.ensures, c.args.self.now.references.ok.0) in
-    one-come (instance_names c.args.names.now) items c.loop-index.index x c.index.ensures low c.loop-index.invariant (c.has_come.ensures.0 c.if-not-has_come.false)
+    let low : c.loop-index.index < length items = omega
+    (arith, c.loop-index-test.true, c.len-index-end.ensures, c.args.self.now.references.ok.0) in
+    one-come (instance_names c.args.names.now) items c.loop-index.index x c.index.ensures low c.loop-index.invariant
+    (c.has_come.ensures.0 c.if-not-has_come.false)
 
 pub returns-clause-none : goal.returns-clause-none
 returns-clause-none c = λ none.
     let items = c.args.self.now.references.items in
-    let past : length items ≤ c.loop-index.index = omega (arith, c.loop-index-test.false, c.len-index-end.ensures, c.args.self.now.references.ok.0) in
-    subst (λ (l : List Reference). Each (Contains (instance_names c.args.names.now)) (targets_of l)) (take_all c.loop-index.index items past) c.loop-index.invariant
+    let past : length items ≤ c.loop-index.index = omega
+    (arith, c.loop-index-test.false, c.len-index-end.ensures, c.args.self.now.references.ok.0) in
+    subst (λ (l : List Reference). Each (Contains (instance_names c.args.names.now)) (targets_of l))
+    (take_all c.loop-index.index items past) c.loop-index.invariant
