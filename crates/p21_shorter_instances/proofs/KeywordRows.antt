@@ -17,7 +17,8 @@ lanes-many row bytes long within =
     length-zip2 eqb (chunk 0 32 bytes) row (loaded ∙ sym long) ∙ loaded
 
 -- bytes before the first lane that differs are the same
-fronts-same : (row bytes : List ℕ) (count : ℕ) → length row ≡ 32 → 32 ≤ length bytes → count ≤ trailing_ones w64 (mask_l (zip2 eqb (chunk 0 32 bytes) row)) → count ≤ 32
+fronts-same : (row bytes : List ℕ) (count : ℕ) → length row ≡ 32 → 32 ≤ length bytes
+    → count ≤ trailing_ones w64 (mask_l (zip2 eqb (chunk 0 32 bytes) row)) → count ≤ 32
     → take count row ≡ take count bytes
 fronts-same row bytes count long within before few =
     ext_get_or 0 (take count row) (take count bytes) (of_row ∙ sym of_bytes) (λ i to.
@@ -44,20 +45,27 @@ fronts-same row bytes count long within before few =
 
     same : (i : ℕ) → i < count → get_or row i 0 ≡ get_or bytes i 0
     same i below =
-        let set = bit-set (get_or lanes i false) (sym (bit_mask_l lanes i) ∙ (bit_at-trailing_ones w64 (mask_l lanes) small).2 i (omega (arith, below, before))) in
-        let tested = sym (get_or-zip2 eqb (chunk 0 32 bytes) row i 0 0 false (omega (arith, below, few, of_lanes)) (omega (arith, below, few, long))) ∙ set in
-        sym ((Decides-eqb (get_or (chunk 0 32 bytes) i 0) (get_or row i 0)).0 tested) ∙ get_or-chunk 0 32 bytes i 0 (omega (arith, below, few)) ∙ ap (λ (n : ℕ). get_or bytes n 0) (let first : 0 + i ≡ i = omega arith in first)
+        let set = bit-set (get_or lanes i false) (sym (bit_mask_l lanes i)
+        ∙ (bit_at-trailing_ones w64 (mask_l lanes) small).2 i (omega (arith, below, before))) in
+        let tested = sym (get_or-zip2 eqb (chunk 0 32 bytes) row i 0 0 false (omega (arith, below, few, of_lanes))
+        (omega (arith, below, few, long))) ∙ set in
+        sym ((Decides-eqb (get_or (chunk 0 32 bytes) i 0) (get_or row i 0)).0 tested)
+        ∙ get_or-chunk 0 32 bytes i 0 (omega (arith, below, few))
+        ∙ ap (λ (n : ℕ). get_or bytes n 0) (let first : 0 + i ≡ i = omega arith in first)
 
 -- the same by the mask of the lanes
 pub fronts-masked : (row bytes : List ℕ) (count : ℕ) → length row ≡ 32 → 32 ≤ length bytes
-    → count ≤ trailing_ones w64 (mask_l (map (top 7) (zip2 (λ a b. cond (eqb a b) 255 0) (chunk 0 32 bytes) row)) % 2 ^ 64) → count ≤ 32 → take count row ≡ take count bytes
+    → count ≤ trailing_ones w64 (mask_l (map (top 7) (zip2 (λ a b. cond (eqb a b) 255 0) (chunk 0 32 bytes) row)) % 2 ^ 64) → count ≤ 32
+    → take count row ≡ take count bytes
 fronts-masked row bytes count long within before few =
     let lanes = chunk 0 32 bytes in
     let many = lanes-many row bytes long within in
     let mask : mask_l (map (top 7) (zip2 (λ a b. cond (eqb a b) 255 0) lanes row)) % 2 ^ 64 ≡ mask_l (zip2 eqb lanes row) =
-    ap (λ (ms : List Bool). mask_l ms % 2 ^ 64) (tops_compared w8 eqb lanes row) ∙ mask_l-mod (zip2 eqb lanes row) 64 (omega (arith, many)) in
+    ap (λ (ms : List Bool). mask_l ms % 2 ^ 64) (tops_compared w8 eqb lanes row)
+    ∙ mask_l-mod (zip2 eqb lanes row) 64 (omega (arith, many)) in
     fronts-same row bytes count long within (subst (λ (m : ℕ). count ≤ trailing_ones w64 m) mask before) few
 
 -- some bytes at the front
 pub front-some : (bytes : List ℕ) (count : ℕ) → 0 < count → count < length bytes → take count bytes ≢ []
-front-some bytes count some within none = let size = length-take-le count bytes (omega (arith, within)) in let empty : length (take count bytes) ≡ 0 = ap length none in omega (arith, size, empty, some)
+front-some bytes count some within none = let size = length-take-le count bytes (omega (arith, within)) in
+    let empty : length (take count bytes) ≡ 0 = ap length none in omega (arith, size, empty, some)

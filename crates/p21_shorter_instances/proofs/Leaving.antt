@@ -1,8 +1,9 @@
 -- What holds of an answer of a call that may give up.
-use Rattle.std.proofs.Common.{◌≡◌, ℕ, List, ◌∷◌, Option, Some, None, Result, Ok, Err, IfErr, IfNone, IfOk, IfSome, IsErrAnd, OnErr, ok_or, refl, subst, sym}
+use Rattle.std.proofs.Common.{◌≡◌, ℕ, List, ◌∷◌, ◌++◌, Option, Some, None, Result, Ok, Err, IfErr, IfNone, IfOk, IfSome, IsErrAnd, OnErr, ok_or, ap, subst, sym, ◌∙◌}
 use Rattle.p21_spec_exchange.specs.Token.{Token, name}
-use Rattle.p21_shorter_instances.specs.Leaving.{BeginsWithName}
+use Rattle.p21_shorter_instances.specs.Leaving.{BeginsWithMark}
 use Rattle.p21_shorter_instances.specs.TakenParameters.{TakesTokens}
+use Rattle.p21_shorter_tokens.specs.Gaps.{PassesSeparators}
 
 pub ok-to : {A E : Type 0} {P Q : A → Type 0} (result : Result A E) → ((x : A) → P x → Q x) → IfOk result P → IfOk result Q
 ok-to (Ok x) follows h = follows x h
@@ -17,7 +18,8 @@ err-from (Ok x) holds = tt
 err-from (Err e) holds = holds
 
 -- the same of an answer that is none
-pub ok-some : {A E : Type 0} {P Q : A → Type 0} (found : Option A) (why : E) → ((x : A) → P x → Q x) → IfSome found P → IfOk (ok_or found why) Q
+pub ok-some : {A E : Type 0} {P Q : A → Type 0} (found : Option A) (why : E) → ((x : A) → P x → Q x) → IfSome found P
+    → IfOk (ok_or found why) Q
 ok-some None why follows h = tt
 ok-some (Some x) why follows h = follows x h
 
@@ -31,7 +33,15 @@ err-handed P (Ok x) why is holds = tt
 err-handed P (Err e) why is holds = subst P (sym is) holds
 
 -- the first of some tokens is a name
-pub begins-taken : (n : ℕ) (tokens : List Token) (text bytes rest old new : List ℕ) → TakesTokens (name n ∷ tokens) text bytes rest old new → BeginsWithName bytes
+pub begins-taken : (n : ℕ) (tokens : List Token) (text bytes rest old new : List ℕ) → TakesTokens (name n ∷ tokens) text bytes rest old new
+    → BeginsWithMark bytes
 begins-taken n tokens text bytes rest old new takes =
     let (gap, spelling, behind, is, separates, spells, followed, more) = takes.laid in
-    (n, behind, (gap, spelling, behind, is, separates, spells, followed, refl))
+    (spells.form.digits ++ behind, (gap, is ∙ ap (λ (front : List ℕ). gap ++ (front ++ behind)) spells.form.bytes_are, separates))
+
+-- the mark of a name stands behind the separators
+pub begins-behind : (bytes rest behind : List ℕ) → PassesSeparators bytes rest → rest ≡ 35 ∷ behind → BeginsWithMark bytes
+begins-behind bytes rest behind passes begins = (
+  behind,
+  (passes.gap, passes.bytes_are ∙ ap (λ (l : List ℕ). passes.gap ++ l) begins, passes.is_gap),
+)

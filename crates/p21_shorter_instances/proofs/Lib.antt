@@ -20,3 +20,4 @@ pub mod Rows
 pub mod Stepping
 pub mod Texts
 pub mod Whole
+pub mod InstanceBytes

@@ -54,25 +54,44 @@ use Rattle.p21_shorter_instances.specs.TakenValues.{LaidBefore, with_text}
 pub fit-with : (s : Schema) (m : Typed) (ps : List PlacedParameter) → Each (IsPlacedParameter s m.entities) ps → AreMeant m ps
     → FitPlacesWithNeeds s m (places_at ps) (params_at ps) (needs_at ps)
 fit-with s m [] each has = refl
-fit-with s m (p ∷ ps) each has = (p.needs, needs_at ps, refl, (each.0.at, p.value, each.0.type_at, each.0.fits, has.0), fit-with s m ps each.1 has.1)
+fit-with s m (p ∷ ps) each has = (
+  p.needs,
+  needs_at ps,
+  refl,
+  (each.0.at, p.value, each.0.type_at, each.0.fits, has.0),
+  fit-with s m ps
+      each.1 has.1,
+)
 
-pub all-shallow : (s : Schema) (entities : List ℕ) (ps : List PlacedParameter) → Each (IsPlacedParameter s entities) ps → IsShallow (params_at ps)
+pub all-shallow : (s : Schema) (entities : List ℕ) (ps : List PlacedParameter) → Each (IsPlacedParameter s entities) ps
+    → IsShallow (params_at ps)
 all-shallow s entities [] each = omega arith
-all-shallow s entities (p ∷ ps) each = let first = each.0.shallow in let more = all-shallow s entities ps each.1 in omega (arith, first, more)
+all-shallow s entities (p ∷ ps) each = let first = each.0.shallow in let more = all-shallow s entities ps each.1 in
+    omega (arith, first, more)
 
-module _ (s : Schema) (formed : IsWellFormed s) (holds : HoldsTogether s) (e : ℕ) (is : IsEntity s e) (may : MayStandAlone s e) (word : List ℕ) (named : EntityNamed s e word) (ps : List PlacedParameter) (placed : Each (IsPlacedParameter s (order s e)) ps) (at_places : places_at ps ≡ places s e) (set : List ℕ) (set-is : IsOwnRising s e set) where
+module _ (s : Schema) (formed : IsWellFormed s) (holds : HoldsTogether s) (e : ℕ) (is : IsEntity s e) (may : MayStandAlone s e)
+    (word : List ℕ) (named : EntityNamed s e word) (ps : List PlacedParameter) (placed : Each (IsPlacedParameter s (order s e)) ps)
+    (at_places : places_at ps ≡ places s e) (set : List ℕ) (set-is : IsOwnRising s e set) where
   same : HaveSame (order s e) set
   same = set-is.0
 
   values : HasMeaning s set ps
-  values = has-meaning s (order s e) set ps (distinct-none_twice (order s e) (order-distinct s e)) (λ f. (same f).0) (λ f. (same f).1) at_places
+  values = has-meaning s (order s e) set ps (distinct-none_twice (order s e) (order-distinct s e)) (λ f. (same f).0) (λ f. (same f).1)
+      at_places
 
   abbrev meant : Typed
   meant = record { entities = set; values = values.values }
 
   in_set : Each (IsPlacedParameter s set) ps
   in_set =
-      Each-weaker (IsPlacedParameter s (order s e)) (IsPlacedParameter s set) (λ p here. record { at = here.at; type_at = type-same s (order s e) set same p.place here.at here.type_at; fits = here.fits; shallow = here.shallow }) ps placed
+      Each-weaker (IsPlacedParameter s (order s e)) (IsPlacedParameter s set)
+      (λ p here. record {
+        at = here.at;
+        type_at = type-same s (order s e) set same p.place here.at here.type_at;
+        fits =
+            here.fits;
+        shallow = here.shallow;
+      }) ps placed
 
   abbrev own : Part
   own = record { key = key_of word; params = params_at ps }
@@ -84,7 +103,8 @@ module _ (s : Schema) (formed : IsWellFormed s) (holds : HoldsTogether s) (e : �
   closure f = (λ among. (order-tells s holds e f).0 ((same f).1 among), λ up. (same f).0 ((order-tells s holds e f).1 up))
 
   fit : FitPlacesWithNeeds s meant (places s e) (params_at ps) (needs_at ps)
-  fit = subst (λ (xs : List Place). FitPlacesWithNeeds s meant xs (params_at ps) (needs_at ps)) at_places (fit-with s meant ps in_set values.each)
+  fit = subst (λ (xs : List Place). FitPlacesWithNeeds s meant xs (params_at ps) (needs_at ps)) at_places
+      (fit-with s meant ps in_set values.each)
 
   needs-are : AreNeedsOfRecord s (simple own) meant (needs_at ps)
   needs-are = (e, names, fit)
@@ -101,14 +121,25 @@ module _ (s : Schema) (formed : IsWellFormed s) (holds : HoldsTogether s) (e : �
         no_abstract_leaf = simple-no_leaf s holds e set same may.concrete;
         no_clash = passes.0;
         place_types = passes.1;
-        means = record { entity = e; named = names; closure = closure; fit = served-places s served.0 meant (places s e) (params_at ps) (needs_at ps) fit served.1 };
+        means = record {
+          entity = e;
+          named = names;
+          closure = closure;
+          fit =
+              served-places s served.0 meant (places s e) (params_at ps) (needs_at ps) fit served.1;
+        };
       }
 
   means-so : MeansWithNeeds s (simple own) meant (needs_at ps)
   means-so = record { kinds = served.0; means = record-means; needs_are = needs-are }
 
   data-record : IsDataRecord (simple own)
-  data-record = record { some_parts = omega arith; shallow = (all-shallow s set ps in_set, tt); no_user_keywords = part-plain own tt (placed-plain s set ps in_set) }
+  data-record = record {
+    some_parts = omega arith;
+    shallow = (all-shallow s set ps in_set, tt);
+    no_user_keywords =
+        part-plain own tt (placed-plain s set ps in_set);
+  }
 
   -- ---- its canonical text
 
@@ -118,9 +149,16 @@ module _ (s : Schema) (formed : IsWellFormed s) (holds : HoldsTogether s) (e : �
   module _ (n : ℕ) (spelled : IsWrittenStatement (instance n (simple own))) where
     written : IsWrittenStatement (instance n (simple canonical))
     written =
-        let params : AreWritten (params_at ps) = part-written own (Each-front IsSpelled (record_tokens (simple own)) (token.semicolon ∷ []) spelled.1.1) in
-        let all = part-said canonical spelled.1.1.0 (canonical-spelled s served.0 set ps in_set served.1 params) in
-        (spelled.0, (spelled.1.0, Each-append IsSpelled (record_tokens (simple canonical)) (token.semicolon ∷ []) all ((codes ";", refl), tt)))
+        let params : AreWritten (params_at ps) = part-written own
+        (Each-front IsSpelled (record_tokens (simple own)) (token.semicolon ∷ []) spelled.1.1) in
+        let all = part-said canonical spelled.1.1.0 (canonical-spelled s served.0 set ps in_set served.1 params) in (
+          spelled.0,
+          (
+            spelled.1.0,
+            Each-append IsSpelled (record_tokens (simple canonical)) (token.semicolon ∷ []) all
+                ((codes ";", refl), tt),
+          ),
+        )
 
     text-is : (text : List ℕ) → text ≡ statement_text (instance n (simple canonical)) → IsInstanceText s n (simple own) text
     text-is text is_text = record {
@@ -133,15 +171,22 @@ module _ (s : Schema) (formed : IsWellFormed s) (holds : HoldsTogether s) (e : �
         entity = e;
         named = names;
         closure = closure;
-        fit = subst (λ (xs : List Place). FitPlaces s served.0 (canonical_typed s meant) xs (canonical_at s ps)) at_places (canonical-fit s served.0 meant ps in_set values.each served.1);
+        fit = subst (λ (xs : List Place). FitPlaces s served.0 (canonical_typed s meant) xs (canonical_at s ps)) at_places
+            (canonical-fit s served.0 meant ps in_set values.each served.1);
       });
       same = SameTyped-symmetric meant (canonical_typed s meant) (canonical-same_typed s meant);
       is_canonical = record {
         form = closure-leaf s formed set e closure;
-        params = (e, names, subst (λ (xs : List Place). AreCanonicalAt (canonical_typed s meant) xs (canonical_at s ps)) at_places (canonical-stand s meant ps values.each));
+        params = (
+          e,
+          names,
+          subst (λ (xs : List Place). AreCanonicalAt (canonical_typed s meant) xs (canonical_at s ps)) at_places
+              (canonical-stand s meant ps values.each),
+        );
       };
       text_is = is_text;
-      laid = subst (λ (x : List ℕ). Laid x (statement_tokens (instance n (simple canonical)))) (sym is_text) (statement_laid (instance n (simple canonical)) written);
+      laid = subst (λ (x : List ℕ). Laid x (statement_tokens (instance n (simple canonical)))) (sym is_text)
+          (statement_laid (instance n (simple canonical)) written);
     }
 
 -- ---- what is taken
@@ -150,22 +195,31 @@ pub entity-is : (s : Schema) (e : ℕ) (word : List ℕ) → EntityNamed s e wor
 entity-is s e word (x, at, is) = slice_get_within s.entities e x at
 
 -- the parts of an instance one behind the other
-instance-taken : (s : Schema) → IsWellFormed s → HoldsTogether s → (n e : ℕ) (entities : List ℕ) → IsOwnRising s e entities → MayStandAlone s e → (steps : List Step)
+instance-taken : (s : Schema) → IsWellFormed s → HoldsTogether s → (n e : ℕ) (entities : List ℕ) → IsOwnRising s e entities
+    → MayStandAlone s e → (steps : List Step)
     → AreStepsAt s (order s e) (places s e) steps
     → (bytes keyed behind rest : List ℕ) (old : Taken) (headed worded : List ℕ) (new : Taken)
-    → TakesTokens (token.name n ∷ token.equals ∷ []) (name_spelling n ++ 61 ∷ []) bytes keyed old.draft headed → TakesEntity s e keyed behind headed worded
+    → TakesTokens (token.name n ∷ token.equals ∷ []) (name_spelling n ++ 61 ∷ []) bytes keyed old.draft headed
+    → TakesEntity s e keyed behind headed worded
     → TakesSteps s body_tokens body_text steps behind rest (with_text worded old) new → TakesInstance s n entities bytes rest old new
-instance-taken s formed holds n e entities rising may steps are bytes keyed behind rest old headed worded new head (word, named, key) takes =
+instance-taken s formed holds n e entities rising may steps are bytes keyed behind rest old headed worded new head (word, named, key)
+    takes =
     let h = takes (order s e) (places s e) are in
     let ps : List PlacedParameter = h.placed in
     let part : Part = record { key = key_of word; params = params_at ps } in
-    let body : TakesTokens (body_tokens (params_at ps)) (body_text (texts_at s ps)) behind rest worded new.draft = record { laid = h.laid; appended = h.text_is } in
-    let keyword_body = takes-join (token.keyword word ∷ []) (body_tokens (params_at ps)) word (body_text (texts_at s ps)) keyed behind rest headed worded new.draft key body in
+    let body : TakesTokens (body_tokens (params_at ps)) (body_text (texts_at s ps)) behind rest worded new.draft =
+    record { laid = h.laid; appended = h.text_is } in
+    let keyword_body = takes-join (token.keyword word ∷ []) (body_tokens (params_at ps)) word (body_text (texts_at s ps)) keyed behind rest
+    headed worded new.draft key body in
     let all =
-    takes-join (token.name n ∷ token.equals ∷ []) (token.keyword word ∷ body_tokens (params_at ps)) (name_spelling n ++ 61 ∷ []) (word ++ body_text (texts_at s ps)) bytes keyed rest old.draft headed new.draft head keyword_body in
-    let tokens : token.name n ∷ token.equals ∷ token.keyword word ∷ body_tokens (params_at ps) ≡ statement_tokens (instance n (simple part)) =
-    ap (λ (ts : List Token). token.name n ∷ token.equals ∷ token.keyword word ∷ token.left ∷ ts) (sym (append_assoc (params_tokens (params_at ps)) (token.right ∷ []) (token.semicolon ∷ []))) in
-    let laid : LaidBefore bytes (statement_tokens (instance n (simple part))) rest = subst (λ (ts : List Token). LaidBefore bytes ts rest) tokens all.laid in
+    takes-join (token.name n ∷ token.equals ∷ []) (token.keyword word ∷ body_tokens (params_at ps)) (name_spelling n ++ 61 ∷ [])
+    (word ++ body_text (texts_at s ps)) bytes keyed rest old.draft headed new.draft head keyword_body in
+    let tokens : token.name n ∷ token.equals ∷ token.keyword word ∷ body_tokens (params_at ps) ≡ statement_tokens
+    (instance n (simple part)) =
+    ap (λ (ts : List Token). token.name n ∷ token.equals ∷ token.keyword word ∷ token.left ∷ ts)
+    (sym (append_assoc (params_tokens (params_at ps)) (token.right ∷ []) (token.semicolon ∷ []))) in
+    let laid : LaidBefore bytes (statement_tokens (instance n (simple part))) rest =
+    subst (λ (ts : List Token). LaidBefore bytes ts rest) tokens all.laid in
     let is : IsEntity s e = entity-is s e word named in
     let text : List ℕ = (name_spelling n ++ 61 ∷ []) ++ (word ++ body_text (texts_at s ps)) in
     record {
@@ -176,17 +230,29 @@ instance-taken s formed holds n e entities rising may steps are bytes keyed behi
       set_is = refl;
       added = h.added;
       needs_are = h.needs_are;
-      means = subst (λ (ns : List Need). MeansWithNeeds s (simple part) (meant s formed holds e is may word named ps h.each h.places_are entities rising) ns) h.added_are (means-so s formed holds e is may word named ps h.each h.places_are entities rising);
+      means = subst (λ (ns : List Need). MeansWithNeeds s (simple part)
+          (meant s formed holds e is may word named ps h.each h.places_are entities rising) ns) h.added_are
+          (means-so s formed holds e is may word named ps h.each h.places_are entities rising);
       text = text;
-      text_is = text-is s formed holds e is may word named ps h.each h.places_are entities rising n (laid-spelled bytes rest (statement_tokens (instance n (simple part))) laid) text (line-is s n word ps);
+      text_is = text-is s formed holds e is may word named ps h.each h.places_are entities rising n
+          (laid-spelled bytes rest (statement_tokens (instance n (simple part))) laid) text (line-is s n word ps);
       appended = all.appended;
     }
 
 -- an instance whose parameters are taken behind its name, `=`, its keyword and `(`
-pub internal-taken : (s : Schema) → IsWellFormed s → HoldsTogether s → (n e : ℕ) (bytes keyed inside rest : List ℕ) (old : Taken) (headed opened : List ℕ) (new : Taken)
-    → TakesTokens (token.name n ∷ token.equals ∷ []) (name_spelling n ++ 61 ∷ []) bytes keyed old.draft headed → TakesOpenedEntity s e keyed inside headed opened
-    → TakesParameters s e inside rest (with_text opened old) new → (entities : List ℕ) × IsOwnRising s e entities × TakesInstance s n entities bytes rest old new
+pub internal-taken : (s : Schema) → IsWellFormed s → HoldsTogether s
+    → (n e : ℕ) (bytes keyed inside rest : List ℕ) (old : Taken) (headed opened : List ℕ) (new : Taken)
+    → TakesTokens (token.name n ∷ token.equals ∷ []) (name_spelling n ++ 61 ∷ []) bytes keyed old.draft headed
+    → TakesOpenedEntity s e keyed inside headed opened
+    → TakesParameters s e inside rest (with_text opened old) new
+    → (entities : List ℕ) × IsOwnRising s e entities × TakesInstance s n entities bytes rest old new
 internal-taken s formed holds n e bytes keyed inside rest old headed opened new head first h =
-    let are : AreStepsAt s (order s e) (places s e) h.steps = subst (λ (steps : List PreparedStep). ArePreparedAt s (order s e) (places s e) steps) (sym h.steps_are) h.row_is.steps_are in
-    let body = enclosed s h.steps first.behind inside h.takes.behind rest (with_text first.between old) opened h.takes.between new first.opened h.takes.places h.takes.ended in
-    (h.row.entities, h.row_is.entities_are, instance-taken s formed holds n e h.row.entities h.row_is.entities_are h.row_is.may h.steps are bytes keyed first.behind rest old headed first.between new head first.entity body)
+    let are : AreStepsAt s (order s e) (places s e) h.steps =
+    subst (λ (steps : List PreparedStep). ArePreparedAt s (order s e) (places s e) steps) (sym h.steps_are) h.row_is.steps_are in
+    let body = enclosed s h.steps first.behind inside h.takes.behind rest (with_text first.between old) opened h.takes.between new
+    first.opened h.takes.places h.takes.ended in (
+      h.row.entities,
+      h.row_is.entities_are,
+      instance-taken s formed holds n e h.row.entities h.row_is.entities_are h.row_is.may h.steps are
+          bytes keyed first.behind rest old headed first.between new head first.entity body,
+    )

@@ -30,14 +30,17 @@ mutual
   fits-plain s type p v needs (with_chosen_instance _ _ _ _) = (tt, tt)
   fits-plain s type p v needs (with_chosen_type _ u _ q x _ _ _ fit) =
       (tt, (tt, Each-append IsNoUserKeyword (param_tokens q) (token.right ∷ []) (fits-plain s (schema.defined u) q x needs fit) (tt, tt)))
-  fits-plain s type p v needs (with_array _ _ optional _ element ps vs _ each _ _) = list-plain ps (each-plain s optional element ps vs needs each)
+  fits-plain s type p v needs (with_array _ _ optional _ element ps vs _ each _ _) =
+      list-plain ps (each-plain s optional element ps vs needs each)
   fits-plain s type p v needs (with_list _ _ _ element ps vs _ each _ _) = list-plain ps (each-plain s false element ps vs needs each)
   fits-plain s type p v needs (with_set _ _ element ps vs _ each _ _) = list-plain ps (each-plain s false element ps vs needs each)
   fits-plain s type p v needs (with_bag _ _ element ps vs _ each _) = list-plain ps (each-plain s false element ps vs needs each)
 
-  each-plain : (s : Schema) (optional : Bool) (type : TypeUse) (ps : Params) (vs : Values) (needs : List Need) → FitEachWithNeeds s optional type ps vs needs → ArePlain ps
+  each-plain : (s : Schema) (optional : Bool) (type : TypeUse) (ps : Params) (vs : Values) (needs : List Need)
+      → FitEachWithNeeds s optional type ps vs needs → ArePlain ps
   each-plain s optional type ps vs needs (with_none _ _) = tt
-  each-plain s optional type ps vs needs (with_next _ _ p v ps_ vs_ first more fit each) = (fits-plain s type p v first fit, each-plain s optional type ps_ vs_ more each)
+  each-plain s optional type ps vs needs (with_next _ _ p v ps_ vs_ first more fit each) =
+      (fits-plain s type p v first fit, each-plain s optional type ps_ vs_ more each)
   each-plain s optional type ps vs needs (with_empty _ ps_ vs_ _ each) = ((tt, tt), each-plain s true type ps_ vs_ needs each)
 
 at-plain : (s : Schema) (at : PlaceType) (p : Param) (v : Value) (needs : List Need) → FitsAtWithNeeds s at p v needs → IsPlain p
@@ -45,6 +48,7 @@ at-plain s at p v needs with_star = (tt, tt)
 at-plain s at p v needs (with_dollar _) = (tt, tt)
 at-plain s at p v needs (with_fit _ type _ _ _ fit) = fits-plain s type p v needs fit
 
-pub placed-plain : (s : Schema) (entities : List ℕ) (ps : List PlacedParameter) → Each (IsPlacedParameter s entities) ps → ArePlain (params_at ps)
+pub placed-plain : (s : Schema) (entities : List ℕ) (ps : List PlacedParameter) → Each (IsPlacedParameter s entities) ps
+    → ArePlain (params_at ps)
 placed-plain s entities [] each = tt
 placed-plain s entities (p ∷ ps) each = (at-plain s each.0.at p.parameter p.value p.needs each.0.fits, placed-plain s entities ps each.1)

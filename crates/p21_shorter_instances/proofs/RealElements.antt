@@ -29,35 +29,44 @@ use Rattle.p21_values.specs.Canonical.{Continues}
 
 -- ---- one real
 
-number-continues : (wholes : Bool) (bytes : List ℕ) (count : ℕ) (old new : List ℕ) → AppendsNumberToken wholes bytes count old new → Continues old new
+number-continues : (wholes : Bool) (bytes : List ℕ) (count : ℕ) (old new : List ℕ) → AppendsNumberToken wholes bytes count old new
+    → Continues old new
 number-continues wholes bytes count old new (a_real d h) = (spelling (token.real d), h.appended)
 number-continues wholes bytes count old new (a_whole z d _ _ _ _ _ text) = (spelling (token.real d), text)
 
-pub real-continues : (found : Option ℕ) (bytes old new : List ℕ) → IfSome found (λ count. AppendsNumberToken false bytes count old new) → IfNone found (Continues old new)
+pub real-continues : (found : Option ℕ) (bytes old new : List ℕ) → IfSome found (λ count. AppendsNumberToken false bytes count old new)
+    → IfNone found (Continues old new)
     → Continues old new
 real-continues None bytes old new some none = none
 real-continues (Some count) bytes old new some none = number-continues false bytes count old new some
 
-pub plain-continues : (found : Option ℕ) (bytes old new : List ℕ) → IfSome found (λ count. (wholes : Bool) → AppendsNumberToken wholes bytes count old new) → IfNone found (new ≡ old)
+pub plain-continues : (found : Option ℕ) (bytes old new : List ℕ)
+    → IfSome found (λ count. (wholes : Bool) → AppendsNumberToken wholes bytes count old new) → IfNone found (new ≡ old)
     → Continues old new
 plain-continues None bytes old new some none = continues-same old new none
 plain-continues (Some count) bytes old new some none = number-continues false bytes count old new (some false)
 
 -- a token is no separator
-pub first-passed : (bytes front : List ℕ) (count : ℕ) (one : token.Token) → IsLeadingToken front count one → (front ≡ bytes) ⊎ PassesSeparators bytes front → PassesSeparators bytes front
-first-passed bytes front count one stands (inl same) = subst (λ (x : List ℕ). PassesSeparators x front) same (token-first front count one stands)
+pub first-passed : (bytes front : List ℕ) (count : ℕ) (one : token.Token) → IsLeadingToken front count one → (front ≡ bytes)
+    ⊎ PassesSeparators bytes front → PassesSeparators bytes front
+first-passed bytes front count one stands (inl same) =
+    subst (λ (x : List ℕ). PassesSeparators x front) same (token-first front count one stands)
 first-passed bytes front count one stands (inr passes) = passes
 
-pub real-at : (bytes rest : List ℕ) (count : ℕ) (old new : List ℕ) → rest ≡ drop count bytes → TakesScalar schema.real bytes count old new → TakesReal bytes rest old new
+pub real-at : (bytes rest : List ℕ) (count : ℕ) (old new : List ℕ) → rest ≡ drop count bytes → TakesScalar schema.real bytes count old new
+    → TakesReal bytes rest old new
 real-at bytes rest count old new e h s base most taken is type has =
-    stored-taken s false base most bytes rest old (with_text old taken) (with_text new taken) refl (λ last found. at base is last found) type has
+    stored-taken s false base most bytes rest old (with_text old taken) (with_text new taken) refl (λ last found. at base is last found)
+    type has
   where
     at : (found : Base) → IsRealBase found → (last : TypeUse) → IsBase s last found
         → TakesWithNeeds s (FitsWithNeeds s last) most bytes rest (with_text old taken) (with_text new taken)
     at (Plain b) real last same =
-        subst (λ (t : TypeUse). TakesWithNeeds s (FitsWithNeeds s t) most bytes rest (with_text old taken) (with_text new taken)) (sym (same.0 ∙ ap type_use real))
+        subst (λ (t : TypeUse). TakesWithNeeds s (FitsWithNeeds s t) most bytes rest (with_text old taken) (with_text new taken))
+        (sym (same.0 ∙ ap type_use real))
         (no-deeper s (FitsWithNeeds s schema.real) most bytes rest (with_text old taken) (with_text new taken)
-        (needs-nothing s (FitsWithNeeds s schema.real) 0 bytes rest (with_text old taken) new (scalar-value s schema.real bytes rest count old new e h)))
+        (needs-nothing s (FitsWithNeeds s schema.real) 0 bytes rest (with_text old taken) new
+        (scalar-value s schema.real bytes rest count old new e h)))
     at (Items words) real last same = absurd real
     at (Select t) real last same = absurd real
 
@@ -66,32 +75,40 @@ real-at bytes rest count old new e h s base most taken is type has =
 -- whatever reals come behind those so far make reals with them
 abbrev pub AlongReals : List ℕ → List ℕ → ℕ → List ℕ → List ℕ → Type 0
 AlongReals bytes old number behind text =
-    (s : Schema) (base : Base) (most : ℕ) (lengths : List ℕ) (taken : Taken) → IsRealBase base → Along s base false false most bytes lengths (with_text old taken) number behind lengths (with_text text taken)
+    (s : Schema) (base : Base) (most : ℕ) (lengths : List ℕ) (taken : Taken) → IsRealBase base
+    → Along s base false false most bytes lengths (with_text old taken) number behind lengths (with_text text taken)
 
 pub no-reals : (bytes old : List ℕ) → TakesReals 0 bytes bytes old old
 no-reals bytes old s base most lengths taken is type has = no-elements s false type false most bytes lengths (with_text old taken)
 
-pub reals-first : (bytes inside behind old text : List ℕ) → PassesSeparators bytes inside → TakesReal inside behind old text → AlongReals bytes old 1 behind text
+pub reals-first : (bytes inside behind old text : List ℕ) → PassesSeparators bytes inside → TakesReal inside behind old text
+    → AlongReals bytes old 1 behind text
 reals-first bytes inside behind old text passes takes s base most lengths taken is =
-    along-first s base false false most bytes lengths (with_text old taken) inside behind lengths (with_text text taken) passes (takes s base most taken is) (λ e. absurd cc)
+    along-first s base false false most bytes lengths (with_text old taken) inside behind lengths (with_text text taken) passes
+    (takes s base most taken is) (λ e. absurd cc)
 
 -- whatever real comes there makes one more of them
 abbrev pub AheadOfReal : List ℕ → List ℕ → ℕ → List ℕ → List ℕ → Type 0
 AheadOfReal bytes old number front text =
-    (inside behind more : List ℕ) → PassesSeparators front inside → TakesReal inside behind text more → AlongReals bytes old (number + 1) behind more
+    (inside behind more : List ℕ) → PassesSeparators front inside → TakesReal inside behind text more
+    → AlongReals bytes old (number + 1) behind more
 
 pub reals-ahead : (bytes old : List ℕ) → AheadOfReal bytes old 0 bytes old
 reals-ahead bytes old inside behind more passes takes = reals-first bytes inside behind old more passes takes
 
-pub reals-next : (bytes old : List ℕ) (number : ℕ) (behind next text marked : List ℕ) → AlongReals bytes old number behind text → PassesDelimiter 44 behind next → marked ≡ text ++ 44 ∷ []
+pub reals-next : (bytes old : List ℕ) (number : ℕ) (behind next text marked : List ℕ) → AlongReals bytes old number behind text
+    → PassesDelimiter 44 behind next → marked ≡ text ++ 44 ∷ []
     → AheadOfReal bytes old number next marked
 reals-next bytes old number behind next text marked so_far comma marks inside later more passes takes s base most lengths taken is =
-    along-next s base false false most bytes lengths (with_text old taken) number behind next inside later marked lengths lengths (with_text text taken) (with_text more taken) (so_far s base most lengths taken is) comma marks passes
+    along-next s base false false most bytes lengths (with_text old taken) number behind next inside later marked lengths lengths
+    (with_text text taken) (with_text more taken) (so_far s base most lengths taken is) comma marks passes
     (takes s base most taken is) (λ e. absurd cc)
 
-pub reals-end : (bytes old : List ℕ) (number : ℕ) (behind text : List ℕ) → AlongReals bytes old number behind text → TakesReals number bytes behind old text
+pub reals-end : (bytes old : List ℕ) (number : ℕ) (behind text : List ℕ) → AlongReals bytes old number behind text
+    → TakesReals number bytes behind old text
 reals-end bytes old number behind text so_far s base most lengths taken is type has =
-    along-ends s base false false most bytes lengths (with_text old taken) number behind lengths (with_text text taken) (so_far s base most lengths taken is) type has
+    along-ends s base false false most bytes lengths (with_text old taken) number behind lengths (with_text text taken)
+    (so_far s base most lengths taken is) type has
 
 -- ---- an aggregate of reals
 
@@ -113,21 +130,32 @@ as-they-are (schema.bag low high type) plain texts = cc
 
 closes-as_is : (type : TypeUse) (start : ℕ) (closed : List ℕ) → compares_elements type ≡ false → ClosesAggregate type start closed [] closed
 closes-as_is type start closed plain texts is long = record {
-  text_is = sym (take-append-drop start closed) ∙ ap (λ (x : List ℕ). take start closed ++ x) (is ∙ ap list_text (sym (as-they-are type plain texts)));
+  text_is = sym (take-append-drop start closed) ∙ ap (λ (x : List ℕ). take start closed ++ x)
+      (is ∙ ap list_text (sym (as-they-are type plain texts)));
   differ = λ unique. (let compares = unique-compares_elements type unique in cc);
 }
 
-pub reals-enclosed : (type : TypeUse) (number : ℕ) (bytes inside behind rest old marked middle new : List ℕ) → compares_elements type ≡ false → AllowsCount type number → bytes ≡ 40 ∷ inside → marked ≡ old ++ 40 ∷ []
-    → TakesReals number inside behind marked middle → PassesDelimiter 41 behind rest → new ≡ middle ++ 41 ∷ [] → TakesRealAggregate type bytes (length bytes - length rest) old new
-reals-enclosed type number bytes inside behind rest old marked middle new plain allowed opening opens takes closing closes s element base most taken distinct is has real =
+pub reals-enclosed : (type : TypeUse) (number : ℕ) (bytes inside behind rest old marked middle new : List ℕ)
+    → compares_elements type ≡ false → AllowsCount type number → bytes ≡ 40 ∷ inside → marked ≡ old ++ 40 ∷ []
+    → TakesReals number inside behind marked middle → PassesDelimiter 41 behind rest → new ≡ middle ++ 41 ∷ []
+    → TakesRealAggregate type bytes (length bytes - length rest) old new
+reals-enclosed type number bytes inside behind rest old marked middle new plain allowed opening opens takes closing closes s element base
+    most taken distinct is has real =
     taken-front s (FitsWithNeeds s type) (most + 1) bytes rest (with_text old taken) (with_text new taken)
-    (aggregate-taken s type false base most number (length old) bytes inside behind rest [] [] (with_text old taken) marked (with_text middle taken) new distinct allowed opening refl opens refl
-    (compared-as s type false false base most number inside behind [] [] (with_text marked taken) (with_text middle taken) (sym plain) (takes s base most [] taken real))
-    (closing, subst (λ (l : List ℕ). ClosesAggregate type (length old) (middle ++ 41 ∷ []) [] l) (sym closes) (closes-as_is type (length old) (middle ++ 41 ∷ []) plain)) element is has)
+    (aggregate-taken s type false base most number (length old) bytes inside behind rest [] [] (with_text old taken) marked
+    (with_text middle taken) new distinct allowed opening refl opens refl
+    (compared-as s type false false base most number inside behind [] [] (with_text marked taken) (with_text middle taken) (sym plain)
+    (takes s base most [] taken real)) (
+      closing,
+      subst (λ (l : List ℕ). ClosesAggregate type (length old) (middle ++ 41 ∷ []) [] l) (sym closes)
+          (closes-as_is type (length old) (middle ++ 41 ∷ []) plain),
+    ) element is has)
 
 -- at a place of an aggregate whose elements may not be left out
-pub reals-at : (s : Schema) (type element : TypeUse) (base : Base) (optional : Bool) (most : ℕ) (bytes : List ℕ) (count : ℕ) (taken : Taken) (new : List ℕ) → HasDistinctTypes s → IsAggregateOf type optional element → HasBase s element base
-    → optional ≡ false → IsRealBase base → 0 < most → TakesRealAggregate type bytes count taken.draft new → TakesFront s (FitsWithNeeds s type) most bytes count taken (with_text new taken)
+pub reals-at : (s : Schema) (type element : TypeUse) (base : Base) (optional : Bool) (most : ℕ) (bytes : List ℕ) (count : ℕ) (taken : Taken)
+    (new : List ℕ) → HasDistinctTypes s → IsAggregateOf type optional element → HasBase s element base
+    → optional ≡ false → IsRealBase base → 0 < most → TakesRealAggregate type bytes count taken.draft new
+    → TakesFront s (FitsWithNeeds s type) most bytes count taken (with_text new taken)
 reals-at s type element base optional most bytes count taken new distinct is has full real deep takes =
     let same : most - 1 + 1 ≡ most = omega (arith, deep) in
     subst (λ (k : ℕ). TakesFront s (FitsWithNeeds s type) k bytes count taken (with_text new taken)) same

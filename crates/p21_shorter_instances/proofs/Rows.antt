@@ -31,15 +31,19 @@ row-count e k (suc n) (p ∷ ps) same = let more : places_at ps ≡ places_from 
 abbrev IsIn : ℕ → Values → PlacedParameter → Type 0
 IsIn e whole p = (p.place.entity ≡ e) × (value_at whole p.place.index ≡ Some p.value)
 
-row-each : (e k n : ℕ) (whole : Values) (ps : List PlacedParameter) → places_at ps ≡ places_from e k n → ((i j : ℕ) → j ≡ k + i → value_at whole j ≡ value_at (row ps) i)
+row-each : (e k n : ℕ) (whole : Values) (ps : List PlacedParameter) → places_at ps ≡ places_from e k n
+    → ((i j : ℕ) → j ≡ k + i → value_at whole j ≡ value_at (row ps) i)
     → Each (IsIn e whole) ps
 row-each e k zero whole [] same rest = tt
 row-each e k zero whole (p ∷ ps) same rest = absurd (none-cons p.place (places_at ps) same)
 row-each e k (suc n) whole [] same rest = tt
 row-each e k (suc n) whole (p ∷ ps) same rest =
     let here : p.place ≡ record { entity = e; index = k } = cc in
-    let more : places_at ps ≡ places_from e (k + 1) n = cc in
-    ((ap (λ (q : Place). q.entity) here, ap (λ (q : Place). value_at whole q.index) here ∙ rest 0 k (omega arith)), row-each e (k + 1) n whole ps more (λ i j is. rest (suc i) j (omega (arith, is))))
+    let more : places_at ps ≡ places_from e (k + 1) n = cc in (
+      (ap (λ (q : Place). q.entity) here, ap (λ (q : Place). value_at whole q.index) here ∙ rest 0 k (omega arith)),
+      row-each e (k + 1) n
+          whole ps more (λ i j is. rest (suc i) j (omega (arith, is))),
+    )
 
 -- ---- a row for each entity
 
@@ -84,20 +88,25 @@ rows-of s (e ∷ es) ps same =
     let n : ℕ = length (attributes_of s e) in
     let vs : Values = row cut.first in
     let own : places_at cut.first ≡ places_from e 0 n = cut.first_is ∙ sym (own-places-are s e) in
-    let each : Each (IsIn e vs) cut.first = row-each e 0 n vs cut.first own (λ i j is. (let zero_ : j ≡ i = omega (arith, is) in ap (value_at vs) zero_)) in
+    let each : Each (IsIn e vs) cut.first = row-each e 0 n vs cut.first own
+    (λ i j is. (let zero_ : j ≡ i = omega (arith, is) in ap (value_at vs) zero_)) in
     let first : Each (IsAmong (e ∷ es) (vs ∷ more.rows)) cut.first =
-    Each-weaker (IsIn e vs) (IsAmong (e ∷ es) (vs ∷ more.rows)) (λ p (entity, at). (vs, (0, omega arith, ap (λ (f : ℕ). (f, vs)) (sym entity)), at)) cut.first each in
+    Each-weaker (IsIn e vs) (IsAmong (e ∷ es) (vs ∷ more.rows))
+    (λ p (entity, at). (vs, (0, omega arith, ap (λ (f : ℕ). (f, vs)) (sym entity)), at)) cut.first each in
     let second : Each (IsAmong (e ∷ es) (vs ∷ more.rows)) cut.second =
-    Each-weaker (IsAmong es more.rows) (IsAmong (e ∷ es) (vs ∷ more.rows)) (λ p (ws, among, at). (ws, Contains-later (e, vs) (zip es more.rows) (p.place.entity, ws) among, at)) cut.second more.each in
+    Each-weaker (IsAmong es more.rows) (IsAmong (e ∷ es) (vs ∷ more.rows))
+    (λ p (ws, among, at). (ws, Contains-later (e, vs) (zip es more.rows) (p.place.entity, ws) among, at)) cut.second more.each in
     record {
       rows = vs ∷ more.rows;
       counts = (row-count e 0 n cut.first own, more.counts);
-      each = subst (Each (IsAmong (e ∷ es) (vs ∷ more.rows))) (sym cut.all_are) (Each-append (IsAmong (e ∷ es) (vs ∷ more.rows)) cut.first cut.second first second);
+      each = subst (Each (IsAmong (e ∷ es) (vs ∷ more.rows))) (sym cut.all_are)
+          (Each-append (IsAmong (e ∷ es) (vs ∷ more.rows)) cut.first cut.second first second);
     }
 
 -- ---- in the order of a set
 
-zip-has : (R : ℕ → Values → Type 0) (es : List ℕ) (rows : List Values) (e : ℕ) → AllZip R es rows → Contains es e → (vs : Values) × Contains (zip es rows) (e, vs)
+zip-has : (R : ℕ → Values → Type 0) (es : List ℕ) (rows : List Values) (e : ℕ) → AllZip R es rows → Contains es e
+    → (vs : Values) × Contains (zip es rows) (e, vs)
 zip-has R [] rows e all among = absurd (Contains-none e among)
 zip-has R (f ∷ es) [] e all among = absurd all
 zip-has R (f ∷ es) (vs ∷ rows) e all among = elim (Contains-cases f es e among) [
@@ -109,7 +118,8 @@ zip-has R (f ∷ es) (vs ∷ rows) e all among = elim (Contains-cases f es e amo
 abbrev IsBeside : List ℕ → List Values → ℕ → Values → Type 0
 IsBeside es rows f ws = Contains (zip es rows) (f, ws)
 
-arranged_elements : (R : ℕ → Values → Type 0) (es : List ℕ) (rows : List Values) → AllZip R es rows → (fs : List ℕ) → ((f : ℕ) → Contains fs f → Contains es f)
+arranged_elements : (R : ℕ → Values → Type 0) (es : List ℕ) (rows : List Values) → AllZip R es rows → (fs : List ℕ)
+    → ((f : ℕ) → Contains fs f → Contains es f)
     → (all : List Values) × AllZip (IsBeside es rows) fs all
 arranged_elements R es rows zipped [] within = ([], tt)
 arranged_elements R es rows zipped (f ∷ fs) within =
@@ -117,7 +127,8 @@ arranged_elements R es rows zipped (f ∷ fs) within =
     let (all, beside) = arranged_elements R es rows zipped fs (λ g among. within g (Contains-later f fs g among)) in
     (vs ∷ all, (there, beside))
 
-weaker : (P Q : ℕ → Values → Type 0) → ((f : ℕ) (vs : Values) → P f vs → Q f vs) → (fs : List ℕ) (rows : List Values) → AllZip P fs rows → AllZip Q fs rows
+weaker : (P Q : ℕ → Values → Type 0) → ((f : ℕ) (vs : Values) → P f vs → Q f vs) → (fs : List ℕ) (rows : List Values) → AllZip P fs rows
+    → AllZip Q fs rows
 weaker P Q follows [] [] all = tt
 weaker P Q follows [] (vs ∷ rows) all = absurd all
 weaker P Q follows (f ∷ fs) [] all = absurd all
@@ -136,9 +147,13 @@ has-meaning s es fs ps none onto back same =
     let (all, beside) = arranged_elements (HasOwnCount s) es h.rows h.counts fs back in
     record {
       values = all;
-      counts = weaker (IsBeside es h.rows) (HasOwnCount s) (λ f vs among. AllZip-beside (HasOwnCount s) es h.rows f vs h.counts among) fs all beside;
-      each = Each-weaker (IsAmong es h.rows) (λ (p : PlacedParameter). HasValueAt (record { entities = fs; values = all }) p.place p.value) (λ p (vs, among, at).
-          (let (ws, there) = zip-has (IsBeside es h.rows) fs all p.place.entity beside (onto p.place.entity (Contains-zip es h.rows p.place.entity vs among)) in
-          let one : ws ≡ vs = zip-one es h.rows p.place.entity ws vs none (AllZip-beside (IsBeside es h.rows) fs all p.place.entity ws beside there) among in
+      counts = weaker (IsBeside es h.rows) (HasOwnCount s) (λ f vs among. AllZip-beside (HasOwnCount s) es h.rows f vs h.counts among) fs
+          all beside;
+      each = Each-weaker (IsAmong es h.rows) (λ (p : PlacedParameter). HasValueAt (record { entities = fs; values = all }) p.place p.value)
+          (λ p (vs, among, at).
+          (let (ws, there) = zip-has (IsBeside es h.rows) fs all p.place.entity beside
+          (onto p.place.entity (Contains-zip es h.rows p.place.entity vs among)) in
+          let one : ws ≡ vs = zip-one es h.rows p.place.entity ws vs none
+          (AllZip-beside (IsBeside es h.rows) fs all p.place.entity ws beside there) among in
           (vs, subst (λ (x : Values). Contains (zip fs all) (p.place.entity, x)) one there, at))) ps h.each;
     }

@@ -32,45 +32,66 @@ canonical_at s (p ∷ ps) = param (canonical_param s p.value) (canonical_at s ps
 abbrev pub AreMeant : Typed → List PlacedParameter → Type 0
 AreMeant m ps = Each (λ (p : PlacedParameter). HasValueAt m p.place p.value) ps
 
-pub canonical-fit : (s : Schema) (kinds : EntitySets) (m : Typed) (ps : List PlacedParameter) → Each (IsPlacedParameter s m.entities) ps → AreMeant m ps
+pub canonical-fit : (s : Schema) (kinds : EntitySets) (m : Typed) (ps : List PlacedParameter) → Each (IsPlacedParameter s m.entities) ps
+    → AreMeant m ps
     → AreServed s kinds (needs_at ps) → FitPlaces s kinds (canonical_typed s m) (places_at ps) (canonical_at s ps)
 canonical-fit s kinds m [] each has served = tt
 canonical-fit s kinds m (p ∷ ps) each has served =
-    let fit : FitsAt s kinds each.0.at p.parameter p.value = served-at s kinds each.0.at p.parameter p.value p.needs each.0.fits (Each-front (IsServed s kinds) p.needs (needs_at ps) served) in (
-      (each.0.at, canonical_value s p.value, each.0.type_at, at-fits s kinds each.0.at p.parameter p.value fit, has-canonical_value s m p.place p.value has.0),
+    let fit : FitsAt s kinds each.0.at p.parameter p.value =
+    served-at s kinds each.0.at p.parameter p.value p.needs each.0.fits (Each-front (IsServed s kinds) p.needs (needs_at ps) served) in (
+      (
+        each.0.at,
+        canonical_value s p.value,
+        each.0.type_at,
+        at-fits s kinds each.0.at p.parameter p.value fit,
+        has-canonical_value s m
+            p.place p.value has.0,
+      ),
       canonical-fit s kinds m ps each.1 has.1 (Each-back (IsServed s kinds) p.needs (needs_at ps) served),
     )
 
-pub canonical-stand : (s : Schema) (m : Typed) (ps : List PlacedParameter) → AreMeant m ps → AreCanonicalAt (canonical_typed s m) (places_at ps) (canonical_at s ps)
+pub canonical-stand : (s : Schema) (m : Typed) (ps : List PlacedParameter) → AreMeant m ps
+    → AreCanonicalAt (canonical_typed s m) (places_at ps) (canonical_at s ps)
 canonical-stand s m [] has = tt
-canonical-stand s m (p ∷ ps) has = ((canonical_value s p.value, has-canonical_value s m p.place p.value has.0, canonical-is s p.value), canonical-stand s m ps has.1)
+canonical-stand s m (p ∷ ps) has = (
+  (canonical_value s p.value, has-canonical_value s m p.place p.value has.0, canonical-is s p.value),
+  canonical-stand s m ps has.1,
+)
 
 -- ---- spellings
 
-pub canonical-spelled : (s : Schema) (kinds : EntitySets) (entities : List ℕ) (ps : List PlacedParameter) → Each (IsPlacedParameter s entities) ps
+pub canonical-spelled : (s : Schema) (kinds : EntitySets) (entities : List ℕ) (ps : List PlacedParameter)
+    → Each (IsPlacedParameter s entities) ps
     → AreServed s kinds (needs_at ps) → AreWritten (params_at ps) → AreWritten (canonical_at s ps)
 canonical-spelled s kinds entities [] each served written = tt
 canonical-spelled s kinds entities (p ∷ ps) each served written =
     let fit : FitsAt s kinds each.0.at p.parameter p.value =
-    served-at s kinds each.0.at p.parameter p.value p.needs each.0.fits (Each-front (IsServed s kinds) p.needs (needs_at ps) served) in
-    (at-written s kinds each.0.at p.parameter p.value fit written.0, canonical-spelled s kinds entities ps each.1 (Each-back (IsServed s kinds) p.needs (needs_at ps) served) written.1)
+    served-at s kinds each.0.at p.parameter p.value p.needs each.0.fits (Each-front (IsServed s kinds) p.needs (needs_at ps) served) in (
+      at-written s kinds each.0.at p.parameter p.value fit written.0,
+      canonical-spelled s kinds entities ps each.1
+          (Each-back (IsServed s kinds) p.needs (needs_at ps) served) written.1,
+    )
 
 -- ---- texts
 
 pub texts-are : (s : Schema) (ps : List PlacedParameter) → param_texts (canonical_at s ps) ≡ texts_at s ps
 texts-are s [] = refl
 texts-are s (p ∷ ps) =
-    ap (λ (x : List ℕ). x ∷ param_texts (canonical_at s ps)) (sym (value_text-is s p.value)) ∙ ap (λ (xs : List (List ℕ)). value_text s p.value ∷ xs) (texts-are s ps)
+    ap (λ (x : List ℕ). x ∷ param_texts (canonical_at s ps)) (sym (value_text-is s p.value))
+    ∙ ap (λ (xs : List (List ℕ)). value_text s p.value ∷ xs) (texts-are s ps)
 
 -- the name, `=`, the keyword, the values in parentheses and `;`
 pub line-is : (s : Schema) (n : ℕ) (word : List ℕ) (ps : List PlacedParameter)
-    → (name_spelling n ++ 61 ∷ []) ++ (word ++ body_text (texts_at s ps)) ≡ statement_text (instance n (simple (record { key = key_of word; params = canonical_at s ps })))
+    → (name_spelling n ++ 61 ∷ []) ++ (word ++ body_text (texts_at s ps)) ≡ statement_text
+    (instance n (simple (record { key = key_of word; params = canonical_at s ps })))
 line-is s n word ps =
     let inside : List Token = params_tokens (canonical_at s ps) ++ (token.right ∷ []) in
     let text : List ℕ = with_commas_between (texts_at s ps) in
     let closed : tokens_text inside ≡ with_commas_between (param_texts (canonical_at s ps)) ++ 41 ∷ [] =
     tail_is 40 40 (tokens_text inside) (with_commas_between (param_texts (canonical_at s ps)) ++ 41 ∷ []) (list-is (canonical_at s ps)) in
-    let closed_ : tokens_text inside ≡ text ++ 41 ∷ [] = closed ∙ ap (λ (xs : List (List ℕ)). with_commas_between xs ++ 41 ∷ []) (texts-are s ps) in
+    let closed_ : tokens_text inside ≡ text ++ 41 ∷ [] = closed
+    ∙ ap (λ (xs : List (List ℕ)). with_commas_between xs ++ 41 ∷ []) (texts-are s ps) in
     let ended : tokens_text (inside ++ (token.semicolon ∷ [])) ≡ text ++ (41 ∷ 59 ∷ []) =
     tokens_text-append inside (token.semicolon ∷ []) ∙ ap (λ (x : List ℕ). x ++ 59 ∷ []) closed_ ∙ append_assoc text (41 ∷ []) (59 ∷ []) in
-    append_assoc (name_spelling n) (61 ∷ []) (word ++ body_text (texts_at s ps)) ∙ ap (λ (x : List ℕ). name_spelling n ++ (61 ∷ (word ++ (40 ∷ x)))) (sym ended)
+    append_assoc (name_spelling n) (61 ∷ []) (word ++ body_text (texts_at s ps))
+    ∙ ap (λ (x : List ℕ). name_spelling n ++ (61 ∷ (word ++ (40 ∷ x)))) (sym ended)

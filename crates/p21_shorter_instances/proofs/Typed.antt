@@ -27,7 +27,8 @@ use Rattle.p21_values.specs.Canonical.{Continues}
 
 -- ---- separators before a value, and parentheses around it
 
-pub behind-gap : (s : Schema) (F : Param → Value → List reference.Need → Type 0) (most : ℕ) (bytes middle rest : List ℕ) (old new : Taken) → PassesSeparators bytes middle
+pub behind-gap : (s : Schema) (F : Param → Value → List reference.Need → Type 0) (most : ℕ) (bytes middle rest : List ℕ) (old new : Taken)
+    → PassesSeparators bytes middle
     → TakesWithNeeds s F most middle rest old new → TakesWithNeeds s F most bytes rest old new
 behind-gap s F most bytes middle rest old new passes h = record {
   added = h.added;
@@ -46,7 +47,8 @@ pub enclosed-text : (old opened middle new text : List ℕ) → opened ≡ old +
     → new ≡ old ++ (codes "(" ++ (text ++ codes ")"))
 enclosed-text old opened middle new text opens is ends = rw (ends, is, opens) (simp append_assoc refl)
 
-pub enclosed-taken : (s : Schema) (base : Base) (most : ℕ) (bytes opened inside behind rest : List ℕ) (old : Taken) (marked : List ℕ) (middle : Taken) (new : List ℕ)
+pub enclosed-taken : (s : Schema) (base : Base) (most : ℕ) (bytes opened inside behind rest : List ℕ) (old : Taken) (marked : List ℕ)
+    (middle : Taken) (new : List ℕ)
     → PassesDelimiter 40 bytes opened → marked ≡ old.draft ++ 40 ∷ [] → PassesSeparators opened inside
     → TakesBase s base most inside behind (with_text marked old) middle → PassesDelimiter 41 behind rest × (new ≡ middle.draft ++ 41 ∷ [])
     → TakesEnclosedBase s base most bytes rest old (with_text new middle)
@@ -64,16 +66,19 @@ enclosed-taken s base most bytes opened inside behind rest old marked middle new
     }
 
 -- what a refusal behind the value leaves
-pub enclosed-refused : (s : Schema) (base : Base) (most : ℕ) (inside behind : List ℕ) (old : Taken) (marked : List ℕ) (middle : Taken) → IsBaseInSchema s base
+pub enclosed-refused : (s : Schema) (base : Base) (most : ℕ) (inside behind : List ℕ) (old : Taken) (marked : List ℕ) (middle : Taken)
+    → IsBaseInSchema s base
     → marked ≡ old.draft ++ 40 ∷ []
-    → TakesBase s base most inside behind (with_text marked old) middle → Continues old.draft middle.draft × KeepsNeeds old.needs.items middle.needs.items
+    → TakesBase s base most inside behind (with_text marked old) middle
+    → Continues old.draft middle.draft × KeepsNeeds old.needs.items middle.needs.items
 enclosed-refused s base most inside behind old marked middle (type, known, (last, comes, is)) opens takes =
     let h = takes last is in
     (goes-on old.draft marked middle.draft (value_text s h.takes.value) (40 ∷ [], opens) h.takes.text_is, (h.added, h.needs_are))
 
 -- ---- typed parameters
 
-pub keyword-taken : (s : Schema) (t u : ℕ) (word bytes rest old new : List ℕ) → rest ≡ drop (length word) bytes → AppendsToken bytes (length word) (token.keyword word) old new
+pub keyword-taken : (s : Schema) (t u : ℕ) (word bytes rest old new : List ℕ) → rest ≡ drop (length word) bytes
+    → AppendsToken bytes (length word) (token.keyword word) old new
     → Offers s t (type_member u) → TypeNamed s u word → TakesKeyword s t u bytes rest old new
 keyword-taken s t u word bytes rest old new e h offers named = record {
   word = word;
@@ -95,15 +100,19 @@ typed-as s t u less most bytes behind rest old middle new room key h = record {
     value = meant.typed u h.value;
     fits = with_chosen_type t u key.word h.parameter h.value _ key.offers key.named h.fits;
     shallow = let shallow = h.shallow in omega arith;
-    laid = laid-join bytes behind rest (token.keyword key.word ∷ []) (token.left ∷ (param_tokens h.parameter ++ (token.right ∷ []))) key.laid h.laid;
+    laid = laid-join bytes behind rest (token.keyword key.word ∷ []) (token.left ∷ (param_tokens h.parameter ++ (token.right ∷ [])))
+        key.laid h.laid;
     text_is =
         let E = codes "(" ++ (value_text s h.value ++ codes ")") in
-        h.text_is ∙ (ap (λ (x : List ℕ). x ++ E) key.text_is ∙ (append_assoc old.draft key.word E ∙ ap (λ (x : List ℕ). old.draft ++ (x ++ E)) (sym (named-is s u key.word key.named))));
+        h.text_is ∙ (ap (λ (x : List ℕ). x ++ E) key.text_is
+        ∙ (append_assoc old.draft key.word E ∙ ap (λ (x : List ℕ). old.draft ++ (x ++ E)) (sym (named-is s u key.word key.named))));
   };
 }
 
-pub typed-taken : (s : Schema) (t u less most : ℕ) (base : Base) (bytes behind rest : List ℕ) (old : Taken) (middle : List ℕ) (new : Taken) → suc less ≤ most
+pub typed-taken : (s : Schema) (t u less most : ℕ) (base : Base) (bytes behind rest : List ℕ) (old : Taken) (middle : List ℕ) (new : Taken)
+    → suc less ≤ most
     → TakesKeyword s t u bytes behind old.draft middle → HasBase s (schema.defined u) base
-    → TakesEnclosedBase s base less behind rest (with_text middle old) new → TakesWithNeeds s (FitsWithNeeds s (schema.defined t)) most bytes rest old new
+    → TakesEnclosedBase s base less behind rest (with_text middle old) new
+    → TakesWithNeeds s (FitsWithNeeds s (schema.defined t)) most bytes rest old new
 typed-taken s t u less most base bytes behind rest old middle new room key has takes =
     typed-as s t u less most bytes behind rest old middle new room key (takes (schema.defined u) has)

@@ -43,4 +43,5 @@ pub record ArrangesElements (type : TypeUse) (front : List ℕ) (texts : List (L
 -- the closed text of an aggregate that begins at this place, and what it becomes
 abbrev pub ClosesAggregate : TypeUse → ℕ → List ℕ → List ℕ → List ℕ → Type 0
 ClosesAggregate type start closed lengths new =
-    (texts : List (List ℕ)) → drop start closed ≡ list_text texts → (compares_elements type ≡ true → lengths ≡ lengths_of texts) → ArrangesElements type (take start closed) texts new
+    (texts : List (List ℕ)) → drop start closed ≡ list_text texts → (compares_elements type ≡ true → lengths ≡ lengths_of texts)
+    → ArrangesElements type (take start closed) texts new

@@ -25,7 +25,8 @@ AddsLength compared before behind lengths longer = compared ≡ true → longer 
 -- so many parameters that fit are laid at the front by these tokens, with the rest behind them; the texts of the values that
 -- they stand for are appended in this form, and where they are compared how long each is; their needs are added; lists and
 -- typed parameters stand at most so deep in them
-pub record TakesEach (tokens : Params → List Token) (text : List (List ℕ) → List ℕ) (s : Schema) (optional : Bool) (type : TypeUse) (compared : Bool) (most number : ℕ) (bytes rest lengths longer : List ℕ) (old new : Taken) : Type 0 where
+pub record TakesEach (tokens : Params → List Token) (text : List (List ℕ) → List ℕ) (s : Schema) (optional : Bool) (type : TypeUse)
+    (compared : Bool) (most number : ℕ) (bytes rest lengths longer : List ℕ) (old new : Taken) : Type 0 where
   pub parameters : Params
   pub values : Values
   pub added : List Need
@@ -57,7 +58,8 @@ TakesStoredEach at compared = TakesAll at.schema.now at.optional at.base.now com
 -- an aggregate of this type at whose places this may stand
 abbrev pub TakesAggregate : Stored → TypeUse → List ℕ → List ℕ → Taken → Taken → Type 0
 TakesAggregate at type bytes rest old new =
-    (element : TypeUse) → IsAggregateOf type at.optional element → HasBase at.schema.now element at.base.now → TakesWithNeeds at.schema.now (FitsWithNeeds at.schema.now type) (at.most + 1) bytes rest old new
+    (element : TypeUse) → IsAggregateOf type at.optional element → HasBase at.schema.now element at.base.now
+    → TakesWithNeeds at.schema.now (FitsWithNeeds at.schema.now type) (at.most + 1) bytes rest old new
 
 -- this may stand at the places of an aggregate of this type
 abbrev pub IsAtPlacesOf : TypeUse → Stored → Type 0

@@ -39,4 +39,5 @@ HasEntities s sets (Numbered at) entities = IsNumberedSet sets at entities
 
 -- an instance is taken that has this set
 abbrev pub TakesInstanceOf : Schema → ℕ → List (List ℕ) → Set → List ℕ → List ℕ → Taken → Taken → Type 0
-TakesInstanceOf s n sets set bytes rest old new = (entities : List ℕ) × HasEntities s sets set entities × TakesInstance s n entities bytes rest old new
+TakesInstanceOf s n sets set bytes rest old new = (entities : List ℕ) × HasEntities s sets set entities
+    × TakesInstance s n entities bytes rest old new

@@ -1,8 +1,7 @@
 -- What an instance leaves that is given up.
-use Rattle.std.specs.Prelude.{◌≡◌, ℕ, List, [], ◌∷◌, IfErr, OnErr, Result}
-use Rattle.p21_spec_exchange.specs.Token.{name}
+use Rattle.std.specs.Prelude.{◌≡◌, ℕ, List, IfErr, OnErr, Result}
 use Rattle.p21_mapping_values.specs.declared.need.Need.{Need}
-use Rattle.p21_shorter_instances.specs.TakenValues.{KeepsNeeds, LaidBefore}
+use Rattle.p21_shorter_instances.specs.TakenValues.{KeepsNeeds, PassesDelimiter}
 use Rattle.p21_shorter_instances.specs.declared.given_up.GivenUp.{GivenUp}
 use Rattle.p21_shorter_instances.specs.declared.given_up.GivenUp.TheVariants.{NoMemory}
 use Rattle.p21_values.specs.Canonical.{Continues}
@@ -15,10 +14,10 @@ LeavesText result old new = OnErr result (Continues old new)
 abbrev pub LeavesNeeds : {Found : Type 0} → Result Found GivenUp → List Need → List Need → Type 0
 LeavesNeeds result old new = OnErr result (KeepsNeeds old new)
 
--- a name stands at the front, behind separators
-abbrev pub BeginsWithName : List ℕ → Type 0
-BeginsWithName bytes = (n : ℕ) × (rest : List ℕ) × LaidBefore bytes (name n ∷ []) rest
+-- the mark of a name stands first, behind separators
+abbrev pub BeginsWithMark : List ℕ → Type 0
+BeginsWithMark bytes = (rest : List ℕ) × PassesDelimiter 35 bytes rest
 
--- memory is refused behind a name alone
-abbrev pub RefusesBehindName : {Found : Type 0} → Result Found GivenUp → List ℕ → Type 0
-RefusesBehindName result bytes = IfErr result (λ why. why ≡ NoMemory → BeginsWithName bytes)
+-- memory is refused behind such a mark alone
+abbrev pub RefusesAtMark : {Found : Type 0} → Result Found GivenUp → List ℕ → Type 0
+RefusesAtMark result bytes = IfErr result (λ why. why ≡ NoMemory → BeginsWithMark bytes)

@@ -9,3 +9,4 @@ pub mod Reals
 pub mod Records
 pub mod TakenParameters
 pub mod ExternalSet
+pub mod Taker

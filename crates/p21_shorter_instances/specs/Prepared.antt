@@ -53,11 +53,14 @@ step-back (placed_step e place) = refl
 
 abbrev step_code : Coded PreparedStep
 step_code =
-    code_by (Option (Option (Bool × TypeUse)) × (ℕ × (ℕ × ℕ))) (coded× (coded_option (coded_option (coded× coded_bool type_code))) (coded× coded_ℕ (coded× coded_ℕ coded_ℕ))) step_cases step_from step-back
+    code_by (Option (Option (Bool × TypeUse)) × (ℕ × (ℕ × ℕ)))
+    (coded× (coded_option (coded_option (coded× coded_bool type_code))) (coded× coded_ℕ (coded× coded_ℕ coded_ℕ))) step_cases step_from
+    step-back
 
 abbrev prepared_code : Coded Prepared
 prepared_code =
-    code_by (List ℕ × (List PreparedStep × List ℕ)) (coded× (coded_list coded_ℕ) (coded× (coded_list step_code) (coded_list coded_ℕ))) (λ p. (p.entities, (p.steps, p.keyword))) (λ p. record { entities = p.0; steps = p.1.0; keyword = p.1.1 }) (λ _. refl)
+    code_by (List ℕ × (List PreparedStep × List ℕ)) (coded× (coded_list coded_ℕ) (coded× (coded_list step_code) (coded_list coded_ℕ)))
+    (λ p. (p.entities, (p.steps, p.keyword))) (λ p. record { entities = p.0; steps = p.1.0; keyword = p.1.1 }) (λ _. refl)
 
 abbrev pub plan_code : Coded (List (Option Prepared))
 plan_code = coded_list (coded_option prepared_code)

@@ -19,15 +19,18 @@ IsRealBase other = ⊥
 -- one at a place of an aggregate, whatever the schema
 abbrev pub TakesReal : List ℕ → List ℕ → List ℕ → List ℕ → Type 0
 TakesReal bytes rest old new =
-    (s : Schema) (base : Base) (most : ℕ) (taken : Taken) → IsRealBase base → TakesPlaced s false base most bytes rest (with_text old taken) (with_text new taken)
+    (s : Schema) (base : Base) (most : ℕ) (taken : Taken) → IsRealBase base
+    → TakesPlaced s false base most bytes rest (with_text old taken) (with_text new taken)
 
 -- so many with a comma between each two, whose lengths aren't asked for
 abbrev pub TakesReals : ℕ → List ℕ → List ℕ → List ℕ → List ℕ → Type 0
 TakesReals number bytes rest old new =
-    (s : Schema) (base : Base) (most : ℕ) (lengths : List ℕ) (taken : Taken) → IsRealBase base → TakesAll s false base false most number bytes rest lengths lengths (with_text old taken) (with_text new taken)
+    (s : Schema) (base : Base) (most : ℕ) (lengths : List ℕ) (taken : Taken) → IsRealBase base
+    → TakesAll s false base false most number bytes rest lengths lengths (with_text old taken) (with_text new taken)
 
 -- an aggregate of this type whose elements are reals, by so many bytes at the front, whatever the schema
 abbrev pub TakesRealAggregate : TypeUse → List ℕ → ℕ → List ℕ → List ℕ → Type 0
 TakesRealAggregate type bytes count old new =
-    (s : Schema) (element : TypeUse) (base : Base) (most : ℕ) (taken : Taken) → HasDistinctTypes s → IsAggregateOf type false element → HasBase s element base → IsRealBase base
+    (s : Schema) (element : TypeUse) (base : Base) (most : ℕ) (taken : Taken) → HasDistinctTypes s → IsAggregateOf type false element
+    → HasBase s element base → IsRealBase base
     → TakesFront s (FitsWithNeeds s type) (most + 1) bytes count (with_text old taken) (with_text new taken)

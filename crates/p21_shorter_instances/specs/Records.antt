@@ -20,7 +20,8 @@ use Rattle.p21_shorter_instances.specs.TakenValues.{LaidBefore, TakesWithNeeds, 
 
 -- a parameter that fits the place in an instance with this set is laid at the front, with the rest behind it
 abbrev pub TakesAtPlace : Schema → List ℕ → Place → List ℕ → List ℕ → Taken → Taken → Type 0
-TakesAtPlace s entities place bytes rest old new = (at : PlaceType) × TypeAt s entities place at × TakesWithNeeds s (FitsAtWithNeeds s at) 64 bytes rest old new
+TakesAtPlace s entities place bytes rest old new = (at : PlaceType) × TypeAt s entities place at
+    × TakesWithNeeds s (FitsAtWithNeeds s at) 64 bytes rest old new
 
 -- parameters at the places that an entity declares itself
 abbrev pub TakesOwnPlaces : Schema → List ℕ → ℕ → List ℕ → List ℕ → Taken → Taken → Type 0

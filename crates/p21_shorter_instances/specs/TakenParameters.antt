@@ -80,7 +80,8 @@ texts_at s ps = map (λ (p : PlacedParameter). value_text s p.value) ps
 
 -- Parameters at these places are laid at the front, with these tokens, and the canonical texts of their values are appended,
 -- put together so. What they need is added to the needs before, in their order
-pub record TakesPlaces (s : Schema) (entities : List ℕ) (tokens_of : Params → List Token) (text_of : List (List ℕ) → List ℕ) (places : List Place) (bytes rest : List ℕ) (old new : Taken) : Type 0 where
+pub record TakesPlaces (s : Schema) (entities : List ℕ) (tokens_of : Params → List Token) (text_of : List (List ℕ) → List ℕ)
+    (places : List Place) (bytes rest : List ℕ) (old new : Taken) : Type 0 where
   pub placed : List PlacedParameter
   pub each : Each (IsPlacedParameter s entities) placed
   pub places_are : places_at placed ≡ places
@@ -97,7 +98,8 @@ TakesStep s step bytes rest old new = (at : PlaceType) → IsStepFor s at step �
 -- they stand at the places of which these steps speak
 abbrev pub TakesSteps : Schema → (Params → List Token) → (List (List ℕ) → List ℕ) → List Step → List ℕ → List ℕ → Taken → Taken → Type 0
 TakesSteps s tokens_of text_of steps bytes rest old new =
-    (entities : List ℕ) (places : List Place) → AreStepsAt s entities places steps → TakesPlaces s entities tokens_of text_of places bytes rest old new
+    (entities : List ℕ) (places : List Place) → AreStepsAt s entities places steps
+    → TakesPlaces s entities tokens_of text_of places bytes rest old new
 
 -- the steps say what may stand at some places
 abbrev pub AreStepsIn : Schema → List Step → Type 0

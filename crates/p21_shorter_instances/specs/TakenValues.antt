@@ -26,7 +26,8 @@ use Rattle.p21_shorter_instances.specs.declared.value.Stored.{Stored}
 abbrev pub LaidBefore : List ℕ → List Token → List ℕ → Type 0
 LaidBefore bytes [] rest = bytes ≡ rest
 LaidBefore bytes (token ∷ tokens) rest =
-    (gap spelling behind : List ℕ) × (bytes ≡ gap ++ (spelling ++ behind)) × IsSeparatorText gap × Spells token spelling × IsFollowed token spelling behind × LaidBefore behind tokens rest
+    (gap spelling behind : List ℕ) × (bytes ≡ gap ++ (spelling ++ behind)) × IsSeparatorText gap × Spells token spelling
+    × IsFollowed token spelling behind × LaidBefore behind tokens rest
 
 -- a parameter that fits is laid at the front, with the rest behind it, and the canonical text of the value that it stands
 -- for is appended; lists and typed parameters stand at most so deep in it
@@ -43,7 +44,8 @@ abbrev pub with_text : List ℕ → Taken → Taken
 with_text text taken = record { draft = text; needs = taken.needs }
 
 -- the same of a parameter that has needs, which are added to those before
-pub record TakesWithNeeds (s : Schema) (Fits : Param → Value → List meant.Need → Type 0) (most : ℕ) (bytes rest : List ℕ) (old new : Taken) : Type 0 where
+pub record TakesWithNeeds (s : Schema) (Fits : Param → Value → List meant.Need → Type 0) (most : ℕ) (bytes rest : List ℕ)
+    (old new : Taken) : Type 0 where
   pub added : List Need
   pub needs_are : new.needs.items ≡ old.needs.items ++ added
   pub takes : TakesValue s (λ p v. Fits p v (map need_view added)) most bytes rest old.draft new.draft
@@ -53,7 +55,8 @@ abbrev pub TakesFront : Schema → (Param → Value → List meant.Need → Type
 TakesFront s Fits most bytes count old new = (count ≤ length bytes) × TakesWithNeeds s Fits most bytes (drop count bytes) old new
 
 -- the same of a parameter in parentheses, which are appended with it
-pub record TakesEnclosed (s : Schema) (Fits : Param → Value → List meant.Need → Type 0) (most : ℕ) (bytes rest : List ℕ) (old new : Taken) : Type 0 where
+pub record TakesEnclosed (s : Schema) (Fits : Param → Value → List meant.Need → Type 0) (most : ℕ) (bytes rest : List ℕ)
+    (old new : Taken) : Type 0 where
   pub parameter : Param
   pub value : Value
   pub added : List Need
@@ -89,7 +92,8 @@ pub record TakesScalar (type : TypeUse) (bytes : List ℕ) (count : ℕ) (old ne
 
 -- a name at the type needs an instance of this member alone
 abbrev pub TakesReferencesTo : Schema → TypeUse → Member → Type 0
-TakesReferencesTo s type wanted = (n : ℕ) → FitsWithNeeds s type (parameter.name n) (reference n) (record { target = n; wanted = wanted } ∷ [])
+TakesReferencesTo s type wanted = (n : ℕ) → FitsWithNeeds s type (parameter.name n) (reference n)
+    (record { target = n; wanted = wanted } ∷ [])
 
 -- some type of the schema comes down to this base
 abbrev pub IsBaseInSchema : Schema → Base → Type 0
@@ -107,15 +111,18 @@ KeepsNeeds old new = (added : List Need) × (new ≡ old ++ added)
 -- so many bytes at the front are a name, which needs an instance of this member, at each type where it does
 abbrev pub TakesReference : Member → List ℕ → ℕ → Taken → Taken → Type 0
 TakesReference wanted bytes count old new =
-    (count ≤ length bytes) × ((s : Schema) (type : TypeUse) → TakesReferencesTo s type wanted → TakesWithNeeds s (FitsWithNeeds s type) 0 bytes (drop count bytes) old new)
+    (count ≤ length bytes) × ((s : Schema) (type : TypeUse) → TakesReferencesTo s type wanted
+    → TakesWithNeeds s (FitsWithNeeds s type) 0 bytes (drop count bytes) old new)
 
 -- a value of a type that is this base
 abbrev pub TakesBase : Schema → Base → ℕ → List ℕ → List ℕ → Taken → Taken → Type 0
-TakesBase s base most bytes rest old new = (type : TypeUse) → IsBase s type base → TakesWithNeeds s (FitsWithNeeds s type) most bytes rest old new
+TakesBase s base most bytes rest old new = (type : TypeUse) → IsBase s type base
+    → TakesWithNeeds s (FitsWithNeeds s type) most bytes rest old new
 
 -- a value of a type that comes down to this base, in parentheses
 abbrev pub TakesEnclosedBase : Schema → Base → ℕ → List ℕ → List ℕ → Taken → Taken → Type 0
-TakesEnclosedBase s base most bytes rest old new = (type : TypeUse) → HasBase s type base → TakesEnclosed s (FitsWithNeeds s type) most bytes rest old new
+TakesEnclosedBase s base most bytes rest old new = (type : TypeUse) → HasBase s type base
+    → TakesEnclosed s (FitsWithNeeds s type) most bytes rest old new
 
 -- a value at a place with a type that comes down to this base
 abbrev pub TakesPlaced : Schema → Bool → Base → ℕ → List ℕ → List ℕ → Taken → Taken → Type 0

@@ -19,7 +19,8 @@ pub(crate) fn append_plain<'a>(
     bytes: &'a [u8],
     taken: &mut Taken,
 ) -> Result<&'a [u8], GivenUp>
-    ensures some { IfOk result (λ rest. (s : Meant) → TakesWithNeeds s (FitsWithNeeds s (type_use of.now)) 0 bytes.now rest.now taken.old taken.new) }
+    ensures some { IfOk result (λ rest. (s : Meant) → TakesWithNeeds s (FitsWithNeeds s (type_use of.now)) 0 bytes.now rest.now taken.old
+        taken.new) }
     ensures draft { LeavesText result taken.old.draft taken.new.draft }
     ensures needs { OnErr result (taken.new.needs.items ≡ taken.old.needs.items) }
 {

@@ -22,7 +22,8 @@ pub(crate) fn append_chosen(
     taken: &mut Taken,
 ) -> Result<usize, GivenUp>
     requires { IsSelect schema.now select.0 }
-    ensures some { IfOk result (λ count. TakesFront schema.now (FitsWithNeeds schema.now (defined select.0)) 0 bytes.now count taken.old taken.new) }
+    ensures some { IfOk result (λ count. TakesFront schema.now (FitsWithNeeds schema.now (defined select.0)) 0 bytes.now count taken.old
+        taken.new) }
     ensures draft { LeavesText result taken.old.draft taken.new.draft }
     ensures needs { OnErr result (taken.new.needs.items ≡ taken.old.needs.items) }
 {

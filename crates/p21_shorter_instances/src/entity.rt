@@ -81,7 +81,8 @@ fn append_guessed<'a>(
     bytes: &'a [u8],
     draft: &mut Draft,
 ) -> Option<(EntityId, &'a [u8])>
-    ensures some { (s : Meant) → IsPlanOf s plan.now → IfSome result (λ found. TakesOpenedEntity s found.0.0 bytes.now found.1.now draft.old draft.new) }
+    ensures some { (s : Meant) → IsPlanOf s plan.now → IfSome result
+        (λ found. TakesOpenedEntity s found.0.0 bytes.now found.1.now draft.old draft.new) }
     ensures none { IfNone result (draft.new ≡ draft.old) }
 {
     let count = parenthesis_in(bytes)?;

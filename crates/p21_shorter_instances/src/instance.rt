@@ -5,7 +5,7 @@
 //! way, and for one for which memory is refused the session answers want of memory, since it isn't tried again. Calls
 //! that never ask for memory, as for a token, answer `None` where they give up. No clause can say that memory was
 //! refused; `hostile/allocations.py` refuses each allocation in turn. A clause says that it is refused for no bytes but
-//! those of an instance (`RefusesBehindName`).
+//! those behind the mark of a name (`RefusesAtMark`).
 //!
 //! One call takes an instance of either form. It reads the name and the `=` once, and guesses a keyword before it looks
 //! for a `(` alone (`append_opening`): so an instance of internal form, as nearly each is, pays nothing for the other
@@ -14,7 +14,7 @@
 ghost use Rattle.std.specs.Prelude.{[], ◌∷◌, ◌++◌, ◌+◌, ◌≤◌, IfNone, IfSome, length, IfOk};
 ghost use Rattle.p21_spec_exchange.specs.Spelling.{name_spelling};
 ghost use Rattle.p21_spec_exchange.specs.Token.{equals, name};
-ghost use Rattle.p21_shorter_instances.specs.Leaving.{LeavesNeeds, LeavesText, RefusesBehindName};
+ghost use Rattle.p21_shorter_instances.specs.Leaving.{LeavesNeeds, LeavesText, RefusesAtMark};
 ghost use Rattle.p21_shorter_instances.specs.ExternalSet.{AreExternalSets};
 ghost use Rattle.p21_shorter_instances.specs.Instance.{TakesInstanceOf};
 ghost use Rattle.p21_shorter_instances.specs.Steps.{IsPlanOf};
@@ -44,11 +44,11 @@ pub enum Set {
 }
 
 /// An instance that was taken: its name, its set, and what stands behind its `;`.
-#[derive(Debug, Clone, Copy)]
-pub struct Instance<'a> {
-    pub name: Name,
-    pub set: Set,
-    pub rest: &'a [u8],
+#[derive(Clone, Copy)]
+pub(crate) struct Instance<'a> {
+    pub(crate) name: Name,
+    pub(crate) set: Set,
+    pub(crate) rest: &'a [u8],
 }
 
 /// Appends the canonical line of the instance at the front, without a line feed, and adds its references, in the order in
@@ -59,7 +59,7 @@ pub struct Instance<'a> {
 ///
 /// Why the instance isn't taken this way. Then the text and the references go on from those before.
 #[inline(always)]
-pub fn take_instance<'a>(
+pub(crate) fn take_instance<'a>(
     schema: &Schema,
     plan: &mut Plan,
     sets: &mut Sets,
@@ -68,10 +68,11 @@ pub fn take_instance<'a>(
 ) -> Result<Instance<'a>, GivenUp>
     requires plan { IsPlanOf schema.now plan.old }
     requires sets { AreExternalSets schema.now sets.old }
-    ensures some { IfOk result (λ found. TakesInstanceOf schema.now found.name sets.new found.set bytes.now found.rest.now taken.old taken.new) }
+    ensures some { IfOk result (λ found. TakesInstanceOf schema.now found.name sets.new found.set bytes.now found.rest.now taken.old
+        taken.new) }
     ensures draft { LeavesText result taken.old.draft taken.new.draft }
     ensures needs { LeavesNeeds result taken.old.needs.items taken.new.needs.items }
-    ensures behind_name { RefusesBehindName result bytes.now }
+    ensures at_mark { RefusesAtMark result bytes.now }
     ensures plan { IsPlanOf schema.now plan.new }
     ensures sets { AreExternalSets schema.now sets.new }
     ensures one { length sets.new ≤ length sets.old + 1 }
@@ -100,7 +101,8 @@ pub fn take_instance<'a>(
 /// Appends the name at the front and the `=` behind it: its number, and what stands behind them.
 #[inline(always)]
 fn append_name_and_equals<'a>(bytes: &'a [u8], draft: &mut Draft) -> Option<(u64, &'a [u8])>
-    ensures some { IfSome result (λ head. TakesTokens (name head.0 ∷ equals ∷ []) (name_spelling head.0 ++ 61 ∷ []) bytes.now head.1.now draft.old draft.new) }
+    ensures some { IfSome result (λ head. TakesTokens (name head.0 ∷ equals ∷ []) (name_spelling head.0 ++ 61 ∷ []) bytes.now head.1.now
+        draft.old draft.new) }
     ensures none { IfNone result (Continues draft.old draft.new) }
 {
     let front = behind_separators(bytes);

@@ -38,10 +38,12 @@ mod separated_delimiter;
 mod sets;
 mod step;
 mod taken;
+mod taker;
 mod value;
 
 pub use given_up::GivenUp;
-pub use instance::{Instance, Set, take_instance};
+pub use instance::Set;
 pub use plan::Plan;
 pub use sets::Sets;
 pub use taken::Taken;
+pub use taker::{Found, TakenInstance, Taker};

@@ -35,7 +35,8 @@ fn arrange(
 ) -> Result<(), GivenUp>
     requires start { start ≤ length draft.old }
     requires holds { (texts : List (List ℕ)) × HoldsElements (drop start draft.old) lengths.now texts }
-    ensures some { IfOk result (λ done. (texts : List (List ℕ)) → HoldsElements (drop start draft.old) lengths.now texts → ArrangesElements (type_use of.now) (take start draft.old) texts draft.new) }
+    ensures some { IfOk result (λ done. (texts : List (List ℕ)) → HoldsElements (drop start draft.old) lengths.now texts
+        → ArrangesElements (type_use of.now) (take start draft.old) texts draft.new) }
     ensures none { LeavesText result (take start draft.old) draft.new }
 {
     if lengths.len() < 2 {
@@ -124,7 +125,8 @@ fn keeps_unique(
 
 /// The texts of the elements, one behind the other.
 fn joined_texts(alloc: Global, text: &[u8], lengths: &[usize]) -> Result<Option<Vec<u8>>, NoMemory>
-    ensures { IfOk result (λ found. IfSome found (λ bytes. (texts : List (List ℕ)) → HoldsElements text.now lengths.now texts → bytes.items ≡ joined texts)) }
+    ensures { IfOk result (λ found. IfSome found (λ bytes. (texts : List (List ℕ)) → HoldsElements text.now lengths.now texts
+        → bytes.items ≡ joined texts)) }
 {
     let mut bytes = Vec::new(alloc);
     let mut rest = text;
@@ -190,8 +192,10 @@ pub(crate) fn append_close<'a>(
     draft: &mut Draft,
 ) -> Result<&'a [u8], GivenUp>
     requires start { start ≤ length draft.old }
-    requires holds { compares_elements (type_use of.now) ≡ true → (texts : List (List ℕ)) × HoldsElements (drop start (draft.old ++ 41 ∷ [])) lengths.now.items texts }
-    ensures some { IfOk result (λ rest. PassesDelimiter 41 bytes.now rest.now × ClosesAggregate (type_use of.now) start (draft.old ++ 41 ∷ []) lengths.now.items draft.new) }
+    requires holds { compares_elements (type_use of.now) ≡ true
+        → (texts : List (List ℕ)) × HoldsElements (drop start (draft.old ++ 41 ∷ [])) lengths.now.items texts }
+    ensures some { IfOk result (λ rest. PassesDelimiter 41 bytes.now rest.now
+        × ClosesAggregate (type_use of.now) start (draft.old ++ 41 ∷ []) lengths.now.items draft.new) }
     ensures none { LeavesText result (take start draft.old) draft.new }
 {
     let Some(rest) = append_next_delimiter(b')', bytes, draft) else {

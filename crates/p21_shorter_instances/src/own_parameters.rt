@@ -75,7 +75,8 @@ fn append_further_parameters<'a>(
     requires set { AreEntities schema.now (numbers set.now) }
     requires count { owner.count ≡ length (attributes_of schema.now owner.entity.0) }
     requires some { 1 ≤ owner.count }
-    ensures some { IfOk result (λ rest. TakesFurtherPlaces schema.now (numbers set.now) owner.entity.0 owner.count bytes.now rest.now taken.old taken.new) }
+    ensures some { IfOk result (λ rest. TakesFurtherPlaces schema.now (numbers set.now) owner.entity.0 owner.count bytes.now rest.now
+        taken.old taken.new) }
     ensures draft { LeavesText result taken.old.draft taken.new.draft }
     ensures needs { LeavesNeeds result taken.old.needs.items taken.new.needs.items }
 {

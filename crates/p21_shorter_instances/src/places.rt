@@ -24,7 +24,8 @@ pub(crate) fn append_places<'a>(
     taken: &mut Taken,
 ) -> Result<&'a [u8], GivenUp>
     requires { AreStepsIn schema.now steps.now }
-    ensures some { IfOk result (λ rest. TakesSteps schema.now params_tokens with_commas_between steps.now bytes.now rest.now taken.old taken.new) }
+    ensures some { IfOk result (λ rest. TakesSteps schema.now params_tokens with_commas_between steps.now bytes.now rest.now taken.old
+        taken.new) }
     ensures draft { LeavesText result taken.old.draft taken.new.draft }
     ensures needs { LeavesNeeds result taken.old.needs.items taken.new.needs.items }
 {

@@ -74,7 +74,7 @@ impl Plan {
 
     /// The entity of this name, in upper case. It takes no memory.
     #[inline(always)]
-    pub fn entity(&mut self, schema: &Schema, name: &[u8]) -> Option<EntityId>
+    pub(crate) fn entity(&mut self, schema: &Schema, name: &[u8]) -> Option<EntityId>
         ensures some { IfSome result (λ entity. EntityNamed schema.now entity.0 name.now) }
         ensures plan { IsPlanOf schema.now self.old → IsPlanOf schema.now self.new }
     {
@@ -89,7 +89,7 @@ impl Plan {
 
     /// What is known of the instances whose set is the entity and its supertypes: none where that isn't prepared.
     #[inline(always)]
-    pub fn row(&self, entity: EntityId) -> Option<&Row>
+    pub(crate) fn row(&self, entity: EntityId) -> Option<&Row>
         ensures { (s : Meant) → IsPlanOf s self.now → IfSome result (λ row. IsRow s entity.0 (row_view row.now)) }
     {
         let row = self.rows.get(entity.0 as usize)?;
@@ -110,7 +110,7 @@ impl Plan {
     ///
     /// `NoMemory`.
     #[inline(never)]
-    pub fn prepare(&mut self, schema: &Schema, entity: EntityId) -> Result<bool, NoMemory>
+    pub(crate) fn prepare(&mut self, schema: &Schema, entity: EntityId) -> Result<bool, NoMemory>
         requires { IsEntity schema.now entity.0 }
         ensures plan { IsPlanOf schema.now self.old → IsPlanOf schema.now self.new }
         ensures may { IfOk result (λ may. IsTrue may ↔ MayStandAlone schema.now entity.0) }

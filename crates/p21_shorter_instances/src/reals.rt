@@ -66,7 +66,8 @@ fn append_each_real<'a>(bytes: &'a [u8], draft: &mut Draft) -> Option<(usize, &'
 /// The real at the front, behind separators: what stands behind it. Mostly there are none but blanks, and it has no exponent.
 #[inline(always)]
 fn append_next_real<'a>(bytes: &'a [u8], draft: &mut Draft) -> Option<&'a [u8]>
-    ensures some { IfSome result (λ rest. (inside : List ℕ) × PassesSeparators bytes.now inside × TakesReal inside rest.now draft.old draft.new) }
+    ensures some { IfSome result (λ rest. (inside : List ℕ) × PassesSeparators bytes.now inside
+        × TakesReal inside rest.now draft.old draft.new) }
     ensures shorter { IfSome result (λ rest. length rest.now ≤ length bytes.now) }
     ensures draft { Continues draft.old draft.new }
 {
@@ -102,7 +103,8 @@ fn append_first_plain(bytes: &[u8], draft: &mut Draft) -> Option<usize>
 /// The same for any real.
 #[inline(never)]
 fn append_other_next<'a>(bytes: &'a [u8], draft: &mut Draft) -> Option<&'a [u8]>
-    ensures some { IfSome result (λ rest. (inside : List ℕ) × PassesSeparators bytes.now inside × TakesReal inside rest.now draft.old draft.new) }
+    ensures some { IfSome result (λ rest. (inside : List ℕ) × PassesSeparators bytes.now inside
+        × TakesReal inside rest.now draft.old draft.new) }
     ensures shorter { IfSome result (λ rest. length rest.now ≤ length bytes.now) }
     ensures draft { Continues draft.old draft.new }
 {

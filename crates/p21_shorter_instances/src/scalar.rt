@@ -26,7 +26,8 @@ pub(crate) fn append_scalar<'a>(
     bytes: &'a [u8],
     draft: &mut Draft,
 ) -> Option<&'a [u8]>
-    ensures some { IfSome result (λ rest. (s : schema.Schema) → TakesValue s (λ p v. FitsWithNeeds s (type_use of.now) p v []) 0 bytes.now rest.now draft.old draft.new) }
+    ensures some { IfSome result (λ rest. (s : schema.Schema)
+        → TakesValue s (λ p v. FitsWithNeeds s (type_use of.now) p v []) 0 bytes.now rest.now draft.old draft.new) }
     ensures none { IfNone result (Continues draft.old draft.new) }
 {
     let count = append_simple(of, bytes, draft)?;
@@ -36,7 +37,9 @@ pub(crate) fn append_scalar<'a>(
 /// Appends the item at the front, at an enumeration with these items: how many bytes it has.
 #[inline(never)]
 pub(crate) fn append_listed(words: &Words, bytes: &[u8], draft: &mut Draft) -> Option<usize>
-    ensures some { IfSome result (λ count. (count ≤ length bytes.now) × ((s : schema.Schema) (t : ℕ) → schema.kind_of s t ≡ Some (schema.items words.now) → TakesValue s (λ p v. FitsWithNeeds s (schema.defined t) p v []) 0 bytes.now (drop count bytes.now) draft.old draft.new)) }
+    ensures some { IfSome result (λ count. (count ≤ length bytes.now)
+        × ((s : schema.Schema) (t : ℕ) → schema.kind_of s t ≡ Some (schema.items words.now)
+        → TakesValue s (λ p v. FitsWithNeeds s (schema.defined t) p v []) 0 bytes.now (drop count bytes.now) draft.old draft.new)) }
     ensures none { IfNone result (draft.new ≡ draft.old) }
 {
     let known = words.items();

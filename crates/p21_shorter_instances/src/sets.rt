@@ -67,7 +67,7 @@ impl Sets {
 
     /// The set of this number. It takes no memory.
     #[inline(always)]
-    pub fn get(&self, at: usize) -> Option<&[EntityId]>
+    pub(crate) fn get(&self, at: usize) -> Option<&[EntityId]>
         ensures { IfSome result (λ set. slice_get self.now at ≡ Some (numbers set.now)) }
     {
         let set = self.all.get(at)?;
@@ -93,7 +93,8 @@ impl Sets {
 
     /// Keeps a set, and answers its number.
     pub(crate) fn keep(&mut self, set: ArcSlice<EntityId>) -> Result<usize, NoMemory>
-        ensures kept { (s : Meant) → AreExternalSets s self.old → IsExternalSet s (numbers (arc_slice_items set)) → AreExternalSets s self.new }
+        ensures kept { (s : Meant) → AreExternalSets s self.old → IsExternalSet s (numbers (arc_slice_items set))
+            → AreExternalSets s self.new }
         ensures one { length self.new ≤ length self.old + 1 }
     {
         let at = self.all.len();

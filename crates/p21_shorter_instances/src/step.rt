@@ -80,7 +80,8 @@ fn push_steps(
     requires entity { IsEntity schema.now entity.0 }
     requires owner { Contains (order schema.now entity.0) owner.0 }
     requires decided { LeavesOpen schema.now entity.0 → ⊥ }
-    ensures { OnOk result ((before : List MeantPlace) → AreStepsAt schema.now (order schema.now entity.0) before steps.old.items → AreStepsAt schema.now (order schema.now entity.0) (before ++ own_places schema.now owner.0) steps.new.items) }
+    ensures { OnOk result ((before : List MeantPlace) → AreStepsAt schema.now (order schema.now entity.0) before steps.old.items
+        → AreStepsAt schema.now (order schema.now entity.0) (before ++ own_places schema.now owner.0) steps.new.items) }
 {
     schema.holds_together();
     let count = schema.attribute_count(owner);
@@ -119,7 +120,8 @@ fn step_at(alloc: Global, schema: &Schema, entity: EntityId, place: Place) -> Re
 /// What a type comes down to, where that is no declared type; else the type. None where aggregates stand in it, one in another.
 fn reduced_type(alloc: Global, schema: &Schema, of: &TypeUse) -> Result<Option<TypeUse>, NoMemory>
     requires { IsTypeUse schema.now (type_use of.now) }
-    ensures { IfOk result (λ found. IfSome found (λ last. IsTypeUse schema.now (type_use last) × ComesTo schema.now (type_use of.now) (type_use last))) }
+    ensures { IfOk result (λ found. IfSome found (λ last. IsTypeUse schema.now (type_use last)
+        × ComesTo schema.now (type_use of.now) (type_use last))) }
 {
     schema.holds_together();
     match schema.base(of) {

@@ -96,7 +96,8 @@ pub(crate) fn append_placed(
     taken: &mut Taken,
 ) -> Result<usize, GivenUp>
     requires { IsKnownAt schema.now (place_type at) }
-    ensures some { IfOk result (λ count. TakesFront schema.now (FitsAtWithNeeds schema.now (place_type at.entry)) 64 bytes.now count taken.old taken.new) }
+    ensures some { IfOk result (λ count. TakesFront schema.now (FitsAtWithNeeds schema.now (place_type at.entry)) 64 bytes.now count
+        taken.old taken.new) }
     ensures draft { LeavesText result taken.old.draft taken.new.draft }
     ensures needs { LeavesNeeds result taken.old.needs.items taken.new.needs.items }
 {
@@ -113,7 +114,8 @@ fn append_at<'a>(
     taken: &mut Taken,
 ) -> Result<&'a [u8], GivenUp>
     requires { IsKnownAt schema.now (place_type at) }
-    ensures some { IfOk result (λ rest. TakesWithNeeds schema.now (FitsAtWithNeeds schema.now (place_type at.entry)) 64 bytes.now rest.now taken.old taken.new) }
+    ensures some { IfOk result (λ rest. TakesWithNeeds schema.now (FitsAtWithNeeds schema.now (place_type at.entry)) 64 bytes.now rest.now
+        taken.old taken.new) }
     ensures draft { LeavesText result taken.old.draft taken.new.draft }
     ensures needs { LeavesNeeds result taken.old.needs.items taken.new.needs.items }
 {
@@ -207,7 +209,8 @@ fn append_choice(
     taken: &mut Taken,
 ) -> Result<usize, GivenUp>
     requires { IsSelect schema.now select.0 }
-    ensures some { IfOk result (λ count. TakesFront schema.now (FitsWithNeeds schema.now (defined select.0)) most bytes.now count taken.old taken.new) }
+    ensures some { IfOk result (λ count. TakesFront schema.now (FitsWithNeeds schema.now (defined select.0)) most bytes.now count taken.old
+        taken.new) }
     ensures draft { LeavesText result taken.old.draft taken.new.draft }
     ensures needs { LeavesNeeds result taken.old.needs.items taken.new.needs.items }
 {
@@ -231,7 +234,8 @@ fn append_typed<'a>(
     taken: &mut Taken,
 ) -> Result<&'a [u8], GivenUp>
     requires { IsSelect schema.now select.0 }
-    ensures some { IfOk result (λ rest. TakesWithNeeds schema.now (FitsWithNeeds schema.now (defined select.0)) most bytes.now rest.now taken.old taken.new) }
+    ensures some { IfOk result (λ rest. TakesWithNeeds schema.now (FitsWithNeeds schema.now (defined select.0)) most bytes.now rest.now
+        taken.old taken.new) }
     ensures draft { LeavesText result taken.old.draft taken.new.draft }
     ensures needs { LeavesNeeds result taken.old.needs.items taken.new.needs.items }
 {
@@ -280,7 +284,8 @@ fn append_undeclared<'a>(
     taken: &mut Taken,
 ) -> Result<&'a [u8], GivenUp>
     requires { HoldsTogether schema.now → IsTypeUse schema.now (type_use of.now) }
-    ensures some { IfOk result (λ rest. TakesWithNeeds schema.now (FitsWithNeeds schema.now (type_use of.now)) most bytes.now rest.now taken.old taken.new) }
+    ensures some { IfOk result (λ rest. TakesWithNeeds schema.now (FitsWithNeeds schema.now (type_use of.now)) most bytes.now rest.now
+        taken.old taken.new) }
     ensures draft { LeavesText result taken.old.draft taken.new.draft }
     ensures needs { LeavesNeeds result taken.old.needs.items taken.new.needs.items }
 {
@@ -310,7 +315,8 @@ fn append_aggregate(
 ) -> Result<usize, GivenUp>
     requires known { HoldsTogether schema.now → IsTypeUse schema.now (type_use aggregate.now.of.now) }
     requires elements { IsAggregateOf (type_use aggregate.now.of.now) aggregate.now.optional (type_use aggregate.now.element.now) }
-    ensures some { IfOk result (λ count. TakesFront schema.now (FitsWithNeeds schema.now (type_use aggregate.now.of.now)) most bytes.now count taken.old taken.new) }
+    ensures some { IfOk result (λ count. TakesFront schema.now (FitsWithNeeds schema.now (type_use aggregate.now.of.now)) most bytes.now
+        count taken.old taken.new) }
     ensures draft { LeavesText result taken.old.draft taken.new.draft }
     ensures needs { LeavesNeeds result taken.old.needs.items taken.new.needs.items }
 {
@@ -335,7 +341,8 @@ fn append_aggregate(
 /// Whether there stand reals alone, which aren't compared.
 #[inline(always)]
 fn are_reals(aggregate: &Aggregate<'_>, base: &Base<'_>) -> bool
-    ensures { IsTrue result → (compares_elements (type_use aggregate.now.of.now) ≡ false) × (aggregate.now.optional ≡ false) × IsRealBase base.now }
+    ensures { IsTrue result → (compares_elements (type_use aggregate.now.of.now) ≡ false) × (aggregate.now.optional ≡ false)
+        × IsRealBase base.now }
 {
     is_real(base) && !aggregate.optional && !are_compared(aggregate.of)
 }
@@ -351,7 +358,8 @@ fn append_any(
 ) -> Result<usize, GivenUp>
     requires base { IsBaseInSchema at.now.schema.now at.now.base.now }
     requires places { IsAtPlacesOf (type_use of.now) at.now }
-    ensures some { IfOk result (λ count. TakesFront at.now.schema.now (FitsWithNeeds at.now.schema.now (type_use of.now)) (at.now.most + 1) bytes.now count taken.old taken.new) }
+    ensures some { IfOk result (λ count. TakesFront at.now.schema.now (FitsWithNeeds at.now.schema.now (type_use of.now)) (at.now.most + 1)
+        bytes.now count taken.old taken.new) }
     ensures draft { LeavesText result taken.old.draft taken.new.draft }
     ensures needs { LeavesNeeds result taken.old.needs.items taken.new.needs.items }
 {
@@ -401,7 +409,8 @@ fn append_each<'a>(
     lengths: &mut Vec<usize>,
 ) -> Result<(usize, &'a [u8]), GivenUp>
     requires { IsBaseInSchema at.now.schema.now at.now.base.now }
-    ensures some { IfOk result (λ found. TakesStoredEach at.now compared found.0 bytes.now found.1.now lengths.old.items lengths.new.items taken.old taken.new) }
+    ensures some { IfOk result (λ found. TakesStoredEach at.now compared found.0 bytes.now found.1.now lengths.old.items lengths.new.items
+        taken.old taken.new) }
     ensures draft { LeavesText result taken.old.draft taken.new.draft }
     ensures needs { LeavesNeeds result taken.old.needs.items taken.new.needs.items }
 {
@@ -431,7 +440,8 @@ fn append_element<'a>(
 ) -> Result<&'a [u8], GivenUp>
     requires { IsBaseInSchema at.now.schema.now at.now.base.now }
     ensures some { IfOk result (λ rest. TakesStored at.now bytes.now rest.now taken.old taken.new) }
-    ensures lengths { IfOk result (λ rest. AddsLength compared (length taken.old.draft) (length taken.new.draft) lengths.old.items lengths.new.items) }
+    ensures lengths { IfOk result (λ rest. AddsLength compared (length taken.old.draft) (length taken.new.draft) lengths.old.items
+        lengths.new.items) }
     ensures draft { LeavesText result taken.old.draft taken.new.draft }
     ensures needs { LeavesNeeds result taken.old.needs.items taken.new.needs.items }
 {

@@ -1,36 +1,22 @@
 use super::schemas::DEMO;
 use super::*;
-use p21_shorter_instances::{Plan, Set, Sets, Taken, take_instance};
+use p21_shorter_instances::{TakenInstance, Taker};
 
-/// No canonical line here has more bytes.
-const ROOM: usize = 64;
-
-/// Whether the plan has a row of the entity, which is named POINT, or the set is kept.
-fn is_known(schema: &Schema, plan: &mut Plan, sets: &Sets, set: Set) -> bool {
-    match set {
-        Set::Own(entity) => {
-            plan.row(entity).is_some() && plan.entity(schema, b"POINT") == Some(entity)
-        }
-        Set::Numbered(at) => sets.get(at).is_some(),
+/// Whether an instance that was taken has entities, and this canonical line.
+fn has_line(taker: &Taker, taken: TakenInstance, wanted: &[u8]) -> bool {
+    match taker.found(taken) {
+        Some(found) => !found.entities.is_empty() && found.line == wanted,
+        None => false,
     }
 }
 
-/// Appends an instance: whether it is taken whole, and its set is known.
-fn append(alloc: Global, schema: &Schema, text: &[u8], taken: &mut Taken) -> bool {
-    let mut plan = Plan::new(alloc);
-    let mut sets = Sets::new(alloc);
-    match take_instance(schema, &mut plan, &mut sets, text, taken) {
-        Ok(found) => found.rest.is_empty() && is_known(schema, &mut plan, &sets, found.set),
+/// Whether an instance is taken whole straight from its bytes, with this canonical line.
+fn is_taken(alloc: Global, schema: &Schema, text: &[u8], wanted: &[u8]) -> bool {
+    let mut taker = Taker::new(alloc);
+    match taker.take(schema, text) {
+        Ok(taken) => taken.count == text.len() && has_line(&taker, taken, wanted),
         Err(_) => false,
     }
-}
-
-/// Whether an instance is taken straight from its bytes, with this canonical line.
-fn is_taken(alloc: Global, schema: &Schema, text: &[u8], wanted: &[u8]) -> bool {
-    let mut taken = Taken::new(alloc);
-    taken.draft.make_room(ROOM).is_ok()
-        && append(alloc, schema, text, &mut taken)
-        && taken.draft.between(0, taken.draft.len()) == wanted
 }
 
 fn first_left_of(alloc: Global, schema: &Schema, rows: Rows) -> &'static str {

@@ -8,4 +8,5 @@ offers_entity-requires c = select-known c.args.schema.now c.args.select.0 c.requ
 
 pub returns-clause-some : goal.returns-clause-some
 returns-clause-some c =
-    ok-to _ (λ count. chosen-front c.args.schema.now c.args.select.0 c.args.bytes.now count _ _ (c.if-not-offers_entity.ensures.0 refl)) c.append_reference.ensures.some
+    ok-to _ (λ count. chosen-front c.args.schema.now c.args.select.0 c.args.bytes.now count _ _ (c.if-not-offers_entity.ensures.0 refl))
+    c.append_reference.ensures.some

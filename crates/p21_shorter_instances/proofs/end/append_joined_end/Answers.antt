@@ -8,4 +8,6 @@ use Rattle.p21_shorter_instances.proofs.end.append_joined_end.Goals as goal
 pub returns-clause-some : goal.returns-clause-some
 returns-clause-some c =
     let bytes = c.args.bytes.now in
-    subst (λ (rest : List ℕ). TakesTokens (right ∷ semicolon ∷ []) (41 ∷ 59 ∷ []) bytes rest c.args.draft.now c.append_prefix.new.self) (sym (rest_is bytes 2)) (end-joined bytes c.args.draft.now c.append_prefix.new.self (omega arith) (omega arith) (omega arith) (c.if-not-append_prefix.ensures {u = tt}))
+    subst (λ (rest : List ℕ). TakesTokens (right ∷ semicolon ∷ []) (41 ∷ 59 ∷ []) bytes rest c.args.draft.now c.append_prefix.new.self)
+    (sym (rest_is bytes 2)) (end-joined bytes c.args.draft.now c.append_prefix.new.self (omega arith) (omega arith) (omega arith)
+    (c.if-not-append_prefix.ensures {u = tt}))

@@ -6,7 +6,13 @@ pub is_prepared-requires : goal.is_prepared-requires
 is_prepared-requires c = let (word, named, takes) = c.in-Some.ensures.some in entity-is c.args.schema.now c.in-Some.entity.0 word named
 
 pub returns-clause-some : goal.returns-clause-some
-returns-clause-some c = record { behind = c.in-Some.behind.now; between = _; entity = c.in-Some.ensures.some; opened = c.in-Some-append_delimiter.ensures.some }
+returns-clause-some c = record {
+  behind = c.in-Some.behind.now;
+  between = _;
+  entity = c.in-Some.ensures.some;
+  opened =
+      c.in-Some-append_delimiter.ensures.some;
+}
 
 pub returns-in_default-clause-plan : goal.returns-in_default-clause-plan
 returns-in_default-clause-plan c = c.append_named.ensures.plan c.requires

@@ -11,4 +11,5 @@ returns-clause-some c = λ s are.
     let count = c.in_ok-count.count in
     let place = c.in_ok-count.ensures.place in
     let found = opened-at s e bytes count _ _ place.1 place.2 (c.in_ok-entity.ensures s are) (c.if-not-append_prefix.ensures {u = tt}) in
-    subst (λ (rest : List ℕ). TakesOpenedEntity s e bytes rest c.args.draft.now c.append_prefix.new.self) (sym (rest_is bytes (count + 1))) found
+    subst (λ (rest : List ℕ). TakesOpenedEntity s e bytes rest c.args.draft.now c.append_prefix.new.self) (sym (rest_is bytes (count + 1)))
+    found

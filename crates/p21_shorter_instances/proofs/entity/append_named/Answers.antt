@@ -8,7 +8,8 @@ pub returns-clause-some : goal.returns-clause-some
 returns-clause-some c =
     let front = c.behind_separators-front.result.now in
     let word = c.in_ok-word.word.now in
-    entity-taken c.args.schema.now c.in_ok-entity.entity.0 word c.args.bytes.now front _ _ _ c.behind_separators-front.ensures (rest_is front (length word)) c.in_ok-word.ensures.some c.in_ok-entity.ensures.some
+    entity-taken c.args.schema.now c.in_ok-entity.entity.0 word c.args.bytes.now front _ _ _ c.behind_separators-front.ensures
+    (rest_is front (length word)) c.in_ok-word.ensures.some c.in_ok-entity.ensures.some
 
 pub returns-in_err-entity-clause-none : goal.returns-in_err-entity-clause-none
 returns-in_err-entity-clause-none c = none_from _ (leaf-goes_on _ _ _ _ _ c.in_ok-word.ensures.some)

@@ -13,12 +13,14 @@ returns-in-Some-clause-some c =
     let count = c.in-Some.count in
     let old = c.args.draft.now in
     let keyed = c.append_prefix.new.self in
-    let entity = named-before s e front count old keyed (c.in-Some.ensures.some s c.requires) c.in-Some.ensures.within c.in-Some.ensures.ends (c.if-not-append_prefix.ensures {u = tt}) in
+    let entity = named-before s e front count old keyed (c.in-Some.ensures.some s c.requires) c.in-Some.ensures.within
+    c.in-Some.ensures.ends (c.if-not-append_prefix.ensures {u = tt}) in
     record {
       behind = drop count front;
       between = keyed;
       entity = entity-behind s e c.args.bytes.now front (drop count front) old keyed c.behind_separators-front.ensures entity;
-      opened = subst (λ (behind : List ℕ). TakesDelimiter 40 behind c.in-Some-append_delimiter.inside.now keyed c.append_delimiter.new.draft) (rest_is front count) c.in-Some-append_delimiter.ensures.some;
+      opened = subst (λ (behind : List ℕ). TakesDelimiter 40 behind c.in-Some-append_delimiter.inside.now keyed
+          c.append_delimiter.new.draft) (rest_is front count) c.in-Some-append_delimiter.ensures.some;
     }
 
 pub returns-in_ok-entity-in-None-clause-some : goal.returns-in_ok-entity-in-None-clause-some

@@ -8,5 +8,6 @@ pub returns : goal.returns
 returns c = λ s are.
     let e = c.in_ok-guess.guess.0 in
     let same = c.if-not-is_front.ensures refl in
-    let (named, keyword) = (c.in_ok-row.ensures s are).keyword (λ none. front-some c.args.bytes.now c.args.count c.requires.some c.requires.within (same ∙ none)) in
+    let (named, keyword) = (c.in_ok-row.ensures s are).keyword
+    (λ none. front-some c.args.bytes.now c.args.count c.requires.some c.requires.within (same ∙ none)) in
     (subst (EntityNamed s e) (sym same) named, subst IsKeyword (sym same) keyword)

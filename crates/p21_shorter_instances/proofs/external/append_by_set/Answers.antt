@@ -15,7 +15,8 @@ append_record-requires c =
 pub returns-clause-some : goal.returns-clause-some
 returns-clause-some c =
     let usual = usual-at c.args.schema.now c.args.sets.now c.args.at (numbers c.in-Some.set.now) c.requires c.in-Some.ensures in
-    ok-to _ (λ rest. numbered-taken c.args.schema.now c.args.sets.now c.args.at (numbers c.in-Some.set.now) c.args.bytes.now rest.now _ _ c.in-Some.ensures usual) c.append_record.ensures.some
+    ok-to _ (λ rest. numbered-taken c.args.schema.now c.args.sets.now c.args.at (numbers c.in-Some.set.now) c.args.bytes.now rest.now _ _
+    c.in-Some.ensures usual) c.append_record.ensures.some
 
 pub returns-in_default-clause-draft : goal.returns-in_default-clause-draft
 returns-in_default-clause-draft c = continues-same _ _ refl

@@ -6,7 +6,8 @@ use Rattle.p21_values.proofs.Continuing.{continues-same}
 
 pub returns-in-Err-NotUsual-clause-some : goal.returns-in-Err-NotUsual-clause-some
 returns-in-Err-NotUsual-clause-some c =
-    ok-to _ (λ found. numbered-from c.args.schema.now _ found.0 c.args.bytes.now found.1.now _ c.args.taken.now _ c.in-Err-NotUsual.ensures.draft c.in-Err-NotUsual.ensures.needs) c.append_by_keywords.ensures.some
+    ok-to _ (λ found. numbered-from c.args.schema.now _ found.0 c.args.bytes.now found.1.now _ c.args.taken.now _
+    c.in-Err-NotUsual.ensures.draft c.in-Err-NotUsual.ensures.needs) c.append_by_keywords.ensures.some
 
 pub returns-in-Err-NotUsual-clause-draft : goal.returns-in-Err-NotUsual-clause-draft
 returns-in-Err-NotUsual-clause-draft c = rw (← c.in-Err-NotUsual.ensures.draft) c.append_by_keywords.ensures.draft

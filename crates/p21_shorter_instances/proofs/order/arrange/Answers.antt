@@ -15,23 +15,31 @@ returns-in_default-keeps_unique-clause-none c = front-stays c.args.start c.args.
 
 pub keeps_unique-requires : goal.keeps_unique-requires
 keeps_unique-requires c =
-    texts-within _ c.args.lengths.now _ (elements-joined _ _ _ _ _ c.text_behind-text.ensures c.deref-all.ensures.value (rw c.in-Some.is at c.in-Ok.ensures)) c.requires.holds
+    texts-within _ c.args.lengths.now _ (elements-joined _ _ _ _ _ c.text_behind-text.ensures c.deref-all.ensures.value
+    (rw c.in-Some.is at c.in-Ok.ensures)) c.requires.holds
 
 pub rewrite_in_order-requires-clause-within : goal.rewrite_in_order-requires-clause-within
 rewrite_in_order-requires-clause-within c =
-    texts-within _ c.args.lengths.now _ (elements-joined _ _ _ _ _ c.text_behind-text.ensures c.deref-all.ensures.value (rw c.in-Some.is at c.in-Ok.ensures)) c.requires.holds
+    texts-within _ c.args.lengths.now _ (elements-joined _ _ _ _ _ c.text_behind-text.ensures c.deref-all.ensures.value
+    (rw c.in-Some.is at c.in-Ok.ensures)) c.requires.holds
 
 pub returns-then-not-unique-clause-none : goal.returns-then-not-unique-clause-none
 returns-then-not-unique-clause-none c = front-stays c.args.start c.args.draft.now
 
 pub returns-then-not-is_unordered-clause-some : goal.returns-then-not-is_unordered-clause-some
 returns-then-not-is_unordered-clause-some c =
-    order-kept (type_use c.args.of.now) c.args.start c.args.draft.now c.args.lengths.now _ (sym c.if-not-is_unordered.ensures) (c.in-Ok-keeps_unique.ensures c.if-not-unique.false) (elements-joined _ _ _ _ _ c.text_behind-text.ensures c.deref-all.ensures.value (rw c.in-Some.is at c.in-Ok.ensures))
+    order-kept (type_use c.args.of.now) c.args.start c.args.draft.now c.args.lengths.now _ (sym c.if-not-is_unordered.ensures)
+    (c.in-Ok-keeps_unique.ensures c.if-not-unique.false)
+    (elements-joined _ _ _ _ _ c.text_behind-text.ensures c.deref-all.ensures.value (rw c.in-Some.is at c.in-Ok.ensures))
 
 pub returns-clause-some : goal.returns-clause-some
 returns-clause-some c =
-    ok-to _ (λ done. order-made (type_use c.args.of.now) c.args.start c.args.draft.now c.args.lengths.now _ _ (sym c.if-not-is_unordered.ensures) (c.in-Ok-keeps_unique.ensures c.if-not-unique.false) (elements-joined _ _ _ _ _ c.text_behind-text.ensures c.deref-all.ensures.value (rw c.in-Some.is at c.in-Ok.ensures))) c.rewrite_in_order.ensures.some
+    ok-to _ (λ done. order-made (type_use c.args.of.now) c.args.start c.args.draft.now c.args.lengths.now _ _
+    (sym c.if-not-is_unordered.ensures) (c.in-Ok-keeps_unique.ensures c.if-not-unique.false)
+    (elements-joined _ _ _ _ _ c.text_behind-text.ensures c.deref-all.ensures.value (rw c.in-Some.is at c.in-Ok.ensures)))
+    c.rewrite_in_order.ensures.some
 
 pub returns-then-are_rising-clause-some : goal.returns-then-are_rising-clause-some
 returns-then-are_rising-clause-some c =
-    rising-kept (type_use c.args.of.now) c.args.start c.args.draft.now c.args.lengths.now _ c.text_behind-text.ensures (c.if-are_rising.ensures refl)
+    rising-kept (type_use c.args.of.now) c.args.start c.args.draft.now c.args.lengths.now _ c.text_behind-text.ensures
+    (c.if-are_rising.ensures refl)

@@ -12,7 +12,8 @@ use Rattle.p21_shorter_instances.proofs.own_parameters.append_further_parameters
 abbrev pub invariant-loop-index : goal.invariant-loop-index
 invariant-loop-index l = record {
   some : 1 ≤ l.index;
-  takes : TakesPlaces l.schema (numbers l.set) more_tokens with_commas (places_from l.owner.entity.0 1 (l.index - 1)) l.bytes l.rest l.fn.taken l.taken;
+  takes : TakesPlaces l.schema (numbers l.set) more_tokens with_commas (places_from l.owner.entity.0 1 (l.index - 1)) l.bytes l.rest
+      l.fn.taken l.taken;
   draft : Continues l.fn.taken.draft l.taken.draft;
   needs : KeepsNeeds l.fn.taken.needs.items l.taken.needs.items;
 }

@@ -8,5 +8,6 @@ pub returns-clause-some : goal.returns-clause-some
 returns-clause-some c =
     let front = c.behind_separators-front.result.now in
     let word = c.in_ok-word.word.now in
-    entity-taken c.args.schema.now c.args.entity.0 word c.args.bytes.now front _ _ _ c.behind_separators-front.ensures (rest_is front (length word)) c.in_ok-word.ensures.some
+    entity-taken c.args.schema.now c.args.entity.0 word c.args.bytes.now front _ _ _ c.behind_separators-front.ensures
+    (rest_is front (length word)) c.in_ok-word.ensures.some
     (subst (EntityNamed c.args.schema.now c.args.entity.0) (sym (c.is_word.ensures c.if-not-is_word.false)) c.entity_name.ensures)

@@ -18,7 +18,8 @@ loop-behind-smaller c = omega (arith, mark-shorter 44 _ _ c.in-Some.ensures.some
 pub loop-behind-preserved : goal.loop-behind-preserved
 loop-behind-preserved c =
     let real = c.in_ok-behind.ensures.some in (
-      reals-next c.args.bytes.now c.args.draft.now (c.loop-behind.count + 1) _ _ _ _ (c.loop-behind.invariant.0 real.0 _ _ real.1 real.2) c.in-Some.ensures.some.0 c.in-Some.ensures.some.1,
+      reals-next c.args.bytes.now c.args.draft.now (c.loop-behind.count + 1) _ _ _ _ (c.loop-behind.invariant.0 real.0 _ _ real.1 real.2)
+          c.in-Some.ensures.some.0 c.in-Some.ensures.some.1,
       goes-on _ _ _ _ (continues-join _ _ _ c.loop-behind.invariant.1 c.in_ok-behind.ensures.draft) c.in-Some.ensures.some.1,
       omega (arith, c.loop-behind.invariant.2, mark-shorter 44 _ _ c.in-Some.ensures.some.0, c.in_ok-behind.ensures.shorter),
     )
@@ -29,7 +30,8 @@ returns-in_err-behind-clause-draft c = continues-join _ _ _ c.loop-behind.invari
 pub returns-in_default-append_next_delimiter-clause-some : goal.returns-in_default-append_next_delimiter-clause-some
 returns-in_default-append_next_delimiter-clause-some c =
     let real = c.in_ok-behind.ensures.some in
-    rw c.in_default-append_next_delimiter.ensures.none (reals-end c.args.bytes.now c.args.draft.now (c.loop-behind.count + 1) _ _ (c.loop-behind.invariant.0 real.0 _ _ real.1 real.2))
+    rw c.in_default-append_next_delimiter.ensures.none
+    (reals-end c.args.bytes.now c.args.draft.now (c.loop-behind.count + 1) _ _ (c.loop-behind.invariant.0 real.0 _ _ real.1 real.2))
 
 pub returns-in_default-append_next_delimiter-clause-shorter : goal.returns-in_default-append_next_delimiter-clause-shorter
 returns-in_default-append_next_delimiter-clause-shorter c = omega (arith, c.loop-behind.invariant.2, c.in_ok-behind.ensures.shorter)

@@ -8,4 +8,5 @@ abbrev pub decreases-loop-behind : goal.decreases-loop-behind
 decreases-loop-behind l = length l.front
 
 abbrev pub invariant-loop-behind : goal.invariant-loop-behind
-invariant-loop-behind l = AheadOfReal l.fn.bytes l.fn.draft l.count l.front l.draft × Continues l.fn.draft l.draft × (l.count + length l.front ≤ length l.fn.bytes)
+invariant-loop-behind l = AheadOfReal l.fn.bytes l.fn.draft l.count l.front l.draft × Continues l.fn.draft l.draft
+    × (l.count + length l.front ≤ length l.fn.bytes)

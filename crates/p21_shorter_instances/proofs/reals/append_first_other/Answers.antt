@@ -7,4 +7,5 @@ pub returns-clause-some : goal.returns-clause-some
 returns-clause-some c = some_to _ (λ count. real-taken c.args.bytes.now count _ _) c.append_other_real.ensures.some
 
 pub returns-clause-draft : goal.returns-clause-draft
-returns-clause-draft c = real-continues c.append_other_real.result c.args.bytes.now _ _ c.append_other_real.ensures.some c.append_other_real.ensures.none
+returns-clause-draft c = real-continues c.append_other_real.result c.args.bytes.now _ _ c.append_other_real.ensures.some
+    c.append_other_real.ensures.none

@@ -8,4 +8,5 @@ pub returns-clause-some : goal.returns-clause-some
 returns-clause-some c = some_to _ (λ count takes. real-taken c.args.bytes.now count _ _ (takes false)) c.append_plain_real.ensures.some
 
 pub returns-clause-draft : goal.returns-clause-draft
-returns-clause-draft c = plain-continues c.append_plain_real.result c.args.bytes.now _ _ c.append_plain_real.ensures.some c.append_plain_real.ensures.none
+returns-clause-draft c = plain-continues c.append_plain_real.result c.args.bytes.now _ _ c.append_plain_real.ensures.some
+    c.append_plain_real.ensures.none

@@ -7,8 +7,12 @@ pub returns-in-Some-clause-some : goal.returns-in-Some-clause-some
 returns-in-Some-clause-some c =
     let front = c.behind_blanks-front.result.now in
     let count = c.in-Some.count in
-    let takes = c.in-Some.ensures.some in
-    (front, first-passed c.args.bytes.now front count takes.token takes.stands c.behind_blanks-front.ensures.passes, real-at front _ count _ _ (rest_is front count) takes)
+    let takes = c.in-Some.ensures.some in (
+      front,
+      first-passed c.args.bytes.now front count takes.token takes.stands c.behind_blanks-front.ensures.passes,
+      real-at front _ count _
+          _ (rest_is front count) takes,
+    )
 
 pub returns-in-Some-clause-shorter : goal.returns-in-Some-clause-shorter
 returns-in-Some-clause-shorter c = omega (arith, c.behind_blanks-front.ensures.shorter)

@@ -6,8 +6,12 @@ use Rattle.p21_shorter_instances.proofs.reals.append_other_next.Goals as goal
 
 pub returns-clause-some : goal.returns-clause-some
 returns-clause-some c =
-    let front = c.behind_separators-front.result.now in
-    (front, c.behind_separators-front.ensures, real-at front _ c.in_ok-count.count _ _ (rest_is front c.in_ok-count.count) c.in_ok-count.ensures.some)
+    let front = c.behind_separators-front.result.now in (
+      front,
+      c.behind_separators-front.ensures,
+      real-at front _ c.in_ok-count.count _ _ (rest_is front c.in_ok-count.count)
+          c.in_ok-count.ensures.some,
+    )
 
 pub returns-clause-shorter : goal.returns-clause-shorter
 returns-clause-shorter c = omega (arith, gap-shorter _ _ c.behind_separators-front.ensures)

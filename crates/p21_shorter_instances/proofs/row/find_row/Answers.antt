@@ -16,6 +16,10 @@ returns c =
       steps_are = c.in_ok-steps.ensures;
       keyword = λ some. elim c.new-keyword.ensures [
         | inl none ↦ absurd (some none)
-        | inr (is, keyword) ↦ (subst (EntityNamed c.args.schema.now c.args.entity.0) (sym is) c.entity_name.ensures, subst IsKeyword (sym is) keyword)
+        | inr (is, keyword) ↦ (
+          subst (EntityNamed c.args.schema.now c.args.entity.0) (sym is) c.entity_name.ensures,
+          subst IsKeyword
+              (sym is) keyword,
+        )
       ];
     }

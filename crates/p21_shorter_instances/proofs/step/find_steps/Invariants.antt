@@ -7,4 +7,5 @@ use Rattle.p21_shorter_instances.proofs.step.find_steps.Given as goal
 
 -- the steps of the entities so far
 abbrev pub invariant-loop-owner : goal.invariant-loop-owner
-invariant-loop-owner l = AreStepsAt l.schema (order l.schema l.entity.0) (flat_map (own_places l.schema) (numbers (take l.owner-index l.owner-items))) l.steps.items
+invariant-loop-owner l = AreStepsAt l.schema (order l.schema l.entity.0)
+    (flat_map (own_places l.schema) (numbers (take l.owner-index l.owner-items))) l.steps.items

@@ -43,4 +43,5 @@ decreases-append_each-loop-next l = length l.behind
 
 abbrev pub invariant-append_each-loop-next : goal.invariant-append_each-loop-next
 invariant-append_each-loop-next l =
-    Along l.at.schema.now l.at.base.now l.at.optional l.compared l.at.most l.fn.bytes l.fn.lengths.items l.fn.taken l.count l.behind l.lengths.items l.taken × (l.count + length l.behind ≤ length l.fn.bytes + 1)
+    Along l.at.schema.now l.at.base.now l.at.optional l.compared l.at.most l.fn.bytes l.fn.lengths.items l.fn.taken l.count l.behind
+    l.lengths.items l.taken × (l.count + length l.behind ≤ length l.fn.bytes + 1)

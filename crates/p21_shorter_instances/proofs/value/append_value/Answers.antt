@@ -7,7 +7,8 @@ use Rattle.p21_values.proofs.Continuing.{continues-same}
 
 pub returns-in-Derived-clause-some : goal.returns-in-Derived-clause-some
 returns-in-Derived-clause-some c =
-    rw c.ok_or.ensures.value (ok-some _ _ (λ rest. star-taken c.args.schema.now c.args.step.now c.args.bytes.now rest.now c.args.taken.now _ c.in-Derived.is) c.append_delimiter.ensures.some)
+    rw c.ok_or.ensures.value (ok-some _ _ (λ rest. star-taken c.args.schema.now c.args.step.now c.args.bytes.now rest.now c.args.taken.now _
+    c.in-Derived.is) c.append_delimiter.ensures.some)
 
 pub returns-in-Derived-clause-draft : goal.returns-in-Derived-clause-draft
 returns-in-Derived-clause-draft c = rw c.ok_or.ensures.value (err-none _ _ (continues-same _ _) c.append_delimiter.ensures.none)
@@ -20,7 +21,8 @@ base_of-base-requires c = step-known c.args.schema.now c.args.step.now _ _ c.in-
 
 pub returns-in-Stored-clause-some : goal.returns-in-Stored-clause-some
 returns-in-Stored-clause-some c =
-    ok-to _ (λ rest. step-taken c.args.schema.now c.args.step.now _ _ _ c.args.bytes.now rest.now _ _ c.in-Stored.is c.base_of-base.ensures.has) c.append_stored.ensures.some
+    ok-to _ (λ rest. step-taken c.args.schema.now c.args.step.now _ _ _ c.args.bytes.now rest.now _ _ c.in-Stored.is
+    c.base_of-base.ensures.has) c.append_stored.ensures.some
 
 pub own_type-at-requires-clause-entity : goal.own_type-at-requires-clause-entity
 own_type-at-requires-clause-entity c = (placed-known c.args.schema.now c.args.step.now _ _ c.in-Placed.is c.requires).0
@@ -33,5 +35,7 @@ append_placed-requires c = known-at c.args.schema.now c.holds_together.ensures _
 
 pub returns-in_ok-count-in-Placed-clause-some : goal.returns-in_ok-count-in-Placed-clause-some
 returns-in_ok-count-in-Placed-clause-some c =
-    placed-taken c.args.schema.now c.holds_together.ensures c.args.step.now _ _ _ c.args.bytes.now _ _ _ c.in-Placed.is c.own_type-at.ensures
-    (rest-taken c.args.schema.now _ 64 c.args.bytes.now _ c.in_ok-count-in-Placed.count _ _ (rest_is c.args.bytes.now c.in_ok-count-in-Placed.count) c.in_ok-count-in-Placed.ensures.some.1)
+    placed-taken c.args.schema.now c.holds_together.ensures c.args.step.now _ _ _ c.args.bytes.now _ _ _ c.in-Placed.is
+    c.own_type-at.ensures
+    (rest-taken c.args.schema.now _ 64 c.args.bytes.now _ c.in_ok-count-in-Placed.count _ _
+    (rest_is c.args.bytes.now c.in_ok-count-in-Placed.count) c.in_ok-count-in-Placed.ensures.some.1)

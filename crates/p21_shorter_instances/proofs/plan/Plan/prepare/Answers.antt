@@ -3,13 +3,16 @@ use Rattle.p21_shorter_instances.specs.Steps.{IsPlanOf}
 use Rattle.p21_shorter_instances.proofs.plan.Plan.prepare.Goals as goal
 
 pub returns-in_err-put_row-clause-plan : goal.returns-in_err-put_row-clause-plan
-returns-in_err-put_row-clause-plan c = λ are. c.put_row.ensures c.args.schema.now (subst (IsPlanOf c.args.schema.now) (sym c.self.view_is) are) c.in_ok-row.ensures
+returns-in_err-put_row-clause-plan c = λ are. c.put_row.ensures c.args.schema.now
+    (subst (IsPlanOf c.args.schema.now) (sym c.self.view_is) are) c.in_ok-row.ensures
 
 pub returns-in_err-start-clause-plan : goal.returns-in_err-start-clause-plan
-returns-in_err-start-clause-plan c = λ are. c.put_row.ensures c.args.schema.now (subst (IsPlanOf c.args.schema.now) (sym c.self.view_is) are) c.in_ok-row.ensures
+returns-in_err-start-clause-plan c = λ are. c.put_row.ensures c.args.schema.now
+    (subst (IsPlanOf c.args.schema.now) (sym c.self.view_is) are) c.in_ok-row.ensures
 
 pub returns-clause-plan : goal.returns-clause-plan
-returns-clause-plan c = λ are. c.put_row.ensures c.args.schema.now (subst (IsPlanOf c.args.schema.now) (sym c.self.view_is) are) c.in_ok-row.ensures
+returns-clause-plan c = λ are. c.put_row.ensures c.args.schema.now (subst (IsPlanOf c.args.schema.now) (sym c.self.view_is) are)
+    c.in_ok-row.ensures
 
 pub returns-in_err-note_entity-clause-plan : goal.returns-in_err-note_entity-clause-plan
 returns-in_err-note_entity-clause-plan c = subst (IsPlanOf c.args.schema.now) (sym c.self.view_is)
