@@ -35,22 +35,33 @@ start-laid bytes lexemes e (open_comment inside, laid, is) same = elim is.0 [
   | inl own ↦ (let clash : Comment ≡ Between = ap (λ (s : State). s.mode) (sym own ∙ same) in cc)
   | inr own ↦ (let clash : Star ≡ Between = ap (λ (s : State). s.mode) (sym own ∙ same) in cc)
 ]
-start-laid bytes lexemes e (unfinished inside, laid, is) same = absurd (subst (λ (s : State). ModeFits s.mode s.pending_bytes s.characters inside) same is.0)
+start-laid bytes lexemes e (unfinished inside, laid, is) same =
+    absurd (subst (λ (s : State). ModeFits s.mode s.pending_bytes s.characters inside) same is.0)
 
 -- the parser holds no token of an open one
-all-given : (held : grammar_held.Held) (parsing : GrammarHistory) → grammar.Stands held parsing → parsing.refusal ≡ None → held.pending ≡ [] → parsing.taken ≡ flat_map statement_tokens parsing.given
+all-given : (held : grammar_held.Held) (parsing : GrammarHistory) → grammar.Stands held parsing → parsing.refusal ≡ None → held.pending ≡ []
+    → parsing.taken ≡ flat_map statement_tokens parsing.given
 unfolding grammar.Stands
 all-given held parsing stands alive none =
-    (stands.2 alive).taken_are ∙ (ap (λ (ts : List Token). flat_map statement_tokens parsing.given ++ ts) none ∙ append-nil (flat_map statement_tokens parsing.given))
+    (stands.2 alive).taken_are ∙ (ap (λ (ts : List Token). flat_map statement_tokens parsing.given ++ ts) none
+    ∙ append-nil (flat_map statement_tokens parsing.given))
 
--- so the bytes taken are whole statements, which are those given
-pub between-whole : (held : Held) (reading : StatementHistory) → IsBetweenStatements held → IsLive held reading → (lexemes : List Lexeme) × AreWhole reading.taken lexemes × (tokens_in lexemes ≡ flat_map statement_tokens reading.given)
+-- so the tokens given are those of the statements given
+pub between-given : (held : Held) (reading : StatementHistory) → IsBetweenStatements held → (live : IsLive held reading)
+    → live.history.given ≡ flat_map statement_tokens reading.given
+between-given held reading between live =
+    sym live.tokens_are
+    ∙ (all-given held.parser live.parsing live.parser live.parser_open between.parser.pending
+    ∙ ap (λ (sts : List Statement). flat_map statement_tokens sts) live.given_are)
+
+-- and the bytes taken are these whole statements
+pub between-whole : (held : Held) (reading : StatementHistory) → IsBetweenStatements held → IsLive held reading
+    → (lexemes : List Lexeme) × AreWhole reading.taken lexemes × (tokens_in lexemes ≡ flat_map statement_tokens reading.given)
 between-whole held reading between live =
     let own = lexer-live held.lexer live.history live.lexer live.lexer_open in
-    let laid : LaidAs live.history.taken own.lexemes = start-laid live.history.taken own.lexemes (state_of held.lexer) (live-laid held.lexer live.history own) between.lexer.start_is in
-    let given = all-given held.parser live.parsing live.parser live.parser_open between.parser.pending in
-    let are : tokens_in own.lexemes ≡ flat_map statement_tokens reading.given =
-    own.given_are ∙ (sym live.tokens_are ∙ (given ∙ ap (λ (sts : List Statement). flat_map statement_tokens sts) live.given_are)) in (
+    let laid : LaidAs live.history.taken own.lexemes =
+    start-laid live.history.taken own.lexemes (state_of held.lexer) (live-laid held.lexer live.history own) between.lexer.start_is in
+    let are : tokens_in own.lexemes ≡ flat_map statement_tokens reading.given = own.given_are ∙ between-given held reading between live in (
       own.lexemes,
       record {
         laid = subst (λ (bytes : List ℕ). LaidAs bytes own.lexemes) live.taken_are laid;

@@ -27,31 +27,39 @@ no-remark [] rest some none inside (lexemes, laid) = none-laid lexemes (open_com
 no-remark (b ∷ front) rest some none inside ends = some (λ same. cc) none
 
 pub refused-broken : BeginsNoneAlike → RefusedIsBroken
-refused-broken alike s limits known point held piece front behind more fault begins refused ended ahead_is gone in_data parts is opens at = record {
-  stood = record { before = refused.before; logs = refused.logs; stays = refused.stays; of_instance = inl ended };
-  state = is.is_front.state;
-  lexed = is.is_front.lexed;
-  to_end = λ none inside ends. absurd (no-remark front is.rest is.some (append_cancel_left front is.rest behind (sym is.bytes_are ∙ parts) ∙ none) inside ends);
-  next_in = next;
-}
+refused-broken alike s limits known point held piece front behind more fault begins refused ended ahead_is gone in_data parts is opens at =
+    record {
+      stood = record { before = refused.before; logs = refused.logs; stays = refused.stays; of_instance = inl ended };
+      state = is.is_front.state;
+      lexed = is.is_front.lexed;
+      to_end = λ none inside ends. absurd (no-remark front is.rest is.some
+          (append_cancel_left front is.rest behind (sym is.bytes_are ∙ parts) ∙ none) inside ends);
+      next_in = next;
+    }
   where
-    next : (file : List ℕ) → IsFileOf known file → IsNextIn s limits file point.read front behind more (fault_number fault) (at_statement (suc point.read.count)) begins
+    next : (file : List ℕ) → IsFileOf known file → IsNextIn s limits file point.read front behind more (fault_number fault)
+        (at_statement (suc point.read.count)) begins
     next file of =
         let (rest, file_is) = refused.logs.file_is file of in
         let bytes : List ℕ = held.buffer ++ piece in
         let here : file ≡ point.read.bytes ++ (bytes ++ (more ++ rest)) =
         file_is ∙ ap (λ (l : List ℕ). point.read.bytes ++ l)
-        (ap (λ (l : List ℕ). held.buffer ++ (l ++ rest)) ahead_is ∙ (ap (λ (l : List ℕ). held.buffer ++ l) (append_assoc piece more rest) ∙ sym (append_assoc held.buffer piece (more ++ rest)))) in
+        (ap (λ (l : List ℕ). held.buffer ++ (l ++ rest)) ahead_is
+        ∙ (ap (λ (l : List ℕ). held.buffer ++ l) (append_assoc piece more rest)
+        ∙ sym (append_assoc held.buffer piece (more ++ rest)))) in
         let (passes, statement_is) =
-        is-broken alike s limits known point held piece more fault refused ahead_is gone in_data front is file of (bytes ++ (more ++ rest)) here (opens.1 (more ++ rest)) in
+        is-broken alike s limits known point held piece more fault refused ahead_is gone in_data front is file of (bytes ++ (more ++ rest))
+        here (opens.1 (more ++ rest)) in
         let own : passes.statement ++ passes.behind ≡ front ++ (behind ++ (more ++ rest)) =
         append_cancel_left point.read.bytes (passes.statement ++ passes.behind) (front ++ (behind ++ (more ++ rest)))
-        (sym passes.next_are ∙ (here ∙ ap (λ (l : List ℕ). point.read.bytes ++ l) (ap (λ (l : List ℕ). l ++ (more ++ rest)) parts ∙ append_assoc front behind (more ++ rest)))) in
+        (sym passes.next_are ∙ (here ∙ ap (λ (l : List ℕ). point.read.bytes ++ l)
+        (ap (λ (l : List ℕ). l ++ (more ++ rest)) parts ∙ append_assoc front behind (more ++ rest)))) in
         record {
           to_pass = passes;
           statement_is = statement_is;
           rest = rest;
-          behind_are = append_cancel_left front passes.behind (behind ++ (more ++ rest)) (ap (λ (l : List ℕ). l ++ passes.behind) (sym statement_is) ∙ own);
+          behind_are = append_cancel_left front passes.behind (behind ++ (more ++ rest))
+              (ap (λ (l : List ℕ). l ++ passes.behind) (sym statement_is) ∙ own);
           begins_at = at file of;
         }
 
@@ -75,7 +83,8 @@ wrong-broken s limits known point held n record_ number begins logs ended last w
               next_are = file_is;
               in_data = in_data;
               no_end = opens.1 (point.ahead ++ rest);
-              why = wrong_record n record_ number own.statement_is (taking.begins s limits known held point (instance n record_) logs ended) wrong (inside (point.ahead ++ rest));
+              why = wrong_record n record_ number own.statement_is (taking.begins s limits known held point (instance n record_) logs ended)
+                  wrong (inside (point.ahead ++ rest));
             };
             statement_is = refl;
             rest = rest;
@@ -93,22 +102,28 @@ some-first file_begin rest = (73, (83 ∷ 79 ∷ 45 ∷ 49 ∷ 48 ∷ 51 ∷ 48 
 some-first file_end rest = (69, (78 ∷ 68 ∷ 45 ∷ 73 ∷ 83 ∷ 79 ∷ 45 ∷ 49 ∷ 48 ∷ 51 ∷ 48 ∷ 51 ∷ 45 ∷ 50 ∷ 49 ∷ []) ++ rest, refl)
 
 -- the reading goes by no signpost where none stands inside and none behind
-none-by : (before statement behind passed rest : List ℕ) (signpost : Signpost) → HasNoneInside statement behind → BeginsNoSignpost (before ++ statement) behind [] → GoesBy before statement behind passed signpost rest → ⊥
+none-by : (before statement behind passed rest : List ℕ) (signpost : Signpost) → HasNoneInside statement behind
+    → BeginsNoSignpost (before ++ statement) behind [] → GoesBy before statement behind passed signpost rest → ⊥
 none-by before statement behind passed _ signpost none none_behind (within_text _ _ left is first) = none passed signpost left is
 none-by before statement behind passed rest signpost none none_behind (further_on skipped _ _ none_inside first) =
     let (byte, back, same) = some-first signpost rest in
     none_behind skipped back byte signpost (first.bytes_are ∙ ap (λ (l : List ℕ). skipped ++ l) same)
-    (subst (λ (l : List ℕ). StandsAt ((before ++ statement) ++ skipped) l signpost) (same ∙ ap (λ (l : List ℕ). byte ∷ l) (sym (append-nil back))) first.stands)
+    (subst (λ (l : List ℕ). StandsAt ((before ++ statement) ++ skipped) l signpost)
+    (same ∙ ap (λ (l : List ℕ). byte ∷ l) (sym (append-nil back))) first.stands)
 
 pub sought-ends : SoughtEnds
 sought-ends s limits known point held statement behind number subject begins seeker broken sought file of file_is =
     let next = broken.next_in file of in
     let passes : IsToBePassed s limits file point.read number subject = next.to_pass in
-    let own : passes.statement ++ passes.behind ≡ statement ++ behind = append_cancel_left point.read.bytes (passes.statement ++ passes.behind) (statement ++ behind) (sym passes.next_are ∙ file_is) in
-    let behind_is : passes.behind ≡ behind = append_cancel_left statement passes.behind behind (ap (λ (l : List ℕ). l ++ passes.behind) (sym next.statement_is) ∙ own) in
+    let own : passes.statement ++ passes.behind ≡ statement ++ behind =
+    append_cancel_left point.read.bytes (passes.statement ++ passes.behind) (statement ++ behind) (sym passes.next_are ∙ file_is) in
+    let behind_is : passes.behind ≡ behind = append_cancel_left statement passes.behind behind
+    (ap (λ (l : List ℕ). l ++ passes.behind) (sym next.statement_is) ∙ own) in
     no_landmark number subject passes
     (λ passed rest signpost goes. absurd
-    (none-by point.read.bytes statement behind passed rest signpost (subst (λ (l : List ℕ). HasNoneInside statement l) (append-nil behind) (sought.1 [])) (none-whole (point.read.bytes ++ statement) behind seeker sought.0)
+    (none-by point.read.bytes statement behind passed rest signpost
+    (subst (λ (l : List ℕ). HasNoneInside statement l) (append-nil behind) (sought.1 []))
+    (none-whole (point.read.bytes ++ statement) behind seeker sought.0)
     (subst (λ (l : List ℕ). GoesBy point.read.bytes statement l passed signpost rest) behind_is
     (subst (λ (l : List ℕ). GoesBy point.read.bytes l passes.behind passed signpost rest) next.statement_is goes))))
 
@@ -119,4 +134,5 @@ too-far_ends s limits file read number subject within far =
     let over = far.over in
     let rest : List ℕ = signpost_bytes (landmark far.found) ++ far.rest in
     let front = passed-front read.bytes over.passes.statement over.passes.behind far.passed far.rest (landmark far.found) over.goes_by in
-    too_long far.passed rest (over.passes.next_are ∙ ap (λ (l : List ℕ). read.bytes ++ l) front) (elim far.too_many [ inl low ↦ low | inr many ↦ omega (arith, within, many) ])
+    too_long far.passed rest (over.passes.next_are ∙ ap (λ (l : List ℕ). read.bytes ++ l) front)
+    (elim far.too_many [ inl low ↦ low | inr many ↦ omega (arith, within, many) ])

@@ -15,14 +15,19 @@ by-last (x ∷ xs) = elim (by-last xs) [
 
 -- what some ends with, what stands before it ends with too
 pub ends-behind : (front bytes : List ℕ) (byte : ℕ) → EndsWith byte bytes → EndsWith byte (front ++ bytes)
-ends-behind front bytes byte (before, is) = (front ++ before, ap (λ (l : List ℕ). front ++ l) is ∙ sym (append_assoc front before (byte ∷ [])))
+ends-behind front bytes byte (before, is) = (
+  front ++ before,
+  ap (λ (l : List ℕ). front ++ l) is
+      ∙ sym (append_assoc front before (byte ∷ [])),
+)
 
 -- the last byte of two parts is that of the second one, unless this is empty
-ends-apart : (front bytes : List ℕ) (byte : ℕ) → EndsWith byte (front ++ bytes) → (bytes ≡ []) ⊎ EndsWith byte bytes
+pub ends-apart : (front bytes : List ℕ) (byte : ℕ) → EndsWith byte (front ++ bytes) → (bytes ≡ []) ⊎ EndsWith byte bytes
 ends-apart front bytes byte (before, is) = elim (by-last bytes) [
   | inl none ↦ inl none
   | inr (own, last, are) ↦ (
-      let whole : (front ++ own) ++ last ∷ [] ≡ before ++ byte ∷ [] = append_assoc front own (last ∷ []) ∙ (ap (λ (l : List ℕ). front ++ l) (sym are) ∙ is) in
+      let whole : (front ++ own) ++ last ∷ [] ≡ before ++ byte ∷ [] = append_assoc front own (last ∷ [])
+      ∙ (ap (λ (l : List ℕ). front ++ l) (sym are) ∙ is) in
       let same = same_from_push (front ++ own) before last byte whole in
       inr (own, are ∙ ap (λ (b : ℕ). own ++ b ∷ []) same.1))
 ]
@@ -31,9 +36,14 @@ ends-apart front bytes byte (before, is) = elim (by-last bytes) [
 one-separator : (separator : Separator) → IsSeparator separator → EndsWith 59 (separator_bytes separator) → ⊥
 one-separator (blank byte) is (front, ends) =
     let same = same_from_push [] front byte 59 ends in
-    elim is [ inl low ↦ let e = same.1 in absurd (omega (arith, low, e)) | inr delete ↦ let e = same.1 in absurd (omega (arith, delete, e)) ]
+    elim is [
+      | inl low ↦ let e = same.1 in absurd (omega (arith, low, e))
+      | inr delete ↦ let e = same.1 in
+          absurd (omega (arith, delete, e))
+    ]
 one-separator (comment inside) is (front, ends) =
-    let whole : (47 ∷ 42 ∷ (inside ++ (42 ∷ []))) ++ 47 ∷ [] ≡ front ++ 59 ∷ [] = ap (λ (l : List ℕ). 47 ∷ 42 ∷ l) (append_assoc inside (42 ∷ []) (47 ∷ [])) ∙ ends in
+    let whole : (47 ∷ 42 ∷ (inside ++ (42 ∷ []))) ++ 47 ∷ [] ≡ front ++ 59 ∷ [] =
+    ap (λ (l : List ℕ). 47 ∷ 42 ∷ l) (append_assoc inside (42 ∷ []) (47 ∷ [])) ∙ ends in
     let same = same_from_push (47 ∷ 42 ∷ (inside ++ (42 ∷ []))) front 47 59 whole in
     let e = same.1 in absurd (omega (arith, e))
 
@@ -44,7 +54,8 @@ no-bytes (b ∷ front) byte is = cc
 separators-end : (separators : List Separator) → Each IsSeparator separators → EndsWith 59 (flat_map separator_bytes separators) → ⊥
 separators-end [] are (front, ends) = no-bytes front 59 ends
 separators-end (one ∷ separators) are ends = elim (ends-apart (separator_bytes one) (flat_map separator_bytes separators) 59 ends) [
-  | inl none ↦ one-separator one are.0 (subst (EndsWith 59) (ap (λ (l : List ℕ). separator_bytes one ++ l) none ∙ append-nil (separator_bytes one)) ends)
+  | inl none ↦ one-separator one are.0 (subst (EndsWith 59)
+      (ap (λ (l : List ℕ). separator_bytes one ++ l) none ∙ append-nil (separator_bytes one)) ends)
   | inr further ↦ separators-end separators are.1 further
 ]
 

@@ -16,7 +16,8 @@ use Rattle.p21_tokens_automaton.specs.Meaning.{MeanAll}
 use Rattle.p21_tokens_automaton.specs.Reading.{Answer, SizedToken}
 
 -- the history behind the last bytes, of which no token is given
-module _ (statement rest : List ℕ) (held next : Held) (count : ℕ) (gives : NextGives held rest (Ok (count, None)) next) (all : count ≡ length rest) (along : Along statement rest held) where
+module _ (statement rest : List ℕ) (held next : Held) (count : ℕ) (gives : NextGives held rest (Ok (count, None)) next)
+    (all : count ≡ length rest) (along : Along statement rest held) where
   abbrev history : TokenHistory
   history = along.history
 

@@ -41,13 +41,17 @@ data-stays stage.Named q (section (data_start heading)) here other is = absurd c
 data-stays stage.Named q (header part) here other is = absurd cc
 data-stays _ q st here other is = absurd cc
 
-data-stays_all : (sts : List Statement) (p q : Stage) → is_in_data p ≡ true → ¬ Contains sts (section section_end) → walk sts p ≡ Ok q → is_in_data q ≡ true
+data-stays_all : (sts : List Statement) (p q : Stage) → is_in_data p ≡ true → ¬ Contains sts (section section_end) → walk sts p ≡ Ok q
+    → is_in_data q ≡ true
 data-stays_all [] p q here none is = ap is_in_data (sym (same-stage p q is)) ∙ here
 data-stays_all (st ∷ sts) p q here none is = by (λ next. data-stays_all sts next q) (after p st) refl is
   where
-    by : ((next : Stage) → is_in_data next ≡ true → ¬ Contains sts (section section_end) → walk sts next ≡ Ok q → is_in_data q ≡ true) → (found : Result Stage GrammarFault) → after p st ≡ found → then_walk (walk sts) found ≡ Ok q → is_in_data q ≡ true
+    by : ((next : Stage) → is_in_data next ≡ true → ¬ Contains sts (section section_end) → walk sts next ≡ Ok q → is_in_data q ≡ true)
+        → (found : Result Stage GrammarFault) → after p st ≡ found → then_walk (walk sts) found ≡ Ok q → is_in_data q ≡ true
     by deeper (Ok next) first rest =
-        deeper next (data-stays p next st here (λ same. none (subst (λ (x : Statement). Contains (st ∷ sts) x) same (Contains-first st sts))) first) (λ later. none (Contains-later st sts (section section_end) later)) rest
+        deeper next (data-stays p next st here (λ same. none
+        (subst (λ (x : Statement). Contains (st ∷ sts) x) same (Contains-first st sts))) first)
+        (λ later. none (Contains-later st sts (section section_end) later)) rest
     by deeper (Err fault) first rest = absurd cc
 
 -- the stage between some statements and others
@@ -55,16 +59,19 @@ walk-between : (sts others : List Statement) (p q : Stage) → walk (sts ++ othe
 walk-between [] others p q is = (p, is)
 walk-between (st ∷ sts) others p q is = by (λ next. walk-between sts others next q) (after p st) is
   where
-    by : ((next : Stage) → walk (sts ++ others) next ≡ Ok q → (r : Stage) × (walk others r ≡ Ok q)) → (found : Result Stage GrammarFault) → then_walk (walk (sts ++ others)) found ≡ Ok q → (r : Stage) × (walk others r ≡ Ok q)
+    by : ((next : Stage) → walk (sts ++ others) next ≡ Ok q → (r : Stage) × (walk others r ≡ Ok q)) → (found : Result Stage GrammarFault)
+        → then_walk (walk (sts ++ others)) found ≡ Ok q → (r : Stage) × (walk others r ≡ Ok q)
     by deeper (Ok next) rest = deeper next rest
     by deeper (Err fault) rest = absurd cc
 
 pub data-stage : (given : List Statement) (q : Stage) → IsInData given → walk given stage.Start ≡ Ok q → is_in_data q ≡ true
 data-stage given q is leads =
-    let (r, rest) = walk-between is.before (section (data_start is.heading) ∷ is.instances) stage.Start q (subst (λ (sts : List Statement). walk sts stage.Start ≡ Ok q) is.given_are leads) in
+    let (r, rest) = walk-between is.before (section (data_start is.heading) ∷ is.instances) stage.Start q
+    (subst (λ (sts : List Statement). walk sts stage.Start ≡ Ok q) is.given_are leads) in
     by r (after r (section (data_start is.heading))) refl rest
   where
-    by : (r : Stage) (found : Result Stage GrammarFault) → after r (section (data_start is.heading)) ≡ found → then_walk (walk is.instances) found ≡ Ok q → is_in_data q ≡ true
+    by : (r : Stage) (found : Result Stage GrammarFault) → after r (section (data_start is.heading)) ≡ found
+        → then_walk (walk is.instances) found ≡ Ok q → is_in_data q ≡ true
     by r (Ok next) first rest = data-stays_all is.instances next q (data-on r next is.heading first) is.no_end rest
     by r (Err fault) first rest = absurd cc
 
@@ -73,5 +80,6 @@ tells-data stands held found found_is s limits known point stood =
     let began = stood.logs.began in
     let same = stage-is s limits known point held stood in (
       λ yes. stands began.earlier _ began.was_live (ap is_in_data same ∙ (sym found_is ∙ yes)),
-      λ open_. found_is ∙ (ap is_in_data (sym same) ∙ data-stage point.read.given began.earlier.parser.stage open_ (reader-leads began.earlier _ began.was_live)),
+      λ open_. found_is ∙ (ap is_in_data (sym same) ∙ data-stage point.read.given began.earlier.parser.stage open_
+          (reader-leads began.earlier _ began.was_live)),
     )

@@ -33,16 +33,19 @@ no-tokens [] t is = cc
 no-tokens (u ∷ ts) t is = cc
 
 -- behind the separators a token begins, and with more bytes behind it too
-token-first : (buffer rest : List ℕ) (lexemes : List Lexeme) (statement : Statement) → PassesSeparators buffer rest → LaidAs buffer lexemes → tokens_in lexemes ≡ statement_tokens statement → BeginsWithNoSeparator rest
+token-first : (buffer rest : List ℕ) (lexemes : List Lexeme) (statement : Statement) → PassesSeparators buffer rest → LaidAs buffer lexemes
+    → tokens_in lexemes ≡ statement_tokens statement → BeginsWithNoSeparator rest
 token-first buffer rest [] statement passes laid are = absurd (no-tokens (unended statement) semicolon (are ∙ statement-ends statement))
 token-first buffer rest (x ∷ lexemes) statement passes (gap, spelling, others, is, separates, spells, size, followed, laid) are =
     let first : BeginsWithNoSeparator (spelling ++ others) = begins-on spelling others (spelling_begins x.token spelling spells) in
-    let same : rest ≡ spelling ++ others = gap-one passes.gap gap rest (spelling ++ others) passes.is_gap separates passes.ends (begins-no_separator (spelling ++ others) first) (sym passes.bytes_are ∙ is) in
+    let same : rest ≡ spelling ++ others = gap-one passes.gap gap rest (spelling ++ others) passes.is_gap separates passes.ends
+    (begins-no_separator (spelling ++ others) first) (sym passes.bytes_are ∙ is) in
     subst BeginsWithNoSeparator (sym same) first
 
 -- ---- a signpost in a string
 
-inside-some : (statement behind : List ℕ) (place : ℕ) (signpost : Signpost) → StandsInString statement place signpost → ¬ HasNoneInside statement behind
+inside-some : (statement behind : List ℕ) (place : ℕ) (signpost : Signpost) → StandsInString statement place signpost
+    → ¬ HasNoneInside statement behind
 inside-some statement behind place signpost is none = none (take place statement) signpost is.stands.rest (record {
   bytes_are = sym (take-append-drop place statement) ∙ ap (λ (l : List ℕ). take place statement ++ l) is.stands.bytes_are;
   stands = subst (λ (l : List ℕ). StandsAt (take place statement) l signpost) is.stands.bytes_are is.stands;
@@ -57,7 +60,8 @@ FindsLexed statement found = (behind : State) → AreLexed statement behind → 
 
 module _ (s : Schema) (limits : Limits) (known : Known) (held : Held) (point : Point) (logs : Logs s limits known held point) where
   -- where its statement begins in each file
-  begins-at : (statement : Statement) → point.ended ≡ statement ∷ [] → EndsWith 59 held.buffer → (start : ℕ) → BeginsBehind held start → (file : List ℕ) → IsFileOf known file → BeginsAt file point.read start
+  begins-at : (statement : Statement) → point.ended ≡ statement ∷ [] → EndsWith 59 held.buffer → (start : ℕ) → BeginsBehind held start
+      → (file : List ℕ) → IsFileOf known file → BeginsAt file point.read start
   begins-at statement ended last start behind file of =
       let own = has-ended s limits known held point statement logs ended last in
       let (rest, is) = next-is s limits known held point statement logs ended file of in
@@ -67,9 +71,11 @@ module _ (s : Schema) (limits : Limits) (known : Known) (held : Held) (point : P
       record {
         gap = gap;
         rest = behind.rest ++ rest;
-        file_is = is ∙ ap (λ (l : List ℕ). point.read.bytes ++ l) (ap (λ (l : List ℕ). l ++ rest) bytes ∙ append_assoc gap behind.rest rest);
+        file_is = is ∙ ap (λ (l : List ℕ). point.read.bytes ++ l)
+            (ap (λ (l : List ℕ). l ++ rest) bytes ∙ append_assoc gap behind.rest rest);
         separates = behind.passes.is_gap;
-        no_more = λ separator more separates same. begins-no_separator (behind.rest ++ rest) (begins-on behind.rest rest first) separator more separates same;
+        no_more = λ separator more separates same. begins-no_separator (behind.rest ++ rest) (begins-on behind.rest rest first) separator
+            more separates same;
         begins_is =
             let place = place-live held.reader logs.history logs.live in
             let taken = ap length logs.taken_are in
@@ -82,26 +88,38 @@ module _ (s : Schema) (limits : Limits) (known : Known) (held : Held) (point : P
             omega (arith, place, taken, all, size, parts, sum, wanted, is_);
       }
 
-  left-out : JoinedIsLaid → (n : ℕ) (record_ : Record) (number start : ℕ) → point.ended ≡ instance n record_ ∷ [] → EndsWith 59 held.buffer → IsRefusedInstance s point.read.given n record_ number → FindsLexed held.buffer None → BeginsBehind held start → (new : Held)
+  left-out : JoinedIsLaid → (n : ℕ) (record_ : Record) (number start : ℕ) → point.ended ≡ instance n record_ ∷ [] → EndsWith 59 held.buffer
+      → IsRefusedInstance s point.read.given n record_ number → FindsLexed held.buffer None → BeginsBehind held start → (new : Held)
       → Closes held new → Logs s limits known new (behind_left_out point held.buffer n record_ number start)
   left-out joined n record_ number start ended last wrong found behind new closes =
       let own = has-ended s limits known held point (instance n record_) logs ended last in
       let (state, lexed) = laid-lexed held.buffer own.more own.whole.laid in
-      let read : (file : List ℕ) → IsFileOf known file → IsRead s limits file (leaving_out point.read held.buffer n record_ number start) = λ file of.
+      let read : (file : List ℕ) → IsFileOf known file → IsRead s limits file (leaving_out point.read held.buffer n record_ number start) =
+      λ file of.
       let (rest, is) = next-is s limits known held point (instance n record_) logs ended file of in
-      leaves_out point.read held.buffer rest n record_ number start (logs.is_read file of) is own.statement_is (begins s limits known held point (instance n record_) logs ended) wrong
-      (none-inside held.buffer rest own.more own.whole (found state lexed)) (begins-at (instance n record_) ended last start behind file of) in
-      closed-logs s limits known held point (instance n record_) logs ended joined last (leaving_out point.read held.buffer n record_ number start) refl refl refl read new closes
+      leaves_out point.read held.buffer rest n record_ number start (logs.is_read file of) is own.statement_is
+      (begins s limits known held point (instance n record_) logs ended) wrong
+      (none-inside held.buffer rest own.more own.whole (found state lexed))
+      (begins-at (instance n record_) ended last start behind file of) in
+      closed-logs s limits known held point (instance n record_) logs ended joined last
+      (leaving_out point.read held.buffer n record_ number start) refl refl refl read new closes
 
-  some-inside : (statement : Statement) (behind : List ℕ) (place : ℕ) (own : code.Signpost) → point.ended ≡ statement ∷ [] → EndsWith 59 held.buffer → FindsLexed held.buffer (Some (place, own)) → ¬ HasNoneInside held.buffer behind
+  some-inside : (statement : Statement) (behind : List ℕ) (place : ℕ) (own : code.Signpost) → point.ended ≡ statement ∷ []
+      → EndsWith 59 held.buffer → FindsLexed held.buffer (Some (place, own)) → ¬ HasNoneInside held.buffer behind
   some-inside statement behind place answer ended last found =
       let own = has-ended s limits known held point statement logs ended last in
       let (state, lexed) = laid-lexed held.buffer own.more own.whole.laid in
       let ((signpost, stands, describes), first) = found state lexed in
       inside-some held.buffer behind place signpost stands
 
-pub left-out-gives : JoinedIsLaid → (old new : Held) (start : ℕ) → FindsLexed old.buffer None → BeginsBehind old start → Closes old new → LeaveOutGives old (Some start) new
-left-out-gives joined old new start found behind closes s limits known point n record_ number logs ended last wrong = left-out s limits known old point logs joined n record_ number start ended last wrong found behind new closes
+pub left-out-gives : JoinedIsLaid → (old new : Held) (start : ℕ) → FindsLexed old.buffer None → BeginsBehind old start → Closes old new
+    → LeaveOutGives old (Some start) new
+left-out-gives joined old new start found behind closes s limits known point n record_ number logs ended last wrong =
+    left-out s limits known old point logs joined n record_ number start ended last wrong found behind new closes
 
 pub left-inside : (old new : Held) (found : ℕ × code.Signpost) → FindsLexed old.buffer (Some found) → new ≡ old → LeaveOutGives old None new
-left-inside old new (place, own) found same = (same, λ s limits known point statement behind logs ended last. some-inside s limits known old point logs statement behind place own ended last found)
+left-inside old new (place, own) found same = (
+  same,
+  λ s limits known point statement behind logs ended last. some-inside s limits known old
+      point logs statement behind place own ended last found,
+)

@@ -1,5 +1,7 @@
 pub mod Between
 pub mod Ends
+pub mod Moving
+pub mod Offered
 pub mod Stepping
 pub mod Taking
 pub mod LeavingOut
@@ -12,5 +14,7 @@ pub mod Passages
 pub mod BrokenBy
 pub mod InSection
 pub mod Told
+pub mod Bounds
 pub mod Ending
 pub mod Endings
+pub mod Boundless

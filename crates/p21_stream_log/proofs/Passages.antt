@@ -29,29 +29,45 @@ use Rattle.p21_tokens_automaton.specs.Reading.{State}
 
 -- they stand in a string of it, or in the remark in which the file ends
 abbrev StandsInText : List ℕ → List ℕ → ℕ → Signpost → Type 0
-StandsInText statement behind place signpost = StandsInString statement place signpost ⊎ ((behind ≡ []) × StandsInRemark statement place signpost)
+StandsInText statement behind place signpost = StandsInString statement place signpost
+    ⊎ ((behind ≡ []) × StandsInRemark statement place signpost)
 
-inside-stands : (statement behind front rest : List ℕ) (signpost : Signpost) → IsInside statement behind front signpost rest → StandsInText statement behind (length front) signpost
+inside-stands : (statement behind front rest : List ℕ) (signpost : Signpost) → IsInside statement behind front signpost rest
+    → StandsInText statement behind (length front) signpost
 inside-stands statement behind front rest signpost is =
     let tail : List ℕ = signpost_bytes signpost ++ rest in
-    let first : take (length front) statement ≡ front = ap (λ (l : List ℕ). take (length front) l) is.bytes_are ∙ take_at front tail (length front) refl in
-    let further : drop (length front) statement ≡ tail = ap (λ (l : List ℕ). drop (length front) l) is.bytes_are ∙ drop_at front tail (length front) refl in
-    let within : length front ≤ length statement = (let size = ap length is.bytes_are in let sum = length-append front tail in omega (arith, size, sum)) in
+    let first : take (length front) statement ≡ front = ap (λ (l : List ℕ). take (length front) l) is.bytes_are
+    ∙ take_at front tail (length front) refl in
+    let further : drop (length front) statement ≡ tail = ap (λ (l : List ℕ). drop (length front) l) is.bytes_are
+    ∙ drop_at front tail (length front) refl in
+    let within : length front ≤ length statement = (let size = ap length is.bytes_are in let sum = length-append front tail in
+    omega (arith, size, sum)) in
     let stands : StandsAt (take (length front) statement) (drop (length front) statement) signpost =
-    subst (λ (l : List ℕ). StandsAt l (drop (length front) statement) signpost) (sym first) (subst (λ (l : List ℕ). StandsAt front l signpost) (sym further) is.stands) in
+    subst (λ (l : List ℕ). StandsAt l (drop (length front) statement) signpost) (sym first)
+    (subst (λ (l : List ℕ). StandsAt front l signpost) (sym further) is.stands) in
     elim is.in_text [
       | inl in_string ↦ inl (record { within = within; in_string = subst EndsInString (sym first) in_string; stands = stands })
-      | inr (nothing, open_) ↦ inr (nothing, record { within = within; in_remark = subst (λ (l : List ℕ). IsInOpenRemark l statement) (sym first) open_; stands = stands })
+      | inr (nothing, open_) ↦ inr (
+        nothing,
+        record {
+          within = within;
+          in_remark =
+              subst (λ (l : List ℕ). IsInOpenRemark l statement) (sym first) open_;
+          stands = stands;
+        },
+      )
     ]
 
-pub none-in-front : (statement behind : List ℕ) → FindsInString statement None → (behind ≡ [] → FindsInRemark statement None) → HasNoneInside statement behind
+pub none-in-front : (statement behind : List ℕ) → FindsInString statement None → (behind ≡ [] → FindsInRemark statement None)
+    → HasNoneInside statement behind
 none-in-front statement behind none none_open front signpost rest is = elim (inside-stands statement behind front rest signpost is) [
   | inl there ↦ none (length front) signpost there
   | inr (nothing, there) ↦ none_open nothing (length front) signpost there
 ]
 
 -- what is found in the remark where none stands in a string
-pub found-in_remark : (statement behind : List ℕ) (found : Option (ℕ × code.Signpost)) → FindsInString statement None → behind ≡ [] → FindsInRemark statement found → FindsInside statement behind found
+pub found-in_remark : (statement behind : List ℕ) (found : Option (ℕ × code.Signpost)) → FindsInString statement None → behind ≡ []
+    → FindsInRemark statement found → FindsInside statement behind found
 found-in_remark statement behind None none nothing open_ = (none, λ _. open_)
 found-in_remark statement behind (Some first) none nothing open_ = inr (none, nothing, open_)
 
@@ -75,15 +91,19 @@ opened-further before bytes is = record {
 pub record PassesTo (comes : List ℕ → Type 0) (before statement behind : List ℕ) (count : ℕ) (signpost : Signpost) : Type 0 where
   pub within : count ≤ length (statement ++ behind)
   pub opened : IsOpened (before ++ take count (statement ++ behind))
-  pub goes : (more : List ℕ) → comes more → (last : List ℕ) × GoesBy before statement (behind ++ more) (take count (statement ++ behind)) signpost last
+  pub goes : (more : List ℕ) → comes more → (last : List ℕ)
+      × GoesBy before statement (behind ++ more) (take count (statement ++ behind)) signpost last
 
 abbrev whatever : List ℕ → Type 0
 whatever more = Unit {0}
 
 -- in a string of it, or in the remark in which it ends
-module _ (comes : List ℕ → Type 0) (before statement behind : List ℕ) (place : ℕ) (signpost : Signpost) (within : place ≤ length statement) (stands : StandsAt (take place statement) (drop place statement) signpost)
-    (in_text : (more : List ℕ) → comes more → EndsInString (take place statement) ⊎ ((behind ++ more ≡ []) × IsInOpenRemark (take place statement) statement))
-    (first : (more : List ℕ) → comes more → (earlier : ℕ) (other : Signpost) → StandsInText statement (behind ++ more) earlier other → place ≤ earlier) where
+module _ (comes : List ℕ → Type 0) (before statement behind : List ℕ) (place : ℕ) (signpost : Signpost) (within : place ≤ length statement)
+    (stands : StandsAt (take place statement) (drop place statement) signpost)
+    (in_text : (more : List ℕ) → comes more → EndsInString (take place statement)
+    ⊎ ((behind ++ more ≡ []) × IsInOpenRemark (take place statement) statement))
+    (first : (more : List ℕ) → comes more → (earlier : ℕ) (other : Signpost) → StandsInText statement (behind ++ more) earlier other
+    → place ≤ earlier) where
   abbrev text_front : List ℕ
   text_front = take place statement
 
@@ -95,7 +115,8 @@ module _ (comes : List ℕ → Type 0) (before statement behind : List ℕ) (pla
 
   same-text : take place (statement ++ behind) ≡ text_front
   same-text =
-      ap (λ (l : List ℕ). take place l) (ap (λ (l : List ℕ). l ++ behind) (sym (take-append-drop place statement)) ∙ append_assoc text_front text_rest behind) ∙ take_at text_front (text_rest ++ behind) place text-size
+      ap (λ (l : List ℕ). take place l) (ap (λ (l : List ℕ). l ++ behind) (sym (take-append-drop place statement))
+      ∙ append_assoc text_front text_rest behind) ∙ take_at text_front (text_rest ++ behind) place text-size
 
   text-passes : PassesTo comes before statement behind place signpost
   text-passes = record {
@@ -117,7 +138,9 @@ module _ (comes : List ℕ → Type 0) (before statement behind : List ℕ) (pla
     );
   }
 
-string-passes : (before statement behind : List ℕ) (place : ℕ) (own : code.Signpost) (state : State) → AreLexed statement state → FindsInString statement (Some (place, own)) → (signpost : Signpost) × Describes own signpost × PassesTo whatever before statement behind place signpost
+string-passes : (before statement behind : List ℕ) (place : ℕ) (own : code.Signpost) (state : State) → AreLexed statement state
+    → FindsInString statement (Some (place, own)) → (signpost : Signpost) × Describes own signpost
+    × PassesTo whatever before statement behind place signpost
 string-passes before statement behind place own state lexed ((signpost, stands, describes), first) = (
   signpost,
   describes,
@@ -131,18 +154,27 @@ string-passes before statement behind place own state lexed ((signpost, stands, 
       ]),
 )
 
-remark-passes : (before statement behind : List ℕ) (place : ℕ) (own : code.Signpost) → behind ≡ [] → FindsInString statement None → FindsInRemark statement (Some (place, own))
-    → (signpost : Signpost) × Describes own signpost × PassesTo (λ more. more ≡ []) before statement behind place signpost × ((inside : List ℕ) × EndsInRemark statement inside)
+remark-passes : (before statement behind : List ℕ) (place : ℕ) (own : code.Signpost) → behind ≡ [] → FindsInString statement None
+    → FindsInRemark statement (Some (place, own))
+    → (signpost : Signpost) × Describes own signpost × PassesTo (λ more. more ≡ []) before statement behind place signpost
+    × ((inside : List ℕ) × EndsInRemark statement inside)
 remark-passes before statement behind place own nothing none ((signpost, stands, describes), first) = (
   signpost,
   describes,
-  text-passes (λ more. more ≡ []) before statement behind place signpost stands.within stands.stands (λ more come. inr (ap (λ (l : List ℕ). l ++ more) nothing ∙ come, stands.in_remark))
-      (λ more come earlier other there. elim there [ inl in_string ↦ absurd (none earlier other in_string) | inr (no_bytes, open_) ↦ first earlier other open_ ]),
+  text-passes (λ more. more ≡ []) before statement behind place signpost stands.within stands.stands
+      (λ more come. inr (ap (λ (l : List ℕ). l ++ more) nothing ∙ come, stands.in_remark))
+      (λ more come earlier other there. elim there [
+        | inl in_string ↦ absurd (none earlier other in_string)
+        | inr (no_bytes, open_) ↦ first
+            earlier other open_
+      ]),
   (let (inside, more, are, begun, ends) = stands.in_remark in (inside ++ more, ends)),
 )
 
 -- behind it, where a seeker has taken these bytes and then some of a piece
-module _ (before statement behind piece : List ℕ) (last : ℕ) (own : code.Signpost) (held : seeking.Held) (low : last < length piece) (none : (more : List ℕ) → HasNoneInside statement ((behind ++ piece) ++ more)) (is : IsFound (before ++ statement) behind piece last own held)
+module _ (before statement behind piece : List ℕ) (last : ℕ) (own : code.Signpost) (held : seeking.Held) (low : last < length piece)
+    (none : (more : List ℕ) → HasNoneInside statement ((behind ++ piece) ++ more))
+    (is : IsFound (before ++ statement) behind piece last own held)
     (count : ℕ) (count_is : count ≡ length (statement ++ behind) + (last + 1) - length held.begun) where
   abbrev piece_front : List ℕ
   piece_front = take (last + 1) piece
@@ -157,7 +189,8 @@ module _ (before statement behind piece : List ℕ) (last : ℕ) (own : code.Sig
   front = statement ++ is.skipped
 
   taken-is : behind ++ piece_front ≡ is.skipped ++ sign
-  taken-is = ap (λ (l : List ℕ). behind ++ l) (sym (append-nil piece_front)) ∙ ((is.first []).bytes_are ∙ ap (λ (l : List ℕ). is.skipped ++ l) (append-nil sign))
+  taken-is = ap (λ (l : List ℕ). behind ++ l) (sym (append-nil piece_front))
+      ∙ ((is.first []).bytes_are ∙ ap (λ (l : List ℕ). is.skipped ++ l) (append-nil sign))
 
   whole-is : statement ++ (behind ++ piece) ≡ front ++ (sign ++ left)
   whole-is =
@@ -182,18 +215,26 @@ module _ (before statement behind piece : List ℕ) (last : ℕ) (own : code.Sig
 
   seeker-passes : PassesTo whatever before statement (behind ++ piece) count is.signpost
   seeker-passes = record {
-    within = let all = ap length whole-is in let sum = length-append front (sign ++ left) in let size = front-size in omega (arith, all, sum, size);
-    opened = subst (λ (l : List ℕ). IsOpened (before ++ l)) (sym same-front) (subst IsOpened (append_assoc before statement is.skipped) (is.first []).stands.opened);
+    within = let all = ap length whole-is in let sum = length-append front (sign ++ left) in let size = front-size in
+        omega (arith, all, sum, size);
+    opened = subst (λ (l : List ℕ). IsOpened (before ++ l)) (sym same-front)
+        (subst IsOpened (append_assoc before statement is.skipped) (is.first []).stands.opened);
     goes = λ more come.
         let first : IsFirstSignpost (before ++ statement) ((behind ++ piece) ++ more) is.skipped is.signpost (left ++ more) =
         subst (λ (l : List ℕ). IsFirstSignpost (before ++ statement) l is.skipped is.signpost (left ++ more))
-        (ap (λ (l : List ℕ). behind ++ l) (sym (append_assoc piece_front left more) ∙ ap (λ (l : List ℕ). l ++ more) (take-append-drop (last + 1) piece)) ∙ sym (append_assoc behind piece more)) (is.first (left ++ more)) in
-        (left ++ more, subst (λ (l : List ℕ). GoesBy before statement ((behind ++ piece) ++ more) l is.signpost (left ++ more)) (sym same-front) (further_on is.skipped is.signpost (left ++ more) (none more) first));
+        (ap (λ (l : List ℕ). behind ++ l) (sym (append_assoc piece_front left more)
+        ∙ ap (λ (l : List ℕ). l ++ more) (take-append-drop (last + 1) piece)) ∙ sym (append_assoc behind piece more))
+        (is.first (left ++ more)) in (
+          left ++ more,
+          subst (λ (l : List ℕ). GoesBy before statement ((behind ++ piece) ++ more) l is.signpost (left ++ more))
+              (sym same-front) (further_on is.skipped is.signpost (left ++ more) (none more) first),
+        );
   }
 
   -- what stands behind the bytes that are passed are those of the signpost, and the rest of the piece
   seeker-ahead : drop count (statement ++ (behind ++ piece)) ≡ held.begun ++ left
-  seeker-ahead = ap (λ (l : List ℕ). drop count l) whole-is ∙ (drop_at front (sign ++ left) count front-size ∙ ap (λ (l : List ℕ). l ++ left) (sym is.bytes_are))
+  seeker-ahead = ap (λ (l : List ℕ). drop count l) whole-is
+      ∙ (drop_at front (sign ++ left) count front-size ∙ ap (λ (l : List ℕ). l ++ left) (sym is.bytes_are))
 
 -- ---- signposts of files
 
@@ -207,7 +248,8 @@ mark-of variant.FileEnd file_begin describes mark = absurd describes
 mark-of (variant.Instance name blanks) signpost describes mark = absurd mark
 mark-of (variant.SectionEnd blanks) signpost describes mark = absurd mark
 
-no-mark : (own : code.Signpost) (signpost : Signpost) → Describes own signpost → (IsMark own → ⊥) → (other : Landmark) × (signpost ≡ landmark other)
+no-mark : (own : code.Signpost) (signpost : Signpost) → Describes own signpost → (IsMark own → ⊥)
+    → (other : Landmark) × (signpost ≡ landmark other)
 no-mark variant.FileBegin signpost describes none = absurd (none tt)
 no-mark variant.FileEnd signpost describes none = absurd (none tt)
 no-mark (variant.Instance name blanks) (landmark other) describes none = (other, refl)
@@ -218,13 +260,17 @@ no-mark (variant.SectionEnd blanks) file_begin describes none = absurd describes
 no-mark (variant.SectionEnd blanks) file_end describes none = absurd describes
 
 -- where the bytes of one stand, no landmark does
-mark-same : (one other : Signpost) (rest other_rest : List ℕ) → IsFileMark one → signpost_bytes one ++ rest ≡ signpost_bytes other ++ other_rest → IsFileMark other
+mark-same : (one other : Signpost) (rest other_rest : List ℕ) → IsFileMark one
+    → signpost_bytes one ++ rest ≡ signpost_bytes other ++ other_rest → IsFileMark other
 mark-same (landmark l) other rest other_rest mark same = absurd mark
 mark-same one file_begin rest other_rest mark same = tt
 mark-same one file_end rest other_rest mark same = tt
-mark-same file_begin (landmark (landmarks.instance digits blanks)) rest other_rest mark same = let h : 73 ≡ 35 = head_is 73 35 _ _ same in omega (arith, h)
-mark-same file_begin (landmark (landmarks.section_end blanks)) rest other_rest mark same = let h : 73 ≡ 69 = head_is 73 69 _ _ same in omega (arith, h)
-mark-same file_end (landmark (landmarks.instance digits blanks)) rest other_rest mark same = let h : 69 ≡ 35 = head_is 69 35 _ _ same in omega (arith, h)
+mark-same file_begin (landmark (landmarks.instance digits blanks)) rest other_rest mark same = let h : 73 ≡ 35 = head_is 73 35 _ _ same in
+    omega (arith, h)
+mark-same file_begin (landmark (landmarks.section_end blanks)) rest other_rest mark same = let h : 73 ≡ 69 = head_is 73 69 _ _ same in
+    omega (arith, h)
+mark-same file_end (landmark (landmarks.instance digits blanks)) rest other_rest mark same = let h : 69 ≡ 35 = head_is 69 35 _ _ same in
+    omega (arith, h)
 mark-same file_end (landmark (landmarks.section_end blanks)) rest other_rest mark same =
     let second = tail_is 69 69 _ _ same in
     let third = tail_is 78 78 _ _ second in
@@ -233,8 +279,10 @@ mark-same file_end (landmark (landmarks.section_end blanks)) rest other_rest mar
 
 -- ---- a log
 
-module _ (s : Schema) (limits : Limits) (known : Known) (point : Point) (old : Held) (statement behind more : List ℕ) (number : ℕ) (subject : Subject) (begins : ℕ) (broken : IsBrokenBy s limits known point old statement behind more number subject begins) (count : ℕ)
-    (signpost : Signpost) (comes : List ℕ → Type 0) (come : (file : List ℕ) (of : IsFileOf known file) → comes (more ++ (broken.next_in file of).rest)) (passes : PassesTo comes point.read.bytes statement behind count signpost) where
+module _ (s : Schema) (limits : Limits) (known : Known) (point : Point) (old : Held) (statement behind more : List ℕ) (number : ℕ)
+    (subject : Subject) (begins : ℕ) (broken : IsBrokenBy s limits known point old statement behind more number subject begins) (count : ℕ)
+    (signpost : Signpost) (comes : List ℕ → Type 0) (come : (file : List ℕ) (of : IsFileOf known file)
+    → comes (more ++ (broken.next_in file of).rest)) (passes : PassesTo comes point.read.bytes statement behind count signpost) where
   abbrev all_bytes : List ℕ
   all_bytes = statement ++ behind
 
@@ -242,7 +290,9 @@ module _ (s : Schema) (limits : Limits) (known : Known) (point : Point) (old : H
   passed = take count all_bytes
 
   -- so it is passed over in each file, and what stands ahead begins with the signpost
-  over-in : (file : List ℕ) → IsFileOf known file → (last rest : List ℕ) × IsPassedOver s limits file point.read passed signpost last number subject × (signpost_bytes signpost ++ last ≡ (drop count all_bytes ++ more) ++ rest)
+  over-in : (file : List ℕ) → IsFileOf known file → (last rest : List ℕ)
+      × IsPassedOver s limits file point.read passed signpost last number subject
+      × (signpost_bytes signpost ++ last ≡ (drop count all_bytes ++ more) ++ rest)
   over-in file of =
       let next = broken.next_in file of in
       let (last, goes) = passes.goes (more ++ next.rest) (come file of) in
@@ -254,7 +304,8 @@ module _ (s : Schema) (limits : Limits) (known : Known) (point : Point) (old : H
       ∙ (ap (λ (l : List ℕ). statement ++ l) next.behind_are
       ∙ (sym (append_assoc statement behind (more ++ next.rest))
       ∙ (ap (λ (l : List ℕ). l ++ (more ++ next.rest)) (sym (take-append-drop count all_bytes))
-      ∙ (append_assoc passed (drop count all_bytes) (more ++ next.rest) ∙ ap (λ (l : List ℕ). passed ++ l) (sym (append_assoc (drop count all_bytes) more next.rest)))))) in
+      ∙ (append_assoc passed (drop count all_bytes) (more ++ next.rest)
+      ∙ ap (λ (l : List ℕ). passed ++ l) (sym (append_assoc (drop count all_bytes) more next.rest)))))) in
       let front = passed-front point.read.bytes next.to_pass.statement next.to_pass.behind passed last signpost goes_by in (
         last,
         next.rest,
@@ -262,7 +313,8 @@ module _ (s : Schema) (limits : Limits) (known : Known) (point : Point) (old : H
         append_cancel_left passed (signpost_bytes signpost ++ last) ((drop count all_bytes ++ more) ++ next.rest) (sym front ∙ parts),
       )
 
-  pub goes-behind : (other : Landmark) → signpost ≡ landmark other → (file : List ℕ) → IsFileOf known file → GoesOnBehind s limits file point.read passed (drop count all_bytes ++ more) number subject begins
+  pub goes-behind : (other : Landmark) → signpost ≡ landmark other → (file : List ℕ) → IsFileOf known file
+      → GoesOnBehind s limits file point.read passed (drop count all_bytes ++ more) number subject begins
   goes-behind other same file of =
       let (last, rest, over, ahead_are) = over-in file of in
       record {
@@ -275,16 +327,19 @@ module _ (s : Schema) (limits : Limits) (known : Known) (point : Point) (old : H
       }
 
   -- at the signpost of a file the reading ends
-  pub ends-there : GoesByOnePlace → IsFileMark signpost → (file : List ℕ) → IsFileOf known file → EndsReading s limits file point.read number subject
+  pub ends-there : GoesByOnePlace → IsFileMark signpost → (file : List ℕ) → IsFileOf known file
+      → EndsReading s limits file point.read number subject
   ends-there one_place mark file of =
       let (last, rest, over, ahead_are) = over-in file of in
       no_landmark number subject over.passes
       (λ other_passed other_rest other goes.
-      let same = one_place point.read.bytes over.passes.statement over.passes.behind passed other_passed last other_rest signpost other over.goes_by goes in
+      let same = one_place point.read.bytes over.passes.statement over.passes.behind passed other_passed last other_rest signpost other
+      over.goes_by goes in
       let one = passed-front point.read.bytes over.passes.statement over.passes.behind passed last signpost over.goes_by in
       let two = passed-front point.read.bytes over.passes.statement over.passes.behind other_passed other_rest other goes in
       let bytes_same : signpost_bytes signpost ++ last ≡ signpost_bytes other ++ other_rest =
-      append_cancel_left passed (signpost_bytes signpost ++ last) (signpost_bytes other ++ other_rest) (sym one ∙ (two ∙ ap (λ (l : List ℕ). l ++ (signpost_bytes other ++ other_rest)) (sym same))) in
+      append_cancel_left passed (signpost_bytes signpost ++ last) (signpost_bytes other ++ other_rest)
+      (sym one ∙ (two ∙ ap (λ (l : List ℕ). l ++ (signpost_bytes other ++ other_rest)) (sym same))) in
       mark-same signpost other last other_rest mark bytes_same)
 
   place-is : old.start + count ≡ length (point.read.bytes ++ passed)
@@ -294,7 +349,8 @@ module _ (s : Schema) (limits : Limits) (known : Known) (point : Point) (old : H
       let sum = length-append point.read.bytes passed in
       omega (arith, start, size, sum)
 
-  too-far : (other : Landmark) → signpost ≡ landmark other → IsTooMany limits (old.start + count) → (file : List ℕ) → IsFileOf known file → IsPassedTooFar s limits file point.read number subject
+  too-far : (other : Landmark) → signpost ≡ landmark other → IsTooMany limits (old.start + count) → (file : List ℕ) → IsFileOf known file
+      → IsPassedTooFar s limits file point.read number subject
   too-far other same many file of =
       let (last, rest, over, ahead_are) = over-in file of in
       record {
@@ -306,26 +362,34 @@ module _ (s : Schema) (limits : Limits) (known : Known) (point : Point) (old : H
       }
 
 -- what is told of the bytes in front of which the signpost stands is told of the statement
-reach-stays : (old new : Held) (count : ℕ) (own : code.Signpost) (passage : Passage) → PassToGives old count own passage new → StaysAt passage old new
+reach-stays : (old new : Held) (count : ℕ) (own : code.Signpost) (passage : Passage) → PassToGives old count own passage new
+    → StaysAt passage old new
 reach-stays old new count own (GoesOn there) gives = tt
 reach-stays old new count own AtFileMark gives = gives.0
 reach-stays old new count own TooLong gives = gives.0
 reach-stays old new count own (Sought seeker) gives = absurd gives
 
-module _ (one_place : GoesByOnePlace) (s : Schema) (limits : Limits) (known : Known) (point : Point) (old new : Held) (statement behind more : List ℕ) (number : ℕ) (subject : Subject) (begins : ℕ)
-    (broken : IsBrokenBy s limits known point old statement behind more number subject begins) (count : ℕ) (own : code.Signpost) (signpost : Signpost) (describes : Describes own signpost) (comes : List ℕ → Type 0)
-    (come : (file : List ℕ) (of : IsFileOf known file) → comes (more ++ (broken.next_in file of).rest)) (to : PassesTo comes point.read.bytes statement behind count signpost) where
-  reach-gives : (passage : Passage) → PassToGives old count own passage new → PassageFor s limits known point statement behind more number subject begins passage new
+module _ (one_place : GoesByOnePlace) (s : Schema) (limits : Limits) (known : Known) (point : Point) (old new : Held)
+    (statement behind more : List ℕ) (number : ℕ) (subject : Subject) (begins : ℕ)
+    (broken : IsBrokenBy s limits known point old statement behind more number subject begins) (count : ℕ) (own : code.Signpost)
+    (signpost : Signpost) (describes : Describes own signpost) (comes : List ℕ → Type 0)
+    (come : (file : List ℕ) (of : IsFileOf known file) → comes (more ++ (broken.next_in file of).rest))
+    (to : PassesTo comes point.read.bytes statement behind count signpost) where
+  reach-gives : (passage : Passage) → PassToGives old count own passage new
+      → PassageFor s limits known point statement behind more number subject begins passage new
   reach-gives (GoesOn there) (there_is, none, gives) =
       let (other, same) = no-mark own signpost describes none in
       subst (λ (n : ℕ). PassageFor s limits known point statement behind more number subject begins (GoesOn n) new) (sym there_is)
-      (gives s limits known point (take count (statement ++ behind)) (drop count (statement ++ behind) ++ more) number subject begins broken.stood
+      (gives s limits known point (take count (statement ++ behind)) (drop count (statement ++ behind) ++ more) number subject begins
+      broken.stood
       (place-is s limits known point old statement behind more number subject begins broken count signpost comes come to) to.opened
       (goes-behind s limits known point old statement behind more number subject begins broken count signpost comes come to other same))
-  reach-gives AtFileMark (same, mark) = ends-there s limits known point old statement behind more number subject begins broken count signpost comes come to one_place (mark-of own signpost describes mark)
+  reach-gives AtFileMark (same, mark) = ends-there s limits known point old statement behind more number subject begins broken count
+      signpost comes come to one_place (mark-of own signpost describes mark)
   reach-gives TooLong (same, none, many) =
       let (other, is) = no-mark own signpost describes none in
-      too-far s limits known point old statement behind more number subject begins broken count signpost comes come to other is (many s limits known point broken.stood)
+      too-far s limits known point old statement behind more number subject begins broken count signpost comes come to other is
+      (many s limits known point broken.stood)
   reach-gives (Sought seeker) never = absurd never
 
 -- ---- the ways to it
@@ -334,48 +398,67 @@ abbrev pub FindsLexedInside : List ℕ → List ℕ → Option (ℕ × code.Sign
 FindsLexedInside statement behind found = (state : State) → AreLexed statement state → FindsInside statement behind found
 
 -- where the files end with the statement nothing comes behind it
-none-come : (s : Schema) (limits : Limits) (known : Known) (point : Point) (old : Held) (statement behind more : List ℕ) (number : ℕ) (subject : Subject) (begins : ℕ) (broken : IsBrokenBy s limits known point old statement behind more number subject begins) → behind ≡ []
-    → (inside : List ℕ) × EndsInRemark statement inside → (file : List ℕ) (of : IsFileOf known file) → more ++ (broken.next_in file of).rest ≡ []
+none-come : (s : Schema) (limits : Limits) (known : Known) (point : Point) (old : Held) (statement behind more : List ℕ) (number : ℕ)
+    (subject : Subject) (begins : ℕ) (broken : IsBrokenBy s limits known point old statement behind more number subject begins)
+    → behind ≡ []
+    → (inside : List ℕ) × EndsInRemark statement inside → (file : List ℕ) (of : IsFileOf known file)
+    → more ++ (broken.next_in file of).rest ≡ []
 none-come s limits known point old statement behind more number subject begins broken nothing (inside, ends) file of =
     let next = broken.next_in file of in
-    let all : point.read.bytes ++ (next.to_pass.statement ++ next.to_pass.behind) ≡ point.read.bytes ++ statement = sym next.to_pass.next_are ∙ broken.to_end nothing inside ends file of in
+    let all : point.read.bytes ++ (next.to_pass.statement ++ next.to_pass.behind) ≡ point.read.bytes ++ statement =
+    sym next.to_pass.next_are ∙ broken.to_end nothing inside ends file of in
     let own : statement ++ (behind ++ (more ++ next.rest)) ≡ statement ++ [] =
     ap (λ (l : List ℕ). statement ++ l) (sym next.behind_are)
-    ∙ (ap (λ (l : List ℕ). l ++ next.to_pass.behind) (sym next.statement_is) ∙ (append_cancel_left point.read.bytes (next.to_pass.statement ++ next.to_pass.behind) statement all ∙ sym (append-nil statement))) in
+    ∙ (ap (λ (l : List ℕ). l ++ next.to_pass.behind) (sym next.statement_is)
+    ∙ (append_cancel_left point.read.bytes (next.to_pass.statement ++ next.to_pass.behind) statement all
+    ∙ sym (append-nil statement))) in
     (no-more behind (more ++ next.rest) (append_cancel_left statement (behind ++ (more ++ next.rest)) [] own)).1
 
-pub by-inside : GoesByOnePlace → (old new : Held) (statement behind : List ℕ) (count : ℕ) (own : code.Signpost) (passage : Passage) → FindsLexedInside statement behind (Some (count, own)) → PassToGives old count own passage new → PassageGives old statement behind passage new
+pub by-inside : GoesByOnePlace → (old new : Held) (statement behind : List ℕ) (count : ℕ) (own : code.Signpost) (passage : Passage)
+    → FindsLexedInside statement behind (Some (count, own)) → PassToGives old count own passage new
+    → PassageGives old statement behind passage new
 by-inside one_place old new statement behind count own passage found gives = (
   reach-stays old new count own passage gives,
   λ s limits known point more number subject begins broken. elim (found broken.state broken.lexed) [
     | inl in_string ↦ (
         let (signpost, describes, to) = string-passes point.read.bytes statement behind count own broken.state broken.lexed in_string in
-        reach-gives one_place s limits known point old new statement behind more number subject begins broken count own signpost describes whatever (λ file of. tt) to passage gives)
+        reach-gives one_place s limits known point old new statement behind more number subject begins broken count own signpost describes
+        whatever (λ file of. tt) to passage gives)
     | inr (none, nothing, in_remark) ↦ (
         let (signpost, describes, to, ends) = remark-passes point.read.bytes statement behind count own nothing none in_remark in
-        reach-gives one_place s limits known point old new statement behind more number subject begins broken count own signpost describes (λ bytes. bytes ≡ [])
+        reach-gives one_place s limits known point old new statement behind more number subject begins broken count own signpost describes
+        (λ bytes. bytes ≡ [])
         (none-come s limits known point old statement behind more number subject begins broken nothing ends) to passage gives)
   ],
 )
 
 none-further : (statement behind more : List ℕ) → FindsInside statement behind None → HasNoneInside statement (behind ++ more)
-none-further statement behind more (none, none_open) = none-in-front statement (behind ++ more) none (λ nothing. none_open (no-more behind more nothing).0)
+none-further statement behind more (none, none_open) =
+    none-in-front statement (behind ++ more) none (λ nothing. none_open (no-more behind more nothing).0)
 
 abbrev pub IsOpenedBy : Held → List ℕ → Type 0
 IsOpenedBy held before = IsTrue held.opened ↔ IsOpened before
 
-pub by-seeker : GoesByOnePlace → (old new : Held) (statement behind : List ℕ) (last count : ℕ) (own : code.Signpost) (held : seeking.Held) (passage : Passage) → FindsLexedInside statement behind None → last < length behind
-    → ((before : List ℕ) → IsOpenedBy old before → IsFound (before ++ statement) [] behind last own held) → count ≡ length statement + (last + 1) - length held.begun → PassToGives old count own passage new → PassageGives old statement behind passage new
+pub by-seeker : GoesByOnePlace → (old new : Held) (statement behind : List ℕ) (last count : ℕ) (own : code.Signpost) (held : seeking.Held)
+    (passage : Passage) → FindsLexedInside statement behind None → last < length behind
+    → ((before : List ℕ) → IsOpenedBy old before → IsFound (before ++ statement) [] behind last own held)
+    → count ≡ length statement + (last + 1) - length held.begun → PassToGives old count own passage new
+    → PassageGives old statement behind passage new
 by-seeker one_place old new statement behind last count own held passage none low found count_is gives = (
   reach-stays old new count own passage gives,
   λ s limits known point more number subject begins broken.
       let is = found point.read.bytes broken.stood.logs.opens in
-      let size_is : count ≡ length (statement ++ []) + (last + 1) - length held.begun = count_is ∙ ap (λ (l : List ℕ). length l + (last + 1) - length held.begun) (sym (append-nil statement)) in
-      reach-gives one_place s limits known point old new statement behind more number subject begins broken count own is.signpost is.describes whatever (λ file of. tt)
-      (seeker-passes point.read.bytes statement [] behind last own held low (λ further. none-further statement behind further (none broken.state broken.lexed)) is count size_is) passage gives,
+      let size_is : count ≡ length (statement ++ []) + (last + 1) - length held.begun = count_is
+      ∙ ap (λ (l : List ℕ). length l + (last + 1) - length held.begun) (sym (append-nil statement)) in
+      reach-gives one_place s limits known point old new statement behind more number subject begins broken count own is.signpost
+      is.describes whatever (λ file of. tt)
+      (seeker-passes point.read.bytes statement [] behind last own held low
+      (λ further. none-further statement behind further (none broken.state broken.lexed)) is count size_is) passage gives,
 )
 
-pub by-none : (old new : Held) (statement behind : List ℕ) (held : seeking.Held) → new ≡ old → FindsLexedInside statement behind None → ((before : List ℕ) → IsOpenedBy old before → Seeks (before ++ statement) behind held) → PassageGives old statement behind (Sought held) new
+pub by-none : (old new : Held) (statement behind : List ℕ) (held : seeking.Held) → new ≡ old → FindsLexedInside statement behind None
+    → ((before : List ℕ) → IsOpenedBy old before → Seeks (before ++ statement) behind held)
+    → PassageGives old statement behind (Sought held) new
 by-none old new statement behind held same none seeks = (
   same,
   λ s limits known point more number subject begins broken. (
@@ -386,28 +469,43 @@ by-none old new statement behind held same none seeks = (
 
 -- ---- the next piece
 
-further-none : (statement behind piece : List ℕ) → ((rest : List ℕ) → HasNoneInside statement (behind ++ rest)) → (rest : List ℕ) → HasNoneInside statement ((behind ++ piece) ++ rest)
-further-none statement behind piece none rest = subst (λ (l : List ℕ). HasNoneInside statement l) (sym (append_assoc behind piece rest)) (none (piece ++ rest))
+further-none : (statement behind piece : List ℕ) → ((rest : List ℕ) → HasNoneInside statement (behind ++ rest)) → (rest : List ℕ)
+    → HasNoneInside statement ((behind ++ piece) ++ rest)
+further-none statement behind piece none rest = subst (λ (l : List ℕ). HasNoneInside statement l) (sym (append_assoc behind piece rest))
+    (none (piece ++ rest))
 
-pub further-taken : (old : Held) (seeker after : seeking.Held) (taken : ℕ) (piece : List ℕ) → SeeksOn seeker piece None after → FurtherGives old seeker taken piece None old after
-further-taken old seeker after taken piece gives = (refl, λ point statement behind sought. ((gives (point.read.bytes ++ statement) behind sought.0).0, further-none statement behind piece sought.1))
+pub further-taken : (old : Held) (seeker after : seeking.Held) (taken : ℕ) (piece : List ℕ) → SeeksOn seeker piece None after
+    → FurtherGives old seeker taken piece None old after
+further-taken old seeker after taken piece gives = (
+  refl,
+  λ point statement behind sought. (
+    (gives (point.read.bytes ++ statement) behind sought.0).0,
+    further-none statement behind piece
+        sought.1,
+  ),
+)
 
 -- what stands ahead where it goes on
-ahead-of : (old new : Held) (count : ℕ) (own : code.Signpost) (passage : Passage) (bytes ahead : List ℕ) → PassToGives old count own passage new → drop count bytes ≡ ahead → AheadIs passage bytes ahead
+ahead-of : (old new : Held) (count : ℕ) (own : code.Signpost) (passage : Passage) (bytes ahead : List ℕ)
+    → PassToGives old count own passage new → drop count bytes ≡ ahead → AheadIs passage bytes ahead
 ahead-of old new count own (GoesOn there) bytes ahead gives is = ap (λ (n : ℕ). drop n bytes) gives.0 ∙ is
 ahead-of old new count own AtFileMark bytes ahead gives is = tt
 ahead-of old new count own TooLong bytes ahead gives is = tt
 ahead-of old new count own (Sought seeker) bytes ahead gives is = absurd gives
 
-pub further-found : GoesByOnePlace → (old new : Held) (seeker after : seeking.Held) (taken last count : ℕ) (piece : List ℕ) (own : code.Signpost) (passage : Passage) → last < length piece → SeeksOn seeker piece (Some (last, own)) after
-    → count ≡ taken + (last + 1) - length after.begun → PassToGives old count own passage new → FurtherGives old seeker taken piece (Some (last + 1, passage)) new after
+pub further-found : GoesByOnePlace → (old new : Held) (seeker after : seeking.Held) (taken last count : ℕ) (piece : List ℕ)
+    (own : code.Signpost) (passage : Passage) → last < length piece → SeeksOn seeker piece (Some (last, own)) after
+    → count ≡ taken + (last + 1) - length after.begun → PassToGives old count own passage new
+    → FurtherGives old seeker taken piece (Some (last + 1, passage)) new after
 further-found one_place old new seeker after taken last count piece own passage low found count_is gives = (
   reach-stays old new count own passage gives,
   λ s limits known point statement behind more number subject begins taken_is sought broken.
       let is = found (point.read.bytes ++ statement) behind sought.0 in
       let none = further-none statement behind piece sought.1 in
-      let size_is : count ≡ length (statement ++ behind) + (last + 1) - length after.begun = count_is ∙ ap (λ (n : ℕ). n + (last + 1) - length after.begun) taken_is in (
-        reach-gives one_place s limits known point old new statement (behind ++ piece) more number subject begins broken count own is.signpost is.describes whatever (λ file of. tt)
+      let size_is : count ≡ length (statement ++ behind) + (last + 1) - length after.begun = count_is
+      ∙ ap (λ (n : ℕ). n + (last + 1) - length after.begun) taken_is in (
+        reach-gives one_place s limits known point old new statement (behind ++ piece) more number subject begins broken count own
+            is.signpost is.describes whatever (λ file of. tt)
             (seeker-passes point.read.bytes statement behind piece last own after low none is count size_is) passage gives,
         ahead-of old new count own passage (statement ++ (behind ++ piece)) (after.begun ++ drop (last + 1) piece) gives
             (seeker-ahead point.read.bytes statement behind piece last own after low none is count size_is),
@@ -415,13 +513,17 @@ further-found one_place old new seeker after taken last count piece own passage 
 )
 
 -- a signpost that no place of 64 bits is in front of
-far-gives : (old : Held) (count : ℕ) (own : code.Signpost) (passage : Passage) → IsTooFarAt own passage → 2 ^ 64 ≤ count → PassToGives old count own passage old
+far-gives : (old : Held) (count : ℕ) (own : code.Signpost) (passage : Passage) → IsTooFarAt own passage → 2 ^ 64 ≤ count
+    → PassToGives old count own passage old
 far-gives old count own AtFileMark mark far = (refl, mark)
 far-gives old count own TooLong none far = (refl, none, λ s limits known point stood. inr (omega (arith, far)))
 far-gives old count own (GoesOn there) never far = absurd never
 far-gives old count own (Sought seeker) never far = absurd never
 
-pub further-far : GoesByOnePlace → (old : Held) (seeker after : seeking.Held) (taken last : ℕ) (piece : List ℕ) (own : code.Signpost) (passage : Passage) → last < length piece → SeeksOn seeker piece (Some (last, own)) after
-    → 2 ^ 64 ≤ taken + (last + 1) - length after.begun → IsTooFarAt own passage → FurtherGives old seeker taken piece (Some (last + 1, passage)) old after
+pub further-far : GoesByOnePlace → (old : Held) (seeker after : seeking.Held) (taken last : ℕ) (piece : List ℕ) (own : code.Signpost)
+    (passage : Passage) → last < length piece → SeeksOn seeker piece (Some (last, own)) after
+    → 2 ^ 64 ≤ taken + (last + 1) - length after.begun → IsTooFarAt own passage
+    → FurtherGives old seeker taken piece (Some (last + 1, passage)) old after
 further-far one_place old seeker after taken last piece own passage low found far is =
-    further-found one_place old old seeker after taken last (taken + (last + 1) - length after.begun) piece own passage low found refl (far-gives old (taken + (last + 1) - length after.begun) own passage is far)
+    further-found one_place old old seeker after taken last (taken + (last + 1) - length after.begun) piece own passage low found refl
+    (far-gives old (taken + (last + 1) - length after.begun) own passage is far)

@@ -33,39 +33,53 @@ use Rattle.p21_shorter_tokens.specs.Gaps.{PassesSeparators}
 
 text-nil : IsCommentText []
 text-nil [] after same = sym (tail_is 47 47 _ _ (tail_is 42 42 _ _ same))
-text-nil (x ∷ before) after same = let size = ap length same in let sum = length-append before (42 ∷ 47 ∷ after) in absurd (omega (arith, size, sum))
+text-nil (x ∷ before) after same = let size = ap length same in let sum = length-append before (42 ∷ 47 ∷ after) in
+    absurd (omega (arith, size, sum))
 
-text-on : (b : ℕ) (bytes : List ℕ) → IsCommentText bytes → ((after : List ℕ) → b ∷ (bytes ++ (42 ∷ 47 ∷ [])) ≡ 42 ∷ 47 ∷ after → ⊥) → IsCommentText (b ∷ bytes)
+text-on : (b : ℕ) (bytes : List ℕ) → IsCommentText bytes → ((after : List ℕ) → b ∷ (bytes ++ (42 ∷ 47 ∷ [])) ≡ 42 ∷ 47 ∷ after → ⊥)
+    → IsCommentText (b ∷ bytes)
 text-on b bytes text other [] after same = absurd (other after same)
 text-on b bytes text other (x ∷ before) after same = text before after (tail_is b x _ _ same)
 
-first-of : (c : ℕ) (bytes before after rest : List ℕ) → c ∷ bytes ≡ before ++ (42 ∷ 47 ∷ after) → before ++ (42 ∷ 47 ∷ []) ≡ 47 ∷ rest → c ≡ 47
+first-of : (c : ℕ) (bytes before after rest : List ℕ) → c ∷ bytes ≡ before ++ (42 ∷ 47 ∷ after) → before ++ (42 ∷ 47 ∷ []) ≡ 47 ∷ rest
+    → c ≡ 47
 first-of c bytes [] after rest same begins = let h : 42 ≡ 47 = head_is 42 47 _ _ begins in absurd (omega (arith, h))
 first-of c bytes (y ∷ before) after rest same begins = head_is c y _ _ same ∙ head_is y 47 _ _ begins
 
 -- they end no remark, or the first one that they end is at their front
 abbrev IsClosed : List ℕ → Type 0
-IsClosed inside = IsCommentText inside ⊎ ((before : List ℕ) × (after : List ℕ) × IsCommentText before × (inside ≡ before ++ (42 ∷ 47 ∷ after)))
+IsClosed inside = IsCommentText inside ⊎ ((before : List ℕ) × (after : List ℕ) × IsCommentText before
+    × (inside ≡ before ++ (42 ∷ 47 ∷ after)))
 
 closed-on : (b c : ℕ) (bytes : List ℕ) → ((b ≡ 42) → (c ≡ 47) → ⊥) → IsClosed (c ∷ bytes) → IsClosed (b ∷ c ∷ bytes)
-closed-on b c bytes not (inl text) = inl (text-on b (c ∷ bytes) text (λ after same. not (head_is b 42 _ _ same) (head_is c 47 _ _ (tail_is b 42 _ _ same))))
+closed-on b c bytes not (inl text) = inl (text-on b (c ∷ bytes) text
+    (λ after same. not (head_is b 42 _ _ same) (head_is c 47 _ _ (tail_is b 42 _ _ same))))
 closed-on b c bytes not (inr (before, after, text, is)) =
-    inr (b ∷ before, after, text-on b before text (λ rest same. not (head_is b 42 _ _ same) (first-of c bytes before after rest is (tail_is b 42 _ _ same))), ap (λ (l : List ℕ). b ∷ l) is)
+    inr (
+      b ∷ before,
+      after,
+      text-on b before text (λ rest same. not (head_is b 42 _ _ same)
+          (first-of c bytes before after rest is (tail_is b 42 _ _ same))),
+      ap (λ (l : List ℕ). b ∷ l) is,
+    )
 
 closed-by : (b c : ℕ) (bytes : List ℕ) → IsClosed (c ∷ bytes) → (b ≡ 42) ⊎ (b ≡ 42 → ⊥) → (c ≡ 47) ⊎ (c ≡ 47 → ⊥) → IsClosed (b ∷ c ∷ bytes)
-closed-by b c bytes deeper (inl star) (inl slash) = inr ([], bytes, text-nil, ap (λ (x : ℕ). x ∷ c ∷ bytes) star ∙ ap (λ (x : ℕ). 42 ∷ x ∷ bytes) slash)
+closed-by b c bytes deeper (inl star) (inl slash) =
+    inr ([], bytes, text-nil, ap (λ (x : ℕ). x ∷ c ∷ bytes) star ∙ ap (λ (x : ℕ). 42 ∷ x ∷ bytes) slash)
 closed-by b c bytes deeper (inl star) (inr other) = closed-on b c bytes (λ is slash. other slash) deeper
 closed-by b c bytes deeper (inr other) slash = closed-on b c bytes (λ star is. other star) deeper
 
 closes : (inside : List ℕ) → IsClosed inside
 closes [] = inl text-nil
-closes (b ∷ []) = inl (text-on b [] text-nil (λ after same. (let h : 42 ≡ 47 = head_is 42 47 _ _ (tail_is b 42 _ _ same) in omega (arith, h))))
+closes (b ∷ []) = inl (text-on b [] text-nil (λ after same.
+    (let h : 42 ≡ 47 = head_is 42 47 _ _ (tail_is b 42 _ _ same) in omega (arith, h))))
 closes (b ∷ c ∷ bytes) = closed-by b c bytes (closes (c ∷ bytes)) (cases_eq b 42) (cases_eq c 47)
 
 open-text : (inside : List ℕ) → HasNoSeparator (47 ∷ 42 ∷ inside) → IsCommentText inside
 open-text inside none = elim (closes inside) [
   | inl text ↦ text
-  | inr (before, after, text, is) ↦ absurd (none (comment before) after text (ap (λ (l : List ℕ). 47 ∷ 42 ∷ l) (is ∙ sym (append_assoc before (42 ∷ 47 ∷ []) after))))
+  | inr (before, after, text, is) ↦ absurd (none (comment before) after text
+      (ap (λ (l : List ℕ). 47 ∷ 42 ∷ l) (is ∙ sym (append_assoc before (42 ∷ 47 ∷ []) after))))
 ]
 
 -- ---- bytes that end the section and the file
@@ -80,7 +94,47 @@ word-bytes : Each IsByte (codes "ENDSEC")
 word-bytes = (lit< tt, (lit< tt, (lit< tt, (lit< tt, (lit< tt, (lit< tt, tt))))))
 
 behind-bytes : Each IsByte behind_end
-behind-bytes = (lit< tt, (lit< tt, (lit< tt, (lit< tt, (lit< tt, (lit< tt, (lit< tt, (lit< tt, (lit< tt, (lit< tt, (lit< tt, (lit< tt, (lit< tt, (lit< tt, (lit< tt, (lit< tt, (lit< tt, (lit< tt, tt))))))))))))))))))
+behind-bytes = (
+  lit< tt,
+  (
+    lit< tt,
+    (
+      lit< tt,
+      (
+        lit< tt,
+        (
+          lit< tt,
+          (
+            lit< tt,
+            (
+              lit< tt,
+              (
+                lit< tt,
+                (
+                  lit< tt,
+                  (
+                    lit< tt,
+                    (
+                      lit< tt,
+                      (
+                        lit< tt,
+                        (
+                          lit<
+                              tt,
+                          (lit< tt, (lit< tt, (lit< tt, (lit< tt, (lit< tt, tt))))),
+                        ),
+                      ),
+                    ),
+                  ),
+                ),
+              ),
+            ),
+          ),
+        ),
+      ),
+    ),
+  ),
+)
 
 end-are : Each IsByte end_bytes
 end-are = Each-append IsByte (codes "ENDSEC") behind_end word-bytes behind-bytes
@@ -97,7 +151,8 @@ joined-gaps : (front other : List ℕ) → IsSeparatorText front → IsSeparator
 joined-gaps front other (us, are, is) (vs, are_, is_) = (
   us ++ vs,
   Each-append IsSeparator us vs are are_,
-  ap (λ (x : List ℕ). x ++ other) is ∙ (ap (λ (x : List ℕ). flat_map separator_bytes us ++ x) is_ ∙ sym (flat_map-append separator_bytes us vs)),
+  ap (λ (x : List ℕ). x ++ other) is ∙ (ap (λ (x : List ℕ). flat_map separator_bytes us ++ x) is_
+      ∙ sym (flat_map-append separator_bytes us vs)),
 )
 
 one-gap : (inside : List ℕ) → IsCommentText inside → IsSeparatorText (47 ∷ 42 ∷ (inside ++ (42 ∷ 47 ∷ [])))
@@ -111,17 +166,20 @@ completed bytes rest passes (inl (left, is)) = record {
   separates = passes.is_gap;
   is =
       ap (λ (l : List ℕ). l ++ (left ++ behind_end)) passes.bytes_are
-      ∙ (append_assoc passes.gap rest (left ++ behind_end) ∙ ap (λ (l : List ℕ). passes.gap ++ l) (sym (append_assoc rest left behind_end) ∙ ap (λ (l : List ℕ). l ++ behind_end) (sym is)));
+      ∙ (append_assoc passes.gap rest (left ++ behind_end)
+      ∙ ap (λ (l : List ℕ). passes.gap ++ l) (sym (append_assoc rest left behind_end) ∙ ap (λ (l : List ℕ). l ++ behind_end) (sym is)));
 }
 completed bytes rest passes (inr (inl (left, is))) = record {
   tail = left ++ (42 ∷ 47 ∷ end_bytes);
-  are = Each-append IsByte left (42 ∷ 47 ∷ end_bytes) (Each-back IsByte rest left (subst (λ (l : List ℕ). Each IsByte l) is (lit< tt, (lit< tt, tt)))) (lit< tt, (lit< tt, end-are));
+  are = Each-append IsByte left (42 ∷ 47 ∷ end_bytes)
+      (Each-back IsByte rest left (subst (λ (l : List ℕ). Each IsByte l) is (lit< tt, (lit< tt, tt)))) (lit< tt, (lit< tt, end-are));
   gap = passes.gap ++ (47 ∷ 42 ∷ 42 ∷ 47 ∷ []);
   separates = joined-gaps passes.gap (47 ∷ 42 ∷ 42 ∷ 47 ∷ []) passes.is_gap (one-gap [] text-nil);
   is =
       ap (λ (l : List ℕ). l ++ (left ++ (42 ∷ 47 ∷ end_bytes))) passes.bytes_are
       ∙ (append_assoc passes.gap rest (left ++ (42 ∷ 47 ∷ end_bytes))
-      ∙ (ap (λ (l : List ℕ). passes.gap ++ l) (sym (append_assoc rest left (42 ∷ 47 ∷ end_bytes)) ∙ ap (λ (l : List ℕ). l ++ (42 ∷ 47 ∷ end_bytes)) (sym is)) ∙ sym (append_assoc passes.gap (47 ∷ 42 ∷ 42 ∷ 47 ∷ []) end_bytes)));
+      ∙ (ap (λ (l : List ℕ). passes.gap ++ l) (sym (append_assoc rest left (42 ∷ 47 ∷ end_bytes))
+      ∙ ap (λ (l : List ℕ). l ++ (42 ∷ 47 ∷ end_bytes)) (sym is)) ∙ sym (append_assoc passes.gap (47 ∷ 42 ∷ 42 ∷ 47 ∷ []) end_bytes)));
 }
 completed bytes rest passes (inr (inr (inside, is))) =
     let text : IsCommentText inside = open-text inside (subst HasNoSeparator is passes.ends) in
@@ -134,14 +192,19 @@ completed bytes rest passes (inr (inr (inside, is))) =
       is =
           ap (λ (l : List ℕ). l ++ (42 ∷ 47 ∷ end_bytes)) (passes.bytes_are ∙ ap (λ (l : List ℕ). passes.gap ++ l) is)
           ∙ (append_assoc passes.gap (47 ∷ 42 ∷ inside) (42 ∷ 47 ∷ end_bytes)
-          ∙ (ap (λ (l : List ℕ). passes.gap ++ (47 ∷ 42 ∷ l)) (sym (append_assoc inside (42 ∷ 47 ∷ []) end_bytes)) ∙ sym (append_assoc passes.gap remark end_bytes)));
+          ∙ (ap (λ (l : List ℕ). passes.gap ++ (47 ∷ 42 ∷ l)) (sym (append_assoc inside (42 ∷ 47 ∷ []) end_bytes))
+          ∙ sym (append_assoc passes.gap remark end_bytes)));
     }
 
 -- ---- their tokens
 
 abbrev end_lexemes : List Lexeme
 end_lexemes =
-    record { token = token.keyword (codes "ENDSEC"); size = 6 } ∷ record { token = token.semicolon; size = 1 } ∷ record { token = token.finish; size = 16 } ∷ record { token = token.semicolon; size = 1 } ∷ []
+    record { token = token.keyword (codes "ENDSEC"); size = 6 } ∷ record { token = token.semicolon; size = 1 } ∷ record {
+      token =
+          token.finish;
+      size = 16;
+    } ∷ record { token = token.semicolon; size = 1 } ∷ []
 
 abbrev ending : List Statement
 ending = section section_end ∷ section finish ∷ []
@@ -161,7 +224,22 @@ end-laid gap separates = (
   behind_end,
   refl,
   separates,
-  (refl, (inl (omega arith, omega arith), (inl (inl (omega arith, omega arith)), (inl (inl (omega arith, omega arith)), (inl (inl (omega arith, omega arith)), (inl (inl (omega arith, omega arith)), (inl (inl (omega arith, omega arith)), tt))))))),
+  (
+    refl,
+    (
+      inl (omega arith, omega arith),
+      (
+        inl (inl (omega arith, omega arith)),
+        (
+          inl (inl (omega arith, omega arith)),
+          (
+            inl (inl (omega arith, omega arith)),
+            (inl (inl (omega arith, omega arith)), (inl (inl (omega arith, omega arith)), tt)),
+          ),
+        ),
+      ),
+    ),
+  ),
   refl,
   (not-keyword, λ same. omega (arith, same)),
   (
@@ -173,7 +251,17 @@ end-laid gap separates = (
     refl,
     refl,
     tt,
-    ([], codes "END-ISO-10303-21", codes ";", refl, no-gap, refl, refl, not-keyword, ([], codes ";", [], refl, no-gap, refl, refl, tt, no-gap)),
+    (
+      [],
+      codes "END-ISO-10303-21",
+      codes ";",
+      refl,
+      no-gap,
+      refl,
+      refl,
+      not-keyword,
+      ([], codes ";", [], refl, no-gap, refl, refl, tt, no-gap),
+    ),
   ),
 )
 
@@ -185,30 +273,40 @@ ending-leads stage.Named here = refl
 ending-leads _ here = absurd cc
 
 -- behind whole statements that leave a data section open
-is-file : JoinedIsLaid → (kept gap : List ℕ) (lexemes : List Lexeme) (given : List Statement) (p : Stage) → AreWhole kept lexemes → tokens_in lexemes ≡ flat_map statement_tokens given → walk given stage.Start ≡ Ok p → is_in_data p ≡ true → Each IsSound given → IsSeparatorText gap
+is-file : JoinedIsLaid → (kept gap : List ℕ) (lexemes : List Lexeme) (given : List Statement) (p : Stage) → AreWhole kept lexemes
+    → tokens_in lexemes ≡ flat_map statement_tokens given → walk given stage.Start ≡ Ok p → is_in_data p ≡ true → Each IsSound given
+    → IsSeparatorText gap
     → IsNoFile (kept ++ (gap ++ end_bytes)) → ⊥
 is-file joined kept gap lexemes given p whole tokens_are leads here sound separates none =
     let all : List Statement = given ++ ending in
-    let file = whole_file (flat_map statement_tokens all) all refl (walk-append given ending stage.Start p stage.Ended leads (ending-leads p here)) (Each-append IsSound given ending sound (tt, (tt, tt))) in
+    let file = whole_file (flat_map statement_tokens all) all refl
+    (walk-append given ending stage.Start p stage.Ended leads (ending-leads p here))
+    (Each-append IsSound given ending sound (tt, (tt, tt))) in
     none file.structure file.text
     (record {
       laid = record {
         lexemes = lexemes ++ end_lexemes;
         tokens_are = tokens-append lexemes end_lexemes
-            ∙ (ap (λ (ts : List Token). ts ++ tokens_in end_lexemes) tokens_are ∙ (sym (flat_map-append statement_tokens given ending) ∙ sym file.tokens_are));
+            ∙ (ap (λ (ts : List Token). ts ++ tokens_in end_lexemes) tokens_are
+            ∙ (sym (flat_map-append statement_tokens given ending) ∙ sym file.tokens_are));
         laid = joined kept (gap ++ end_bytes) lexemes end_lexemes whole (end-laid gap separates);
       };
       is_file = file.is_file;
     })
 
 pub refused-told : BeginsNoneAlike → JoinedIsLaid → RefusedIsTold
-refused-told alike joined s limits known point held piece more fault file refused ended ahead_is gone in_data of (no_end, (rest, passes, may)) =
+refused-told alike joined s limits known point held piece more fault file refused ended ahead_is gone in_data of
+    (no_end, (rest, passes, may)) =
     let logs = refused.logs in
     let whole = completed (held.buffer ++ piece) rest passes may in
     let none = none-begins alike s limits known point held piece more fault refused ahead_is gone file of whole.tail whole.are in
-    let given : logs.history.given ≡ point.read.given = logs.given_are ∙ (ap (λ (sts : List Statement). point.read.given ++ sts) ended ∙ append-nil point.read.given) in
+    let given : logs.history.given ≡ point.read.given = logs.given_are
+    ∙ (ap (λ (sts : List Statement). point.read.given ++ sts) ended ∙ append-nil point.read.given) in
     let leads : walk point.read.given stage.Start ≡ Ok refused.before.parser.stage =
-    subst (λ (sts : List Statement). walk sts stage.Start ≡ Ok refused.before.parser.stage) given (reader-leads refused.before logs.history logs.live) in
-    is-file joined point.read.kept whole.gap logs.lexemes point.read.given refused.before.parser.stage logs.kept_whole logs.tokens_are leads (data-stage point.read.given refused.before.parser.stage in_data leads)
+    subst (λ (sts : List Statement). walk sts stage.Start ≡ Ok refused.before.parser.stage) given
+    (reader-leads refused.before logs.history logs.live) in
+    is-file joined point.read.kept whole.gap logs.lexemes point.read.given refused.before.parser.stage logs.kept_whole logs.tokens_are leads
+    (data-stage point.read.given refused.before.parser.stage in_data leads)
     (subst (λ (sts : List Statement). Each IsSound sts) given (reader-sound refused.before logs.history logs.live)) whole.separates
-    (subst IsNoFile (append_assoc point.read.kept (held.buffer ++ piece) whole.tail ∙ ap (λ (l : List ℕ). point.read.kept ++ l) whole.is) none)
+    (subst IsNoFile (append_assoc point.read.kept (held.buffer ++ piece) whole.tail ∙ ap (λ (l : List ℕ). point.read.kept ++ l) whole.is)
+    none)

@@ -46,12 +46,14 @@ token_place first behind false = first
 -- last one. The bytes begin behind so many of the file
 abbrev pub refused_place : Fault → Places → ℕ → List ℕ → ℕ
 refused_place (Grammar fault) places start bytes =
-    token_place (place_or (place_of (Grammar fault) places) places.byte) places.byte (is_apostrophe (slice_get bytes (place_or (place_of (Grammar fault) places) places.byte - start)))
+    token_place (place_or (place_of (Grammar fault) places) places.byte) places.byte
+    (is_apostrophe (slice_get bytes (place_or (place_of (Grammar fault) places) places.byte - start)))
 refused_place fault places start bytes = place_or (place_of fault places) places.byte
 
 -- so it is by the places of the reader
 abbrev pub TellsRefused : Held → Fault → List ℕ → ℕ → Type 0
-TellsRefused held fault bytes place = (places : Places) × (places.byte ≡ place_behind held.reader) × (place ≡ refused_place fault places held.start bytes)
+TellsRefused held fault bytes place = (places : Places) × (places.byte ≡ place_behind held.reader)
+    × (place ≡ refused_place fault places held.start bytes)
 
 -- The reader stands in front of a byte that is refused, behind these of the statement. No accepted file begins with it behind them, with
 -- separators in the place of the bytes that are passed over
@@ -63,7 +65,8 @@ pub record StandsAtByte (limits : Limits) (point : Point) (held : Held) (piece :
   pub place_is : place_behind held.reader ≡ length (point.read.bytes ++ front)
   pub gapped : List ℕ
   pub same : HoldTheSame gapped point.read.kept
-  pub dead : (s : Schema) (all : Limits) → all.record_source ≡ limits.record_source → all.file_source ≡ limits.file_source → IsDead s all (gapped ++ (front ++ byte ∷ []))
+  pub dead : (s : Schema) (all : Limits) → all.record_source ≡ limits.record_source → all.file_source ≡ limits.file_source
+      → IsDead s all (gapped ++ (front ++ byte ∷ []))
 
 -- ---- where the statement begins
 
@@ -71,7 +74,8 @@ pub record StandsAtByte (limits : Limits) (point : Point) (held : Held) (piece :
 -- the file ends behind them. So it is of each place that 64 bits can say
 abbrev pub BeginsIn : Held → List ℕ → ℕ → Type 0
 BeginsIn held bytes begins =
-    (file rest : List ℕ) (read : Reading) → held.start ≡ length read.bytes → length (read.bytes ++ bytes) < 2 ^ 64 → file ≡ read.bytes ++ (bytes ++ rest)
+    (file rest : List ℕ) (read : Reading) → held.start ≡ length read.bytes → length (read.bytes ++ bytes) < 2 ^ 64
+    → file ≡ read.bytes ++ (bytes ++ rest)
     → IsBegun bytes ⊎ (rest ≡ []) → BeginsAt file read begins
 
 -- ---- that it is to be passed over
@@ -86,5 +90,6 @@ IsBroken s limits known point front number =
 -- the front of the open statement, and it is to be passed over
 abbrev pub BreaksOff : Held → List ℕ → List ℕ → Type 0
 BreaksOff held piece front =
-    IsFront front × ((s : Schema) (limits : Limits) (known : Known) (point : Point) (more : List ℕ) (fault : Fault) → IsRefused s limits known point piece fault held → point.ahead ≡ piece ++ more → IsGoneOnBehind (fault_number fault)
+    IsFront front × ((s : Schema) (limits : Limits) (known : Known) (point : Point) (more : List ℕ) (fault : Fault)
+    → IsRefused s limits known point piece fault held → point.ahead ≡ piece ++ more → IsGoneOnBehind (fault_number fault)
     → IsInData point.read.given → IsBroken s limits known point front (fault_number fault))

@@ -1,7 +1,8 @@
 -- What the end of the file gives.
-use Rattle.std.specs.Prelude.{◌≡◌, ◌≢◌, ℕ, true, List, [], ◌++◌, length, None, Result, Ok, Err}
+use Rattle.std.specs.Prelude.{◌≡◌, ◌≢◌, ◌≤◌, ℕ, true, List, [], ◌++◌, length, None, Result, Ok, Err}
 use Rattle.p21_spec_basics.specs.Limits.{Limits}
 use Rattle.p21_spec_exchange.specs.Grammar.{InGrammar}
+use Rattle.p21_spec_exchange.specs.Laying.{AreStatementsWithin}
 use Rattle.p21_spec_exchange.specs.Statement.{Statement}
 use Rattle.p21_spec_exchange.specs.Structure.{Structure, statements}
 use Rattle.p21_spec_schema.specs.Schema.{Schema}
@@ -14,20 +15,24 @@ use Rattle.p21_stream_statements.specs.declared.fault.Fault.TheVariants.{NoMemor
 use Rattle.p21_tokens.specs.Histories.{IsUnlaid}
 use Rattle.p21_tokens_automaton.specs.Reading.{State}
 
--- the bytes are a file with these statements
-pub record AreFileOf (bytes : List ℕ) (given : List Statement) : Type 0 where
+-- the bytes are a file with these statements, each of them within the limit of a statement
+pub record AreFileOf (most : ℕ) (bytes : List ℕ) (given : List Statement) : Type 0 where
   pub structure : Structure
   pub schema : List ℕ
   pub in_grammar : InGrammar bytes structure schema
   pub statements_are : statements structure ≡ given
+  pub within : AreStatementsWithin most 0 in_grammar.laid.lexemes
 
 -- Of each point with no statement that has ended, and no byte that was looked at: the kept bytes, with those behind them, are a file with
--- the statements given; or they are none
+-- the statements given, and no more bytes are read than a file may have; or they are none
 abbrev pub EndGives : Held → Result (Unit {0}) Fault → Type 0
 EndGives held (Ok done) =
-    (s : Schema) (limits : Limits) (known : Known) (point : Point) → Logs s limits known held point → point.ended ≡ [] → point.seen ≡ None → AreFileOf (point.read.kept ++ held.buffer) point.read.given
+    (s : Schema) (limits : Limits) (known : Known) (point : Point) → Logs s limits known held point → point.ended ≡ [] → point.seen ≡ None
+    → AreFileOf limits.record_source (point.read.kept ++ held.buffer) point.read.given
+    × (length (point.read.bytes ++ held.buffer) ≤ limits.file_source)
 EndGives held (Err fault) =
-    fault ≢ NoMemory → (s : Schema) (limits : Limits) (known : Known) (point : Point) → Logs s limits known held point → point.ended ≡ [] → point.seen ≡ None
+    fault ≢ NoMemory → (s : Schema) (limits : Limits) (known : Known) (point : Point) → Logs s limits known held point → point.ended ≡ []
+    → point.seen ≡ None
     → IsNoFile (point.read.kept ++ held.buffer)
 
 -- No tokens are laid in these bytes of a statement, which a lexer takes: with number 2 they end in a string, and with 3 in a remark

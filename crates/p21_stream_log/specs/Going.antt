@@ -22,7 +22,8 @@ pub record StoodFor (s : Schema) (limits : Limits) (known : Known) (point : Poin
   pub of_instance : IsOfInstance point.ended
 
 -- In a file the next statement, which begins behind so many bytes, is passed over up to a landmark; from there on these bytes stand first
-pub record GoesOnBehind (s : Schema) (limits : Limits) (file : List ℕ) (read : Reading) (passed ahead : List ℕ) (number : ℕ) (subject : Subject) (begins : ℕ) : Type 0 where
+pub record GoesOnBehind (s : Schema) (limits : Limits) (file : List ℕ) (read : Reading) (passed ahead : List ℕ) (number : ℕ)
+    (subject : Subject) (begins : ℕ) : Type 0 where
   pub found : Landmark
   pub rest : List ℕ
   pub over : IsPassedOver s limits file read passed (landmark found) rest number subject
@@ -32,7 +33,8 @@ pub record GoesOnBehind (s : Schema) (limits : Limits) (file : List ℕ) (read :
 
 -- the point behind bytes that are passed over
 abbrev pub behind_stretch : Point → List ℕ → ℕ → Subject → ℕ → List ℕ → Point
-behind_stretch point passed number subject begins ahead = record { read = passing_over point.read passed number subject begins; ended = []; seen = None; ahead = ahead }
+behind_stretch point passed number subject begins ahead =
+    record { read = passing_over point.read passed number subject begins; ended = []; seen = None; ahead = ahead }
 
 -- Of each point that was stood for, up to this place of the file: in each file the next statement is passed over, and it is so in the
 -- reading that is stood for. Or the file may not have as many bytes, and nothing has changed
@@ -40,10 +42,18 @@ abbrev pub GoOnGives : Held → ℕ → Bool → Held → Type 0
 GoOnGives old place true new =
     (s : Schema) (limits : Limits) (known : Known) (point : Point) (passed ahead : List ℕ) (number : ℕ) (subject : Subject) (begins : ℕ)
     → StoodFor s limits known point old → place ≡ length (point.read.bytes ++ passed)
-    → IsOpened (point.read.bytes ++ passed) → ((file : List ℕ) → IsFileOf known file → GoesOnBehind s limits file point.read passed ahead number subject begins)
+    → IsOpened (point.read.bytes ++ passed) → ((file : List ℕ) → IsFileOf known file
+    → GoesOnBehind s limits file point.read passed ahead number subject begins)
     → Logs s limits known new (behind_stretch point passed number subject begins ahead)
-GoOnGives old place false new = (new ≡ old) × ((s : Schema) (limits : Limits) (known : Known) (point : Point) → StoodFor s limits known point old → limits.file_source < place)
+GoOnGives old place false new = (new ≡ old) × ((s : Schema) (limits : Limits) (known : Known) (point : Point)
+    → StoodFor s limits known point old → limits.file_source < place)
+
+-- nothing is held of the bytes from this place of the file on
+pub record BeginsAnew (place : ℕ) (held : Held) : Type 0 where
+  pub start : held.start ≡ place
+  pub buffer : held.buffer ≡ []
 
 -- of each point that was stood for, whether a data section is open behind the statements given
 abbrev pub TellsData : Held → Bool → Type 0
-TellsData held found = (s : Schema) (limits : Limits) (known : Known) (point : Point) → StoodFor s limits known point held → (IsTrue found ↔ IsInData point.read.given)
+TellsData held found = (s : Schema) (limits : Limits) (known : Known) (point : Point) → StoodFor s limits known point held
+    → (IsTrue found ↔ IsInData point.read.given)

@@ -6,3 +6,4 @@ pub mod Going
 pub mod Ending
 pub mod Passage
 pub mod Laws
+pub mod Endless

@@ -3,7 +3,7 @@
 -- The bytes that are read are those of the statements that ended, and those that are passed over. Behind them stand the bytes of the
 -- statement that is open, or of one that has ended and isn't judged yet, and then those that are known and not taken. The reader of
 -- statements has taken the kept bytes, with as many separators as bytes are passed over in their place: so each has its place in the file.
-use Rattle.std.specs.Prelude.{◌≡◌, ◌≢◌, ◌↔◌, ◌-◌, ℕ, Bool, true, false, IsTrue, List, [], ◌∷◌, ◌++◌, length, drop, Option, Some, None, Result, Ok, Err}
+use Rattle.std.specs.Prelude.{◌≡◌, ◌≢◌, ◌↔◌, ◌-◌, ℕ, Bool, true, false, IsTrue, List, [], ◌∷◌, ◌++◌, length, take, drop, Option, Some, None, Result, Ok, Err}
 use Rattle.std.specs.List.{flat_map, AllByRecursion as Each}
 use Rattle.p21_grammar.specs.Statements.{statements_of}
 use Rattle.p21_grammar.specs.declared.event.Event.{Event}
@@ -40,7 +40,8 @@ pub record Known : Type 0 where
 
 -- the file is one of which this is known
 abbrev pub IsFileOf : Known → List ℕ → Type 0
-IsFileOf known file = Each IsByte file × elim known.is_all [ true ↦ file ≡ known.bytes | false ↦ (rest : List ℕ) × (file ≡ known.bytes ++ rest) ]
+IsFileOf known file = Each IsByte file × elim known.is_all
+    [ true ↦ file ≡ known.bytes | false ↦ (rest : List ℕ) × (file ≡ known.bytes ++ rest) ]
 
 -- How far a file is read: what is read of it; the statement that has ended behind it and isn't judged yet, if one has; the byte that was
 -- looked at, if one was; and the bytes behind the buffer that are known
@@ -67,7 +68,8 @@ pub record BeganBehind (held : statements.Held) (taken : List ℕ) (given : List
 -- bytes ahead
 pub record Logs (s : Schema) (limits : Limits) (known : Known) (held : Held) (point : Point) : Type 0 where
   pub is_read : (file : List ℕ) → IsFileOf known file → IsRead s limits file point.read
-  pub file_is : (file : List ℕ) → IsFileOf known file → (rest : List ℕ) × (file ≡ point.read.bytes ++ (held.buffer ++ (point.ahead ++ rest)))
+  pub file_is : (file : List ℕ) → IsFileOf known file
+      → (rest : List ℕ) × (file ≡ point.read.bytes ++ (held.buffer ++ (point.ahead ++ rest)))
   pub start_is : held.start ≡ length point.read.bytes
   pub opens : IsTrue held.opened ↔ IsOpened point.read.bytes
   pub history : StatementHistory
@@ -92,22 +94,40 @@ BeginSo known ahead = (file : List ℕ) → IsFileOf known file → (rest : List
 
 -- ---- a step
 
--- the point behind a piece of which nothing is left, and behind so many bytes of it, with which a statement may have ended
-abbrev pub behind_piece : Point → List ℕ → Point
-behind_piece point more = record point { seen = None; ahead = more }
+-- the last byte of some
+abbrev pub EndsWith : ℕ → List ℕ → Type 0
+EndsWith byte bytes = (front : List ℕ) × (bytes ≡ front ++ byte ∷ [])
 
+-- the buffer has these bytes more
+pub record Keeps (old : Held) (bytes : List ℕ) (new : Held) : Type 0 where
+  pub start : new.start ≡ old.start
+  pub buffer : new.buffer ≡ old.buffer ++ bytes
+
+-- some bytes of a piece, if it has any, of which none but the last is a `;`
+pub record IsOffered (piece bytes : List ℕ) : Type 0 where
+  pub rest : List ℕ
+  pub piece_is : piece ≡ bytes ++ rest
+  pub some : piece ≢ [] → bytes ≢ []
+  pub last : (front back : List ℕ) → bytes ≡ front ++ 59 ∷ back → back ≡ []
+
+-- the point behind so many bytes of a piece, with which a statement may have ended
 abbrev pub behind_token : Point → Option ℕ → List ℕ → ℕ → List ℕ → Option Event → Point
 behind_token point seen piece count more event = record point { ended = statements_of event; seen = seen; ahead = drop count piece ++ more }
 
--- a token was taken: so many bytes of the piece, and a byte may have been looked at
-pub record TakesToken (s : Schema) (limits : Limits) (known : Known) (point : Point) (piece more : List ℕ) (count : ℕ) (event : Option Event) (new : Held) : Type 0 where
+-- So many bytes of the piece were taken, with the `;` of a statement as the last of them where one has ended; and a byte may have been looked
+-- at. They are none only where a token was given by the byte behind it, which is looked at now and wasn't before
+pub record TakesToken (s : Schema) (limits : Limits) (known : Known) (point : Point) (piece more : List ℕ) (count : ℕ)
+    (event : Option Event) (new : Held) : Type 0 where
   pub seen : Option ℕ
   pub seen_at : IsSeenAt seen piece count
   pub logs : Logs s limits known new (behind_token point seen piece count more event)
+  pub ends : statements_of event ≢ [] → EndsWith 59 new.buffer
+  pub moves : piece ≢ [] → count ≡ 0 → (statements_of event ≡ []) × (point.seen ≡ None) × (seen ≢ None)
 
 -- A step was refused at a point: before it this was held but for what the reader holds, no file begins with the kept bytes, the buffer, and
 -- some of the piece, and the statement that was open is open still; if it is the fault of a byte, the reader stands in front of this
-pub record IsRefused (s : Schema) (limits : Limits) (known : Known) (point : Point) (piece : List ℕ) (fault : Fault) (new : Held) : Type 0 where
+pub record IsRefused (s : Schema) (limits : Limits) (known : Known) (point : Point) (piece : List ℕ) (fault : Fault) (new : Held) : Type
+    0 where
   pub before : statements.Held
   pub logs : Logs s limits known (record { reader = before; start = new.start; buffer = new.buffer; opened = new.opened }) point
   pub refuses : RefusesWithin (limits_of before) fault logs.history piece
@@ -115,23 +135,23 @@ pub record IsRefused (s : Schema) (limits : Limits) (known : Known) (point : Poi
   pub stays : StaysInStatement before new.reader
 
 -- What a step gives, at each point that was stood for, with no statement that has ended and the piece ahead
-abbrev pub StepGives : Held → List ℕ → Result (Option (ℕ × Option Event)) Fault → Held → Type 0
-StepGives old piece (Ok None) new =
-    (s : Schema) (limits : Limits) (known : Known) (point : Point) (more : List ℕ) → Logs s limits known old point → point.ended ≡ [] → point.ahead ≡ piece ++ more → IsSeenAt point.seen piece 0
-    → Logs s limits known new (behind_piece point more)
-StepGives old piece (Ok (Some (count, event))) new =
-    (s : Schema) (limits : Limits) (known : Known) (point : Point) (more : List ℕ) → Logs s limits known old point → point.ended ≡ [] → point.ahead ≡ piece ++ more → IsSeenAt point.seen piece 0
+abbrev pub StepGives : Held → List ℕ → Result (ℕ × Option Event) Fault → Held → Type 0
+StepGives old piece (Ok (count, event)) new =
+    (s : Schema) (limits : Limits) (known : Known) (point : Point) (more : List ℕ) → Logs s limits known old point → point.ended ≡ []
+    → point.ahead ≡ piece ++ more → IsSeenAt point.seen piece 0
     → TakesToken s limits known point piece more count event new
 StepGives old piece (Err fault) new =
-    fault ≢ NoMemory → (s : Schema) (limits : Limits) (known : Known) (point : Point) (more : List ℕ) → Logs s limits known old point → point.ended ≡ []
+    fault ≢ NoMemory → (s : Schema) (limits : Limits) (known : Known) (point : Point) (more : List ℕ) → Logs s limits known old point
+    → point.ended ≡ []
     → point.ahead ≡ piece ++ more → IsSeenAt point.seen piece 0
     → IsRefused s limits known point piece fault new
 
--- ---- a statement that has ended
+-- the buffer has the bytes more that were taken; or it is as it was
+abbrev pub StepKeeps : Held → List ℕ → Result (ℕ × Option Event) Fault → Held → Type 0
+StepKeeps old piece (Ok (count, event)) new = Keeps old (take count piece) new
+StepKeeps old piece (Err fault) new = fault ≢ NoMemory → (new.start ≡ old.start) × (new.buffer ≡ old.buffer)
 
--- the last byte of some
-abbrev pub EndsWith : ℕ → List ℕ → Type 0
-EndsWith byte bytes = (front : List ℕ) × (bytes ≡ front ++ byte ∷ [])
+-- ---- a statement that has ended
 
 -- what is held where nothing of the buffer is open any more: the reader is as before, and the buffer begins anew behind its bytes
 pub record Closes (old new : Held) : Type 0 where
@@ -147,7 +167,8 @@ behind_taken point bytes statement = record { read = taking point.read bytes sta
 -- Of each point where a statement has ended with the last byte of the buffer: it is right there, and so it is taken
 abbrev pub TakeGives : Held → Held → Type 0
 TakeGives old new =
-    (s : Schema) (limits : Limits) (known : Known) (point : Point) (statement : Statement) → Logs s limits known old point → point.ended ≡ statement ∷ []
+    (s : Schema) (limits : Limits) (known : Known) (point : Point) (statement : Statement) → Logs s limits known old point
+    → point.ended ≡ statement ∷ []
     → EndsWith 59 old.buffer → IsRight s point.read.given statement
     → AreStatement old.buffer statement × Logs s limits known new (behind_taken point old.buffer statement)
 
@@ -161,7 +182,8 @@ pub record BeginsBehind (held : Held) (begins : ℕ) : Type 0 where
 
 -- the point behind an instance that is left out
 abbrev pub behind_left_out : Point → List ℕ → ℕ → Record → ℕ → ℕ → Point
-behind_left_out point bytes n record_ number begins = record { read = leaving_out point.read bytes n record_ number begins; ended = []; seen = point.seen; ahead = point.ahead }
+behind_left_out point bytes n record_ number begins =
+    record { read = leaving_out point.read bytes n record_ number begins; ended = []; seen = point.seen; ahead = point.ahead }
 
 -- Of each point where an instance has ended with the last byte of the buffer: it is refused there, and so it is left out; or a signpost
 -- stands in a string of it, and nothing has changed
@@ -169,9 +191,11 @@ abbrev pub LeaveOutGives : Held → Option ℕ → Held → Type 0
 LeaveOutGives old (Some begins) new =
     (s : Schema) (limits : Limits) (known : Known) (point : Point) (n : ℕ) (record_ : Record) (number : ℕ) → Logs s limits known old point
     → point.ended ≡ instance n record_ ∷ [] → EndsWith 59 old.buffer
-    → IsRefusedInstance s point.read.given n record_ number → Logs s limits known new (behind_left_out point old.buffer n record_ number begins)
+    → IsRefusedInstance s point.read.given n record_ number
+    → Logs s limits known new (behind_left_out point old.buffer n record_ number begins)
 LeaveOutGives old None new =
-    (new ≡ old) × ((s : Schema) (limits : Limits) (known : Known) (point : Point) (statement : Statement) (behind : List ℕ) → Logs s limits known old point → point.ended ≡ statement ∷ [] → EndsWith 59 old.buffer
+    (new ≡ old) × ((s : Schema) (limits : Limits) (known : Known) (point : Point) (statement : Statement) (behind : List ℕ)
+    → Logs s limits known old point → point.ended ≡ statement ∷ [] → EndsWith 59 old.buffer
     → ¬ HasNoneInside old.buffer behind)
 
 -- ---- instances that are read elsewhere
@@ -183,7 +207,8 @@ behind_passed point n record_ more = record { read = point.read; ended = instanc
 -- of each point with no statement that has ended, where the bytes of an instance are ahead: it has ended behind them
 abbrev pub PassGives : Held → List ℕ → Bool → Held → Type 0
 PassGives old bytes true new =
-    (s : Schema) (limits : Limits) (known : Known) (point : Point) (more : List ℕ) (n : ℕ) (record_ : Record) → Logs s limits known old point → point.ended ≡ []
+    (s : Schema) (limits : Limits) (known : Known) (point : Point) (more : List ℕ) (n : ℕ) (record_ : Record)
+    → Logs s limits known old point → point.ended ≡ []
     → point.ahead ≡ bytes ++ more → AreInstances bytes ((n, record_) ∷ [])
     → Logs s limits known new (behind_passed point n record_ more)
 PassGives old bytes false new = new ≡ old

@@ -15,8 +15,10 @@
 mod front;
 mod laws;
 mod log;
+mod offering;
 mod opening;
 mod passage;
+mod remark;
 mod within;
 
 pub use front::is_front;
@@ -24,4 +26,5 @@ pub use laws::log_laws;
 pub use log::Log;
 pub use opening::{Opening, opening_of};
 pub use passage::Passage;
+pub use remark::{begins_unended, ends_no_remark};
 pub use within::ends_within;

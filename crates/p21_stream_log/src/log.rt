@@ -1,19 +1,25 @@
-ghost use Rattle.std.specs.Prelude.{◌≡◌, ◌≤◌, ◌-◌, ◌++◌, IfOk, IfSome, List, OnOk, length, ℕ};
+ghost use Rattle.std.specs.Prelude.{◌≡◌, ◌≤◌, ◌-◌, ◌++◌, [], IfErr, IfOk, IfSome, IsTrue, List, OnOk, length, ℕ};
 ghost use Rattle.p21_spec_schema.specs.Schema.{Schema};
 ghost use Rattle.p21_stream_log.specs.Broken.{BeginsIn, BreaksOff, HasSize, IsFrontOf, TellsRefused};
 ghost use Rattle.p21_stream_log.specs.Ending.{EndGives};
-ghost use Rattle.p21_stream_log.specs.Going.{GoOnGives, TellsData};
-ghost use Rattle.p21_stream_log.specs.Log.{BeginSo, BeginsBehind, Closes, Known, LeaveOutGives, Logs, PassGives, StepGives, TakeGives, at_start};
-ghost use Rattle.p21_stream_log.specs.Passage.{FurtherGives, PassToGives, PassageGives};
-ghost use Rattle.p21_stream_statements.specs.StatementReader.{TakesWithinPiece};
+ghost use Rattle.p21_stream_log.specs.Endless.{BeginsUnendedIn};
+ghost use Rattle.p21_stream_log.specs.Going.{BeginsAnew, GoOnGives, TellsData};
+ghost use Rattle.p21_stream_log.specs.Log.{BeginSo, BeginsBehind, Closes, Keeps, Known, LeaveOutGives, Logs, PassGives, StepGives, StepKeeps, TakeGives, at_start};
+ghost use Rattle.p21_stream_log.specs.Passage.{FurtherGives, GoesOnAt, PassToGives, PassageGives};
+ghost use Rattle.p21_stream_resume.specs.Standing.{EndsNoRemark};
+ghost use Rattle.p21_stream_statements.specs.Place.{place_behind};
+ghost use Rattle.p21_stream_statements.specs.Source.{IsOfBytes};
 
 use crate::front::{front_of, refused_place};
+use crate::offering::offered;
 use crate::passage::{Passage, front_size, is_file_mark, signpost_inside, too_far};
 use p21_grammar::Event;
 use p21_shorter_tokens::behind_separators;
 use p21_spec_survey::{signpost_laws, whole_laws};
-use p21_stream_resume::{Seeker, Signpost, is_opened_behind, signpost_in_string};
-use p21_stream_statements::{Fault, StatementReader, reader_laws};
+use p21_stream_resume::{
+    Seeker, Signpost, is_opened_behind, signpost_in_string, signpost_in_unended,
+};
+use p21_stream_statements::{Expected, Fault, Places, StatementReader, reader_laws};
 use p21_values::{Limits, NoMemory};
 use std::alloc::{AllocError, Global};
 use std::marker::Model;
@@ -42,6 +48,7 @@ impl Log {
     /// A log of a file of which nothing is read. It takes no memory.
     pub fn new(alloc: Global, limits: Limits) -> Log
         ensures logs { (s : Schema) (known : Known) (ahead : List ℕ) → BeginSo known ahead → Logs s limits known result (at_start ahead) }
+        ensures begins { BeginsAnew 0 result }
     {
         Log {
             reader: StatementReader::new(alloc, limits),
@@ -51,28 +58,32 @@ impl Log {
         }
     }
 
-    /// Takes the bytes of one token, or of the rest of a piece in which none is whole, and says how many; with the `;` of a statement, the
-    /// statement. The byte behind a token may have been looked at: it has to be offered next.
+    /// Takes the bytes of one token, or some in which none is whole, and says how many; with the `;` of a statement, which is the last of
+    /// them, the statement. The byte behind a token may have been looked at: it has to be offered next.
     ///
     /// # Errors
     ///
     /// The reader's, and `NoMemory`.
-    pub fn step(&mut self, piece: &[u8]) -> Result<Option<(usize, Option<Event>)>, Fault>
-        ensures takes { TakesWithinPiece piece.now result }
+    pub fn step(&mut self, piece: &[u8]) -> Result<(usize, Option<Event>), Fault>
+        ensures takes { IfOk result (λ taken. taken.0 ≤ length piece.now) }
         ensures gives { StepGives self.old piece.now result self.new }
+        ensures keeps { StepKeeps self.old piece.now result self.new }
+        ensures kind { IfErr result (λ fault. IsOfBytes fault) }
     {
-        let answer = match self.reader.step(piece) {
+        whole_laws();
+        let bytes = offered(piece);
+        let answer = match self.reader.step(bytes) {
             Ok(answer) => answer,
             Err(fault) => return Err(fault),
         };
         let Some((count, event)) = answer else {
-            return match self.keep(piece) {
-                Ok(()) => Ok(None),
+            return match self.keep(bytes) {
+                Ok(()) => Ok((bytes.len(), None)),
                 Err(NoMemory) => Err(Fault::NoMemory),
             };
         };
-        match self.keep(&piece[..count]) {
-            Ok(()) => Ok(Some((count, event))),
+        match self.keep(&bytes[..count]) {
+            Ok(()) => Ok((count, event)),
             Err(NoMemory) => Err(Fault::NoMemory),
         }
     }
@@ -84,7 +95,8 @@ impl Log {
     ///
     /// `NoMemory`.
     pub fn pass_over(&mut self, instance: &[u8]) -> Result<bool, NoMemory>
-        ensures { IfOk result (λ passed. PassGives self.old instance.now passed self.new) }
+        ensures gives { IfOk result (λ passed. PassGives self.old instance.now passed self.new) }
+        ensures keeps { IfOk result (λ passed. IsTrue passed → Keeps self.old instance.now self.new) }
     {
         if !self.reader.pass_over(instance.len()) {
             return Ok(false);
@@ -97,7 +109,8 @@ impl Log {
 
     /// Takes the statement that ended last. It takes no memory.
     pub fn take(&mut self)
-        ensures { TakeGives self.old self.new }
+        ensures gives { TakeGives self.old self.new }
+        ensures closes { Closes self.old self.new }
     {
         whole_laws();
         self.close();
@@ -106,7 +119,8 @@ impl Log {
     /// Leaves out the instance that ended last, which is refused, and says where it begins: how many bytes of the file stand in front of it.
     /// `None` where a signpost stands in a string of it: then nothing changes. It takes no memory.
     pub fn leave_out(&mut self) -> Option<u64>
-        ensures { LeaveOutGives self.old result self.new }
+        ensures gives { LeaveOutGives self.old result self.new }
+        ensures closes { IfSome result (λ begins. Closes self.old self.new) }
     {
         whole_laws();
         if let Some(_) = signpost_in_string(&self.buffer) {
@@ -121,7 +135,8 @@ impl Log {
     /// says whether it does. It does where the file may have as many bytes. A refusal is forgotten, and the bytes from the place on are to
     /// be offered next. It takes no memory.
     pub fn go_on(&mut self, place: u64) -> bool
-        ensures { GoOnGives self.old place result self.new }
+        ensures gives { GoOnGives self.old place result self.new }
+        ensures begins { IsTrue result → BeginsAnew place self.new }
     {
         whole_laws();
         if !self.reader.reopen(place) {
@@ -147,7 +162,8 @@ impl Log {
         statement: &[u8],
         behind: &[u8],
     ) -> Result<Passage, NoMemory>
-        ensures { IfOk result (λ passage. PassageGives self.old statement.now behind.now passage self.new) }
+        ensures gives { IfOk result (λ passage. PassageGives self.old statement.now behind.now passage self.new) }
+        ensures begins { IfOk result (λ passage. GoesOnAt self.old passage self.new) }
     {
         signpost_laws();
         if let Some((count, signpost)) = signpost_inside(statement, behind) {
@@ -162,6 +178,20 @@ impl Log {
             }
             Ok(None) => Ok(Passage::Sought(seeker)),
             Err(AllocError) => Err(NoMemory),
+        }
+    }
+
+    /// Passes over a statement by all its bytes, with which the file ends in a remark, and in which no remark ends. It reads them no further than
+    /// to where the reading goes on. Its reader need not have taken them all. It takes no memory.
+    pub fn pass_unended(&mut self, alloc: Global, statement: &[u8]) -> Passage
+        requires { EndsNoRemark statement.now }
+        ensures gives { PassageGives self.old statement.now [] result self.new }
+        ensures begins { GoesOnAt self.old result self.new }
+    {
+        signpost_laws();
+        match signpost_in_unended(statement) {
+            Some((count, signpost)) => self.pass_to(count, signpost),
+            None => Passage::Sought(Seeker::new(alloc, is_opened_behind(self.opened, statement))),
         }
     }
 
@@ -180,6 +210,7 @@ impl Log {
     ) -> Result<Option<(usize, Passage)>, NoMemory>
         ensures within { IfOk result (λ found. IfSome found (λ f. f.0 ≤ length piece.now)) }
         ensures gives { IfOk result (λ found. FurtherGives self.old seeker.old taken piece.now found self.new seeker.new) }
+        ensures begins { IfOk result (λ found. IfSome found (λ f. GoesOnAt self.old f.1 self.new)) }
     {
         signpost_laws();
         match seeker.seek(piece) {
@@ -198,7 +229,8 @@ impl Log {
 
     /// Goes on at a signpost that stands behind so many bytes, unless it is that of a file.
     fn pass_to(&mut self, count: usize, signpost: Signpost) -> Passage
-        ensures { PassToGives self.old count signpost result self.new }
+        ensures gives { PassToGives self.old count signpost result self.new }
+        ensures begins { GoesOnAt self.old result self.new }
     {
         if is_file_mark(signpost) {
             return Passage::AtFileMark;
@@ -222,7 +254,8 @@ impl Log {
     ///
     /// The reader's.
     pub fn finish(self) -> Result<(), Fault>
-        ensures { EndGives self result }
+        ensures gives { EndGives self result }
+        ensures kind { IfErr result (λ fault. IsOfBytes fault) }
     {
         whole_laws();
         let Log { reader, .. } = self;
@@ -245,6 +278,30 @@ impl Log {
             return Err(NoMemory);
         };
         Ok(bytes)
+    }
+
+    /// Where in the file the bytes begin that are held: those behind the last statement that ended. It takes no memory.
+    pub fn start(&self) -> u64
+        ensures { result ≡ self.now.start }
+    {
+        self.start
+    }
+
+    /// Where its reader stands in the file. It takes no memory.
+    pub fn places(&self) -> Places
+        ensures { result.byte ≡ place_behind self.now.reader }
+    {
+        self.reader.places()
+    }
+
+    /// Whether it stands between two instances of a data section: then `pass_over` may pass over one. It takes no memory.
+    pub fn is_between_instances(&self) -> bool {
+        self.reader.is_between_instances()
+    }
+
+    /// What its reader could have taken in place of the token that it refused with this fault. It takes no memory.
+    pub fn expected(&self, fault: Fault) -> Expected {
+        Expected::of(fault, &self.reader)
     }
 
     /// Whether it stands in a data section, also where a step was refused. It takes no memory.
@@ -278,7 +335,8 @@ impl Log {
     ) -> Result<&'a [u8], NoMemory>
         ensures front { IfOk result (λ front. IsFrontOf bytes.now front.now) }
         ensures size { IfOk result (λ front. HasSize bytes.now (place - self.now.start) front.now) }
-        ensures breaks_off { IfOk result (λ front. (piece : List ℕ) → bytes.now ≡ self.now.buffer ++ piece → BreaksOff self.now piece front.now) }
+        ensures breaks_off { IfOk result (λ front. (piece : List ℕ) → bytes.now ≡ self.now.buffer ++ piece
+            → BreaksOff self.now piece front.now) }
     {
         whole_laws();
         match front_of(alloc, limits, bytes, place.saturating_sub(self.start)) {
@@ -290,7 +348,8 @@ impl Log {
     /// How many bytes of the file stand in front of the statement that begins with these bytes behind the last one that ended, separators
     /// apart. It takes no memory.
     pub fn begins_in(&self, bytes: &[u8]) -> u64
-        ensures { BeginsIn self.now bytes.now result }
+        ensures begins { BeginsIn self.now bytes.now result }
+        ensures unended { BeginsUnendedIn self.now bytes.now result }
     {
         let statement = behind_separators(bytes);
         let gap = bytes.len().saturating_sub(statement.len());

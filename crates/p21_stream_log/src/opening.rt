@@ -35,7 +35,7 @@ pub fn opening_of(bytes: &[u8]) -> Opening
 }
 
 /// Whether bytes begin with others.
-fn begins_with(bytes: &[u8], front: &[u8]) -> bool
+pub(crate) fn begins_with(bytes: &[u8], front: &[u8]) -> bool
     ensures { IsTrue result ↔ ((rest : List ℕ) × (bytes.now ≡ front.now ++ rest)) }
 {
     bytes.starts_with(front)

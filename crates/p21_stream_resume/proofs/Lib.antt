@@ -11,3 +11,4 @@ pub mod Lexed
 pub mod Standing
 pub mod Statements
 pub mod OpenRemarks
+pub mod EndlessRemarks

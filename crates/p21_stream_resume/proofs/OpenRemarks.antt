@@ -36,7 +36,7 @@ advance-star : (b : ℕ) → (b ≡ 42 → ⊥) → (b ≡ 47 → ⊥) → advan
 advance-star b h k = search (rules, tests)
 
 -- bytes in which no `*/` stands
-abbrev IsOpenText : List ℕ → Type 0
+abbrev pub IsOpenText : List ℕ → Type 0
 IsOpenText inside = IsTail (open_comment inside)
 
 open-tail : (b : ℕ) (inside : List ℕ) → IsOpenText (b ∷ inside) → IsOpenText inside
@@ -105,7 +105,7 @@ in-remark bytes e lexed is = by up.0 up.1 up.2
 -- ---- fewer bytes of a remark, and more
 
 -- the remark stands last
-remark-last : (ls : List Lexeme) (bytes inside : List ℕ) → LaidUpTo bytes ls (open_comment inside) → (before_ : List ℕ) × (bytes ≡ before_ ++ (47 ∷ 42 ∷ inside))
+pub remark-last : (ls : List Lexeme) (bytes inside : List ℕ) → LaidUpTo bytes ls (open_comment inside) → (before_ : List ℕ) × (bytes ≡ before_ ++ (47 ∷ 42 ∷ inside))
 remark-last [] bytes inside (gap_, is, separates, own) = (gap_, is)
 remark-last (l ∷ ls) bytes inside (gap_, spelling, rest, is, separates, spells, size, followed, laid) =
     let (before_, rest_is) = remark-last ls rest inside laid in
@@ -148,7 +148,7 @@ front-laid (l ∷ ls) front inside more (gap_, spelling, rest, is, separates, sp
 pub remark-front : (front inside more : List ℕ) → EndsInRemark (front ++ more) (inside ++ more) → EndsInRemark front inside
 remark-front front inside more (ls, laid) = (ls, front-laid ls front inside more laid)
 
-more-laid : (ls : List Lexeme) (bytes inside more : List ℕ) → LaidUpTo bytes ls (open_comment inside) → IsOpenText (inside ++ more) → LaidUpTo (bytes ++ more) ls (open_comment (inside ++ more))
+pub more-laid : (ls : List Lexeme) (bytes inside more : List ℕ) → LaidUpTo bytes ls (open_comment inside) → IsOpenText (inside ++ more) → LaidUpTo (bytes ++ more) ls (open_comment (inside ++ more))
 more-laid [] bytes inside more (gap_, is, separates, own) open_ = (gap_, ap (λ (l : List ℕ). l ++ more) is ∙ append_assoc gap_ (47 ∷ 42 ∷ inside) more, separates, open_)
 more-laid (l ∷ ls) bytes inside more (gap_, spelling, rest, is, separates, spells, size, followed, laid) open_ = (
   gap_,
@@ -186,7 +186,7 @@ by-last [] x = ([], x, refl)
 by-last (y ∷ xs) x = let (front, last, is) = by-last xs y in (x ∷ front, last, ap (λ (l : List ℕ). x ∷ l) is)
 
 -- a byte more with which no `*/` ends
-open-on : (inside : List ℕ) (b : ℕ) → IsOpenText inside → ((before_ : List ℕ) → inside ≡ before_ ++ 42 ∷ [] → b ≡ 47 → ⊥) → IsOpenText (inside ++ b ∷ [])
+pub open-on : (inside : List ℕ) (b : ℕ) → IsOpenText inside → ((before_ : List ℕ) → inside ≡ before_ ++ 42 ∷ [] → b ≡ 47 → ⊥) → IsOpenText (inside ++ b ∷ [])
 open-on inside b none other before_ [] same =
     let (front_is, last_is) = same_from_push inside (before_ ++ 42 ∷ []) b 47 (same ∙ sym (append_assoc before_ (42 ∷ []) (47 ∷ []))) in
     other before_ front_is last_is
@@ -258,6 +258,13 @@ pub record IsAlong (statement : List ℕ) (count : ℕ) (m : Mode) (last : ℕ) 
 pub along-first : (statement : List ℕ) → IsAlong statement 0 lexing.start.mode 0 None
 along-first statement = record { lexing = behind-first statement; finds = λ place signpost low stands. omega (arith, low) }
 
+-- fewer bytes at the front are those of more
+pub front-part : (i j : ℕ) → i ≤ j → (bytes : List ℕ) → (between : List ℕ) × (take j bytes ≡ take i bytes ++ between)
+front-part zero j near bytes = (take j bytes, refl)
+front-part (suc i) zero near bytes = absurd (omega (arith, near))
+front-part (suc i) (suc j) near [] = ([], refl)
+front-part (suc i) (suc j) near (x ∷ bytes) = let (between, is) = front-part i j (omega (arith, near)) bytes in (between, ap (λ (l : List ℕ). x ∷ l) is)
+
 module _ (statement : List ℕ) (count : ℕ) (low : count < length statement) where
   abbrev b : ℕ
   b = get_or statement count 0
@@ -274,12 +281,6 @@ module _ (statement : List ℕ) (count : ℕ) (low : count < length statement) w
         in_remark = subst (λ (l : List ℕ). IsInOpenRemark (take place statement) l) (sym parts) (open-between (take place statement) between (b ∷ []) all);
         stands = stands.stands;
       }
-    where
-      front-part : (i j : ℕ) → i ≤ j → (bytes : List ℕ) → (between : List ℕ) × (take j bytes ≡ take i bytes ++ between)
-      front-part zero j near_ bytes = (take j bytes, refl)
-      front-part (suc i) zero near_ bytes = absurd (omega (arith, near_))
-      front-part (suc i) (suc j) near_ [] = ([], refl)
-      front-part (suc i) (suc j) near_ (x ∷ bytes) = let (between, is) = front-part i j (omega (arith, near_)) bytes in (between, ap (λ (l : List ℕ). x ∷ l) is)
 
 -- a signpost stands in front of the end
 stands-within : (statement : List ℕ) (place : ℕ) (signpost : Signpost) → StandsAt (take place statement) (drop place statement) signpost → place < length statement
@@ -406,7 +407,7 @@ past [] more_ place low = (take place more_, refl)
 past (x ∷ front) more_ zero low = absurd (omega (arith, low))
 past (x ∷ front) more_ (suc place) low = let (between, is) = past front more_ place (omega (arith, low)) in (between, ap (λ (l : List ℕ). x ∷ l) is)
 
-in-both : (m : Mode) → IsInRemark m → IsInString m → ⊥
+pub in-both : (m : Mode) → IsInRemark m → IsInString m → ⊥
 in-both Comment is also = also
 in-both Star is also = also
 in-both _ is also = is

@@ -1,5 +1,5 @@
 -- Signposts that stand at the front of bytes, in a string of a statement, and in the remark in which it ends (this project's own, on the tokens of ISO 10303-21).
-use Rattle.std.specs.Prelude.{◌≡◌, ◌≤◌, ℕ, List, ◌++◌, length, take, drop, Option, Some, None}
+use Rattle.std.specs.Prelude.{◌≡◌, ◌≤◌, ◌⊎◌, ℕ, List, ◌∷◌, ◌++◌, length, take, drop, Option, Some, None}
 use Rattle.p21_spec_survey.specs.Landmark.{IsSignpost, Signpost, StandsAt, signpost_bytes}
 use Rattle.p21_spec_survey.specs.Resuming.{EndsInString, IsInOpenRemark}
 use Rattle.p21_stream_resume.specs.Lexing.{IsInRemark}
@@ -47,6 +47,15 @@ abbrev pub FindsInRemark : List ℕ → Option (ℕ × code.Signpost) → Type 0
 FindsInRemark statement None = (place : ℕ) (signpost : Signpost) → StandsInRemark statement place signpost → ⊥
 FindsInRemark statement (Some (place, own)) = ((signpost : Signpost) × StandsInRemark statement place signpost × Describes own signpost)
     × ((earlier : ℕ) (signpost : Signpost) → StandsInRemark statement earlier signpost → place ≤ earlier)
+
+-- no `*/` stands in the bytes
+abbrev pub EndsNoRemark : List ℕ → Type 0
+EndsNoRemark bytes = (before after : List ℕ) → bytes ≡ before ++ (42 ∷ 47 ∷ after) → ⊥
+
+-- the first signpost in a string of a statement is found; or else the first one in the remark in which it ends; or none stands so
+abbrev pub FindsInText : List ℕ → Option (ℕ × code.Signpost) → Type 0
+FindsInText statement (Some found) = FindsInString statement (Some found) ⊎ (FindsInString statement None × FindsInRemark statement (Some found))
+FindsInText statement None = FindsInString statement None × FindsInRemark statement None
 
 -- what is found in front of a byte of a statement stays; else, where the mode is one of a remark, what stands there is found
 abbrev pub FindsNext : List ℕ → ℕ → Mode → Option (ℕ × code.Signpost) → Option (ℕ × code.Signpost) → Type 0

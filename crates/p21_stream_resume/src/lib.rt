@@ -9,7 +9,8 @@
 //! Of a refused statement the bytes are kept, and `signpost_in_string` looks through them once for the first signpost in a string
 //! (`proofs/Statements` says what that is of a whole statement): where a lexer stands says whether a string is open (`in-string`,
 //! `string-in` in `proofs/Lexed`), and a signpost at the front of bytes is read by the same steps (`proofs/Standing`). Where a file ends in a
-//! remark that nothing ends, `signpost_in_remark` looks through this in the same way (`proofs/OpenRemarks`).
+//! remark that nothing ends, `signpost_in_remark` looks through this in the same way (`proofs/OpenRemarks`); and where no remark of many ends, `signpost_in_unended`
+//! looks no further than to the signpost (`proofs/EndlessRemarks`).
 //!
 //! `specs/Reading` says what a whole byte list is read as, by `step` alone; `proofs/Finding` joins that to the definitions: behind bytes
 //! in which no signpost is whole the state says whether one may begin (`Runs`), there each one is read to its end (`signpost-run`), and
@@ -25,9 +26,11 @@ mod seeker;
 mod signpost;
 mod step;
 mod strings;
+mod unended;
 
 pub use behind::is_opened_behind;
 pub use remarks::signpost_in_remark;
 pub use seeker::Seeker;
 pub use signpost::{Numeral, Signpost};
 pub use strings::signpost_in_string;
+pub use unended::signpost_in_unended;

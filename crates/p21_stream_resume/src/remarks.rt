@@ -55,7 +55,7 @@ fn kept_in(mode: Mode, found: Option<(usize, Signpost)>) -> Option<(usize, Signp
 }
 
 /// Whether a remark is open.
-fn is_in_remark(mode: Mode) -> bool
+pub(crate) fn is_in_remark(mode: Mode) -> bool
     ensures { IsTrue result ↔ IsInRemark mode }
 {
     match mode {

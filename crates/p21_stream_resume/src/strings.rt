@@ -57,7 +57,7 @@ pub(crate) fn signpost_at(bytes: &[u8], place: usize) -> Option<Signpost>
 }
 
 /// Whether a string is open, and not behind the apostrophe that ends it.
-fn is_in_string(mode: Mode) -> bool
+pub(crate) fn is_in_string(mode: Mode) -> bool
     ensures { IsTrue result ↔ IsInString mode }
 {
     match mode {

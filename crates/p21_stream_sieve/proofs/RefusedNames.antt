@@ -28,15 +28,21 @@ has-none names no_key n = (
 )
 
 -- a refusal more
-pub has-listed : (names added : BTreeSet ℕ) (refusals : List Refusal) (fault : Fault) (n : ℕ) → Updates nat_cmp names added n true → HaveNames names refusals → HaveNames added (refusals ++ at_instance fault n ∷ [])
+pub has-listed : (names added : BTreeSet ℕ) (refusals : List Refusal) (fault : Fault) (n : ℕ) → Updates nat_cmp names added n true
+    → HaveNames names refusals → HaveNames added (refusals ++ at_instance fault n ∷ [])
 has-listed names added refusals fault n updates has q = by (eq_by_cmp nat_cmp n q) refl (updates.0 q) where
   earlier : HasRefusal refusals q → HasRefusal (refusals ++ at_instance fault n ∷ []) q
   earlier (other, among) = (other, Contains-append_left refusals (at_instance fault n ∷ []) (at_instance other q) among)
 
-  by : (same : Bool) → eq_by_cmp nat_cmp n q ≡ same → contains nat_cmp added q ≡ cond same true (contains nat_cmp names q) → HasName added q ↔ HasRefusal (refusals ++ at_instance fault n ∷ []) q
+  by : (same : Bool) → eq_by_cmp nat_cmp n q ≡ same → contains nat_cmp added q ≡ cond same true (contains nat_cmp names q) → HasName added q
+      ↔ HasRefusal (refusals ++ at_instance fault n ∷ []) q
   by true is now =
       let equal : n ≡ q = tells_apart exact_unsigned n q is in (
-        λ had. (fault, subst (λ (m : ℕ). Contains (refusals ++ at_instance fault n ∷ []) (at_instance fault m)) equal (Contains-append_right refusals (at_instance fault n ∷ []) (at_instance fault n) (Contains-first (at_instance fault n) []))),
+        λ had. (
+          fault,
+          subst (λ (m : ℕ). Contains (refusals ++ at_instance fault n ∷ []) (at_instance fault m)) equal
+              (Contains-append_right refusals (at_instance fault n ∷ []) (at_instance fault n) (Contains-first (at_instance fault n) [])),
+        ),
         λ had. now,
       )
   by false is now = (

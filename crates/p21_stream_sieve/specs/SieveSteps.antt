@@ -28,13 +28,15 @@ pub record Follows (s : Schema) (limits : Limits) (sieve : Sieve) (statement : S
   pub few : length (flat_map statement_tokens (given ++ statement ∷ [])) < 2 ^ 64
 
 -- An instance of this name stands there, and this is found of it
-pub record FollowsFound (s : Schema) (limits : Limits) (sieve : Sieve) (n : ℕ) (entities : List ℕ) (needs : List Need) (text : List ℕ) : Type 0 where
+pub record FollowsFound (s : Schema) (limits : Limits) (sieve : Sieve) (n : ℕ) (entities : List ℕ) (needs : List Need)
+    (text : List ℕ) : Type 0 where
   pub record_ : Record
   pub found : HasFound s n record_ entities needs text
   pub follows : Follows s limits sieve (instance n record_)
 
 -- behind the statements that passed, the statement is refused by this fault
-pub record Ends (s : Schema) (limits : Limits) (given : List Statement) (sieve : Sieve) (statement : Statement) (fault : Fault) : Type 0 where
+pub record Ends (s : Schema) (limits : Limits) (given : List Statement) (sieve : Sieve) (statement : Statement) (fault : Fault) : Type
+    0 where
   pub passed : List Statement
   pub sifted : AreSifted s given passed sieve.refusals.items
   pub keeps : Keeps s limits passed sieve.kept
@@ -43,12 +45,16 @@ pub record Ends (s : Schema) (limits : Limits) (given : List Statement) (sieve :
 -- what a statement gives, for all statements that the sieve has taken: it is kept or listed; or it ends the reading, and
 -- nothing is listed
 abbrev pub StepGives : Schema → Limits → Sieve → Statement → Result (Unit {0}) Fault → Sieve → Type 0
-StepGives s limits old statement (Ok done) new = (given : List Statement) → Sifts s limits given old → Sifts s limits (given ++ statement ∷ []) new
-StepGives s limits old statement (Err fault) new = fault ≢ NoMemory → (new.refusals.items ≡ old.refusals.items) × ((given : List Statement) → Sifts s limits given old → Ends s limits given old statement fault)
+StepGives s limits old statement (Ok done) new = (given : List Statement) → Sifts s limits given old
+    → Sifts s limits (given ++ statement ∷ []) new
+StepGives s limits old statement (Err fault) new = fault ≢ NoMemory
+    → (new.refusals.items ≡ old.refusals.items) × ((given : List Statement) → Sifts s limits given old
+    → Ends s limits given old statement fault)
 
 -- the same of an instance, by what is found of it
 abbrev pub FoundGives : Schema → Limits → Sieve → ℕ → List ℕ → List Need → List ℕ → Result (Unit {0}) Fault → Sieve → Type 0
-FoundGives s limits old n entities needs text result new = (record_ : Record) → HasFound s n record_ entities needs text → StepGives s limits old (instance n record_) result new
+FoundGives s limits old n entities needs text result new = (record_ : Record) → HasFound s n record_ entities needs text
+    → StepGives s limits old (instance n record_) result new
 
 -- ---- instances that are refused before they are asked for
 

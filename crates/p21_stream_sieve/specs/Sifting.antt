@@ -44,15 +44,18 @@ IsOfInstance Write = ⊥
 -- Behind the statements given an instance is refused by this fault: its record means nothing, whatever the other instances
 -- are, and breaks the rule of the fault's number; or an instance among those statements has its name
 pub data RefusesInstance (s : Schema) (given : List Statement) (n : ℕ) (record_ : Record) : Fault → Type 0 where
-  broken : (fault : Fault) → IsOfInstance fault → MeansNothing s record_ → Breaks s record_ (fault_number fault) → RefusesInstance s given n record_ fault
+  broken : (fault : Fault) → IsOfInstance fault → MeansNothing s record_ → Breaks s record_ (fault_number fault)
+      → RefusesInstance s given n record_ fault
   name_again : Contains (names_among given) n → RefusesInstance s given n record_ DuplicateName
 
 -- The statements given, in their order; those of them that pass; and the refusals of the others, which are instances, in
 -- the same order
 pub data AreSifted (s : Schema) : List Statement → List Statement → List Refusal → Type 0 where
   none : AreSifted s [] [] []
-  passes : (given passed : List Statement) (refusals : List Refusal) (statement : Statement) → AreSifted s given passed refusals → AreSifted s (given ++ statement ∷ []) (passed ++ statement ∷ []) refusals
-  refuses : (given passed : List Statement) (refusals : List Refusal) (n : ℕ) (record_ : Record) (fault : Fault) → AreSifted s given passed refusals → RefusesInstance s given n record_ fault
+  passes : (given passed : List Statement) (refusals : List Refusal) (statement : Statement) → AreSifted s given passed refusals
+      → AreSifted s (given ++ statement ∷ []) (passed ++ statement ∷ []) refusals
+  refuses : (given passed : List Statement) (refusals : List Refusal) (n : ℕ) (record_ : Record) (fault : Fault)
+      → AreSifted s given passed refusals → RefusesInstance s given n record_ fault
       → AreSifted s (given ++ instance n record_ ∷ []) passed (refusals ++ at_instance fault n ∷ [])
 
 -- whether the set has the name

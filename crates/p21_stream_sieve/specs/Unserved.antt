@@ -23,11 +23,13 @@ AnswersReference s kept names reference (Some fault) = IsRefused s kept names re
 
 -- the refusal is of this reference
 abbrev pub IsRefusalOf : Schema → Kept → BTreeSet ℕ → Reference → Refusal → Type 0
-IsRefusalOf s kept names reference refusal = (fault : Fault) × IsRefused s kept names reference fault × (refusal ≡ at_instance fault reference.0)
+IsRefusalOf s kept names reference refusal = (fault : Fault) × IsRefused s kept names reference fault
+    × (refusal ≡ at_instance fault reference.0)
 
 -- the target has one of these names, or it serves, or the refusal of the reference is among these
 abbrev pub IsAnswered : Schema → Kept → BTreeSet ℕ → List Refusal → Reference → Type 0
-IsAnswered s kept names refusals reference = HasName names reference.1.target ⊎ IsServedBy s kept.stored reference.1 ⊎ ((refusal : Refusal) × Contains refusals refusal × IsRefusalOf s kept names reference refusal)
+IsAnswered s kept names refusals reference = HasName names reference.1.target ⊎ IsServedBy s kept.stored reference.1
+    ⊎ ((refusal : Refusal) × Contains refusals refusal × IsRefusalOf s kept names reference refusal)
 
 -- the refusal of a reference is added, where it has one
 pub record AddsRefusal (s : Schema) (kept : Kept) (names : BTreeSet ℕ) (reference : Reference) (old new : List Refusal) : Type 0 where
@@ -40,5 +42,6 @@ pub record AddsRefusal (s : Schema) (kept : Kept) (names : BTreeSet ℕ) (refere
 pub record ListsUnserved (s : Schema) (kept : Kept) (names : BTreeSet ℕ) (most : ℕ) (old new : List Refusal) : Type 0 where
   pub added : List Refusal
   pub new_is : new ≡ old ++ added
-  pub right : Each (λ (refusal : Refusal). (reference : Reference) × Contains kept.waiting reference × IsRefusalOf s kept names reference refusal) added
+  pub right : Each (λ (refusal : Refusal). (reference : Reference) × Contains kept.waiting reference
+      × IsRefusalOf s kept names reference refusal) added
   pub all : length new < most → Each (IsAnswered s kept names added) kept.waiting

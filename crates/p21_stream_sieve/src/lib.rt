@@ -10,4 +10,4 @@ mod unserved;
 pub use indices::Indices;
 pub use placing::{attribute_of, elements_of, inside, place_of};
 pub use sieve::Sieve;
-pub use spots::Spots;
+pub use spots::{PassedOver, RefusedStatement, Spots};

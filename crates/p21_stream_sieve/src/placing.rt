@@ -1,4 +1,8 @@
 //! Where a refusal stands, by what its reader has in hand.
+//!
+//! The check of a record notes the way from the value up to the record while it hands up the refusal (`Trail`), so that an accepted record
+//! costs nothing. For what stands inside a statement its bytes are read once more where it is refused: kept are the bytes of a statement that
+//! is open behind a piece, and no places of its values, which would cost time with each of them.
 ghost use Rattle.std.specs.Prelude.{◌≡◌};
 ghost use Rattle.p21_stream_statements.specs.Place.{IsPlaceOf};
 

@@ -143,8 +143,10 @@ impl Sieve {
         limits: Limits,
         found: &FoundInstance<'_>,
     ) -> Result<(), Fault>
-        requires { FollowsFound schema.now limits self.old found.now.name (ids_view found.now.entities.now) (needs_view found.now.needs.now) found.now.line.now }
-        ensures gives { FoundGives schema.now limits self.old found.now.name (ids_view found.now.entities.now) (needs_view found.now.needs.now) found.now.line.now result self.new }
+        requires { FollowsFound schema.now limits self.old found.now.name (ids_view found.now.entities.now) (needs_view found.now.needs.now)
+            found.now.line.now }
+        ensures gives { FoundGives schema.now limits self.old found.now.name (ids_view found.now.entities.now)
+            (needs_view found.now.needs.now) found.now.line.now result self.new }
         ensures listed { ListsOne self.old.refusals.items result self.new.refusals.items }
         ensures kind { IfErr result (λ fault. IsOfStatement fault) }
     {
@@ -217,7 +219,8 @@ impl Sieve {
         most: u64,
         spots: &mut Spots,
     ) -> Result<(), NoMemory>
-        ensures lists { OnOk result (ListsUnserved schema.now self.old.kept self.old.names most self.old.refusals.items self.new.refusals.items) }
+        ensures lists { OnOk result (ListsUnserved schema.now self.old.kept self.old.names most self.old.refusals.items
+            self.new.refusals.items) }
         ensures counted { length self.old.refusals.items ≤ most → OnOk result (length self.new.refusals.items ≤ most) }
         ensures kept { self.new.kept ≡ self.old.kept }
     {

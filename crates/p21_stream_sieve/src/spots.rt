@@ -3,14 +3,18 @@
 //! token is kept of those refusals alone that are of one.
 //!
 //! A refusal is listed when its statement ends, and then its place is found: the bytes of the statement are read once
-//! more. A session, and a survey that isn't asked for places, keep none and look for none.
+//! more. A session, and a survey that isn't asked for places, keep none and look for none. Of a record that is refused by what is known of an
+//! entity with a large set the value is looked for by the walk of the whole set, as long as fewer than 4,096 refusals are listed: behind them it
+//! has the place of its instance.
 
 use crate::indices::Indices;
 use crate::placing::{attribute_of, elements_of, inside, place_of};
 use p21_express_graph::Place as AttributePlace;
 use p21_mapping::Trail;
 use p21_mapping_values::Need;
-use p21_stream_statements::{Expected, Place, Refusal, Source, StatementReader};
+use p21_stream_statements::{
+    Expected, Fault, Place, Places, Refusal, Source, StatementReader, place_inside,
+};
 use std::alloc::Global;
 
 /// Where a refusal stands.
@@ -20,6 +24,23 @@ struct Spot {
     attribute: Option<AttributePlace>,
     // So many indices are kept up to the last one of this refusal.
     indices: u32,
+}
+
+/// A statement of which something is refused: its bytes as far as they are read, how many bytes of the file stand in front of it, where its
+/// reader stands, and what could stand in place of a token that is refused.
+#[derive(Clone, Copy)]
+pub struct RefusedStatement<'a> {
+    pub bytes: &'a [u8],
+    pub begins: u64,
+    pub places: Places,
+    pub expected: Expected,
+}
+
+/// A statement that is passed over: how many bytes of the file stand in front of it, and in front of what is read behind it.
+#[derive(Clone, Copy, Debug, PartialEq, Eq)]
+pub struct PassedOver {
+    pub begins: u64,
+    pub ends: u64,
 }
 
 /// What could stand in place of the token that a refusal is of.
@@ -41,6 +62,8 @@ pub struct Spots {
     awaited: Vec<Awaited>,
     // What is wanted at the references whose refusals stand behind these.
     needs: Vec<Need>,
+    // The statements that are passed over, in the order of the file.
+    passed_over: Vec<PassedOver>,
 }
 
 // Written out: crates above call it, where they would prove a derived one field by field.
@@ -53,6 +76,7 @@ impl Drop for Spots {
             indices: _,
             awaited: _,
             needs: _,
+            passed_over: _,
         } = self;
     }
 }
@@ -67,6 +91,7 @@ impl Spots {
             indices: Vec::new(alloc),
             awaited: Vec::new(alloc),
             needs: Vec::new(alloc),
+            passed_over: Vec::new(alloc),
         }
     }
 
@@ -116,6 +141,11 @@ impl Spots {
         self.needs.get(behind).copied()
     }
 
+    /// The statement of this number, counted from 0, of those that are passed over.
+    pub fn passed_over(&self, number: usize) -> Option<PassedOver> {
+        self.passed_over.get(number).copied()
+    }
+
     fn numbers(&self, number: usize) -> Option<&[u32]> {
         let start = match number.checked_sub(1) {
             Some(before) => self.all.get(before)?.indices,
@@ -145,9 +175,40 @@ impl Spots {
             trail.steps(),
         );
         let place = place_of(refusal.fault, statements.places(), noted);
-        let attribute = attribute_of(refusal.fault, trail);
-        let elements = Indices::of(elements_of(refusal.fault, trail));
         let expected = Expected::of(refusal.fault, statements);
+        self.note_at(refusal.fault, place, expected, trail);
+    }
+
+    /// Notes where a refusal of this statement stands, which is the next of the list. Where memory is refused no further places are noted.
+    #[inline(never)]
+    pub fn note_refused(
+        &mut self,
+        refusal: Refusal,
+        statement: RefusedStatement<'_>,
+        trail: &Trail,
+    ) {
+        if !self.is_asked {
+            return;
+        }
+        let RefusedStatement {
+            bytes,
+            begins,
+            places,
+            expected,
+        } = statement;
+        let fault = refusal.fault;
+        let noted = place_inside(self.alloc, refusal, begins, bytes, trail.steps());
+        let places = Places {
+            statement: begins,
+            ..places
+        };
+        let place = place_of(fault, places, noted);
+        self.note_at(fault, place, expected, trail);
+    }
+
+    fn note_at(&mut self, fault: Fault, place: Option<Place>, expected: Expected, trail: &Trail) {
+        let attribute = attribute_of(fault, trail);
+        let elements = Indices::of(elements_of(fault, trail));
         self.is_asked = self.await_tokens(expected).is_some()
             && self.add(place, attribute, elements.numbers()).is_some();
     }
@@ -166,6 +227,13 @@ impl Spots {
         }
         if self.needs.push(need).is_err() {
             self.is_asked = false;
+        }
+    }
+
+    /// Notes that a statement is passed over, which is the next one of these.
+    pub fn note_passed_over(&mut self, statement: PassedOver) {
+        if self.is_asked {
+            self.is_asked = self.passed_over.push(statement).is_ok();
         }
     }
 

@@ -44,7 +44,9 @@ fn list_each(
     spots: &mut Spots,
 ) -> Result<(), NoMemory>
     requires { length found.now ≡ length waiting.now }
-    ensures lists { (s : Meant) (kept : MeantKept) → references_of waiting.now ≡ kept.waiting → AllZip (AnswersNeedOf s kept.stored) (references_of waiting.now) found.now → OnOk result (ListsUnserved s kept names.now most refusals.old.items refusals.new.items) }
+    ensures lists { (s : Meant) (kept : MeantKept) → references_of waiting.now ≡ kept.waiting
+        → AllZip (AnswersNeedOf s kept.stored) (references_of waiting.now) found.now
+        → OnOk result (ListsUnserved s kept names.now most refusals.old.items refusals.new.items) }
     ensures counted { length refusals.old.items ≤ most → OnOk result (length refusals.new.items ≤ most) }
 {
     for index in 0..waiting.len() {
@@ -64,7 +66,8 @@ fn list_one(
     refusals: &mut Vec<Refusal>,
     spots: &mut Spots,
 ) -> Result<(), NoMemory>
-    ensures adds { (s : Meant) (kept : MeantKept) → AnswersNeedOf s kept.stored (reference_of reference.now) found → OnOk result (AddsRefusal s kept names.now (reference_of reference.now) refusals.old.items refusals.new.items) }
+    ensures adds { (s : Meant) (kept : MeantKept) → AnswersNeedOf s kept.stored (reference_of reference.now) found
+        → OnOk result (AddsRefusal s kept names.now (reference_of reference.now) refusals.old.items refusals.new.items) }
     ensures counted { OnOk result (length refusals.new.items ≤ length refusals.old.items + 1) }
 {
     let Some(fault) = found else {

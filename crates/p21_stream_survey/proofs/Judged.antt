@@ -14,8 +14,7 @@ use Rattle.p21_spec_schema.specs.Schema.{Schema, TypeUse}
 use Rattle.p21_spec_schema.specs.WellFormed.{IsWellFormed}
 use Rattle.p21_stream_kept.specs.Steps as kept_steps
 use Rattle.p21_stream_kept.specs.Taking as kept_taking
-use Rattle.p21_stream_sieve.proofs.SieveTaking.{Reason, by_name, by_rule, by_size}
-use Rattle.p21_stream_survey.proofs.RefusedBefore.{reason-is, refuses-behind}
+use Rattle.p21_stream_sieve.proofs.SieveTaking.{Reason, by_name, by_rule, by_size, reason-is, refuses-behind}
 use Rattle.p21_stream_sieve.proofs.Sifted.{passed-few, passed-first, passed-named, refused-named}
 use Rattle.p21_stream_sieve.specs.SieveSteps.{IsRefusedAlone}
 use Rattle.p21_stream_sieve.specs.Sifting.{HasName, IsOfInstance, name_again, passes}
@@ -31,23 +30,29 @@ use Rattle.p21_stream_survey.specs.declared.judging.Judgement.TheVariants.{Right
 
 -- ---- what is asked of what is kept
 
-pub follows-taken : (s : Schema) (limits : Limits) (sieve : Sieve) (statement : Statement) → Follows s limits sieve statement → kept_taking.Follows s limits sieve.kept statement
+pub follows-taken : (s : Schema) (limits : Limits) (sieve : Sieve) (statement : Statement) → Follows s limits sieve statement
+    → kept_taking.Follows s limits sieve.kept statement
 follows-taken s limits sieve statement follows =
     let sifts = follows.sifts in
     let rs = sieve.refusals.items in
     let (u, first) = passed-first s follows.given follows.taken rs sifts.sifted (statement ∷ []) follows.structure follows.are_first in
-    let fewer = passed-few s (follows.given ++ statement ∷ []) (follows.taken ++ statement ∷ []) rs (passes follows.given follows.taken rs statement sifts.sifted) in
+    let fewer = passed-few s (follows.given ++ statement ∷ []) (follows.taken ++ statement ∷ []) rs
+    (passes follows.given follows.taken rs statement sifts.sifted) in
     let few = follows.few in
     record { given = follows.taken; keeps = sifts.keeps; structure = u; are_first = first; few = omega (arith, fewer, few) }
 
-pub found-taken : (s : Schema) (limits : Limits) (sieve : Sieve) (n : ℕ) (entities : List ℕ) (needs : List Need) (text : List ℕ) → FollowsFound s limits sieve n entities needs text → kept_taking.FollowsFound s limits sieve.kept n entities needs text
-found-taken s limits sieve n entities needs text is = record { record_ = is.record_; found = is.found; follows = follows-taken s limits sieve (instance n is.record_) is.follows }
+pub found-taken : (s : Schema) (limits : Limits) (sieve : Sieve) (n : ℕ) (entities : List ℕ) (needs : List Need) (text : List ℕ)
+    → FollowsFound s limits sieve n entities needs text → kept_taking.FollowsFound s limits sieve.kept n entities needs text
+found-taken s limits sieve n entities needs text is =
+    record { record_ = is.record_; found = is.found; follows = follows-taken s limits sieve (instance n is.record_) is.follows }
 
 -- ---- a statement that is kept, or ends the list
 
 -- a statement that is no instance
-pub kept-judges : (s : Schema) (limits : Limits) (old : Sieve) (kept : Kept) (statement : Statement) (result : Result (Unit {0}) Fault) → kept_steps.StepGives s limits old.kept statement result kept → kept.lines ≡ old.kept.lines
-    → ((n : ℕ) (r : Record) → statement ≡ instance n r → ⊥) → JudgeGives s limits old statement (said_of result) (record old { kept = kept })
+pub kept-judges : (s : Schema) (limits : Limits) (old : Sieve) (kept : Kept) (statement : Statement) (result : Result (Unit {0}) Fault)
+    → kept_steps.StepGives s limits old.kept statement result kept → kept.lines ≡ old.kept.lines
+    → ((n : ℕ) (r : Record) → statement ≡ instance n r → ⊥)
+    → JudgeGives s limits old statement (said_of result) (record old { kept = kept })
 kept-judges s limits old kept statement (Ok done) gives lines none = λ given taken sifts. record {
   sifts = record {
     sifted = passes given taken old.refusals.items statement sifts.sifted;
@@ -64,11 +69,14 @@ kept-judges s limits old kept statement (Err fault) gives lines none = λ other 
 }
 
 -- the same where nothing has changed before it
-pub said-judges : (s : Schema) (limits : Limits) (old now : Sieve) (kept : Kept) (statement : Statement) (result : Result (Unit {0}) Fault) (said : Result Judgement Fault) → now ≡ old → kept_steps.StepGives s limits now.kept statement result kept
-    → kept.lines ≡ now.kept.lines → ((n : ℕ) (r : Record) → statement ≡ instance n r → ⊥) → said ≡ said_of result → JudgeGives s limits old statement said (record now { kept = kept })
+pub said-judges : (s : Schema) (limits : Limits) (old now : Sieve) (kept : Kept) (statement : Statement) (result : Result (Unit {0}) Fault)
+    (said : Result Judgement Fault) → now ≡ old → kept_steps.StepGives s limits now.kept statement result kept
+    → kept.lines ≡ now.kept.lines → ((n : ℕ) (r : Record) → statement ≡ instance n r → ⊥) → said ≡ said_of result
+    → JudgeGives s limits old statement said (record now { kept = kept })
 said-judges s limits old now kept statement result said same gives lines none is =
     subst (λ (sieve : Sieve). JudgeGives s limits sieve statement said (record now { kept = kept })) same
-    (subst (λ (answer : Result Judgement Fault). JudgeGives s limits now statement answer (record now { kept = kept })) (sym is) (kept-judges s limits now kept statement result gives lines none))
+    (subst (λ (answer : Result Judgement Fault). JudgeGives s limits now statement answer (record now { kept = kept })) (sym is)
+    (kept-judges s limits now kept statement result gives lines none))
 
 pub no-section : (line : SectionLine) (n : ℕ) (r : Record) → section line ≡ instance n r → ⊥
 no-section line n r is = cc
@@ -76,7 +84,8 @@ no-section line n r is = cc
 pub no-header : (part : Part) (n : ℕ) (r : Record) → header part ≡ instance n r → ⊥
 no-header part n r is = cc
 
-pub taken-judges : (s : Schema) (limits : Limits) (old : Sieve) (kept : Kept) (n : ℕ) (record_ : Record) → kept_steps.StepGives s limits old.kept (instance n record_) (Ok tt) kept → kept.lines ≡ old.kept.lines → ¬ HasName old.names n
+pub taken-judges : (s : Schema) (limits : Limits) (old : Sieve) (kept : Kept) (n : ℕ) (record_ : Record)
+    → kept_steps.StepGives s limits old.kept (instance n record_) (Ok tt) kept → kept.lines ≡ old.kept.lines → ¬ HasName old.names n
     → JudgeGives s limits old (instance n record_) (Ok Right) (record old { kept = kept })
 taken-judges s limits old kept n r gives lines fresh = λ given taken sifts. record {
   sifts = record {
@@ -85,14 +94,15 @@ taken-judges s limits old kept n r gives lines fresh = λ given taken sifts. rec
     lines = lines ∙ sifts.lines;
     names = sifts.names;
   };
-  right = right-behind s limits given taken old (instance n r) kept sifts (gives taken sifts.keeps) (λ m q is. (let same : n ≡ m = cc in subst (λ (k : ℕ). ¬ HasName old.names k) same fresh));
+  right = right-behind s limits given taken old (instance n r) kept sifts (gives taken sifts.keeps)
+      (λ m q is. (let same : n ≡ m = cc in subst (λ (k : ℕ). ¬ HasName old.names k) same fresh));
   names = refl;
 }
 
 -- ---- an instance that ends the list
 
 -- the numbers of records
-abbrev IsRule : ℕ → Type 0
+abbrev pub IsRule : ℕ → Type 0
 IsRule number = (number ≡ 8) ⊎ ((40 < number) × (number < 56)) ⊎ (number ≡ 58)
 
 rule-at : (s : Schema) (type : TypeUse) (p : Param) (number : ℕ) → BreaksAt s type p number → IsRule number
@@ -116,7 +126,7 @@ rule-place : (s : Schema) (at : PlaceType) (p : Param) (number : ℕ) → Breaks
 rule-place s at p number (derived_not_star _ _) = inr (inl (omega arith, omega arith))
 rule-place s at p number (stored _ type q _ _ within) = rule-within s number type q within
 
-rule-of : (s : Schema) (record_ : Record) (number : ℕ) → Breaks s record_ number → IsRule number
+pub rule-of : (s : Schema) (record_ : Record) (number : ℕ) → Breaks s record_ number → IsRule number
 rule-of s r number (unknown_entity _) = inr (inl (omega arith, omega arith))
 rule-of s r number (part_twice _) = inr (inl (omega arith, omega arith))
 rule-of s r number (part_missing _) = inr (inl (omega arith, omega arith))
@@ -127,12 +137,15 @@ rule-of s r number (wrong_count _) = inr (inl (omega arith, omega arith))
 rule-of s r number (at_place _ (_, _, _, p, _, _, _, breaks)) = rule-place s _ p number breaks
 
 -- a number that no record has but for its length
-no-rule : (s : Schema) (given : List Statement) (n : ℕ) (r : Record) (number : ℕ) → Reason s given n r number → ¬ IsRule number → number ≢ 40 → number ≡ 27
+no-rule : (s : Schema) (given : List Statement) (n : ℕ) (r : Record) (number : ℕ) → Reason s given n r number → ¬ IsRule number
+    → number ≢ 40 → number ≡ 27
 no-rule s given n r number (by_rule breaks) none other = absurd (none (rule-of s r number breaks))
 no-rule s given n r number (by_name is among) none other = absurd (other is)
 no-rule s given n r number (by_size is) none other = is
 
-by-length : (s : Schema) (limits : Limits) (taken : List Statement) (size n : ℕ) (r : Record) (fault : Fault) → IsOfStatement fault → (IsOfInstance fault → ⊥) → fault ≢ NoMemory → Offends s limits taken size (instance n r) (fault_number fault) → fault_number fault ≡ 27
+by-length : (s : Schema) (limits : Limits) (taken : List Statement) (size n : ℕ) (r : Record) (fault : Fault) → IsOfStatement fault
+    → (IsOfInstance fault → ⊥) → fault ≢ NoMemory → Offends s limits taken size (instance n r) (fault_number fault)
+    → fault_number fault ≡ 27
 by-length s limits taken size n r (Check fault) kind other memory offends = absurd (other tt)
 by-length s limits taken size n r DuplicateName kind other memory offends = absurd (other tt)
 by-length s limits taken size n r (Token fault) kind other memory offends = absurd kind
@@ -141,19 +154,29 @@ by-length s limits taken size n r Read kind other memory offends = absurd kind
 by-length s limits taken size n r Write kind other memory offends = absurd kind
 by-length s limits taken size n r CanonicalTooLong kind other memory offends = refl
 by-length s limits taken size n r NoMemory kind other memory offends = absurd (memory refl)
-by-length s limits taken size n r SchemaName kind other memory offends = no-rule s taken n r 31 (reason-is s limits taken size (instance n r) 31 n r offends refl) (λ is. omega (arith, is)) (λ is. omega (arith, is))
-by-length s limits taken size n r SectionTwice kind other memory offends = no-rule s taken n r 33 (reason-is s limits taken size (instance n r) 33 n r offends refl) (λ is. omega (arith, is)) (λ is. omega (arith, is))
-by-length s limits taken size n r Dangling kind other memory offends = no-rule s taken n r 56 (reason-is s limits taken size (instance n r) 56 n r offends refl) (λ is. omega (arith, is)) (λ is. omega (arith, is))
-by-length s limits taken size n r WrongTarget kind other memory offends = no-rule s taken n r 57 (reason-is s limits taken size (instance n r) 57 n r offends refl) (λ is. omega (arith, is)) (λ is. omega (arith, is))
+by-length s limits taken size n r SchemaName kind other memory offends =
+    no-rule s taken n r 31 (reason-is s limits taken size (instance n r) 31 n r offends refl) (λ is. omega (arith, is))
+    (λ is. omega (arith, is))
+by-length s limits taken size n r SectionTwice kind other memory offends =
+    no-rule s taken n r 33 (reason-is s limits taken size (instance n r) 33 n r offends refl) (λ is. omega (arith, is))
+    (λ is. omega (arith, is))
+by-length s limits taken size n r Dangling kind other memory offends =
+    no-rule s taken n r 56 (reason-is s limits taken size (instance n r) 56 n r offends refl) (λ is. omega (arith, is))
+    (λ is. omega (arith, is))
+by-length s limits taken size n r WrongTarget kind other memory offends =
+    no-rule s taken n r 57 (reason-is s limits taken size (instance n r) 57 n r offends refl) (λ is. omega (arith, is))
+    (λ is. omega (arith, is))
 
 -- ---- an instance that isn't kept
 
 module _ (s : Schema) (formed : IsWellFormed s) (limits : Limits) (old : Sieve) (kept : Kept) (n : ℕ) (record_ : Record) where
   -- for all that were taken it is refused by the fault, want of memory apart
   abbrev IsRefusedBy : Fault → Type 0
-  IsRefusedBy fault = fault ≢ NoMemory → (given taken : List Statement) → SiftsTo s limits given taken old → Offends s limits taken (old.kept.bytes + old.kept.framing) (instance n record_) (fault_number fault)
+  IsRefusedBy fault = fault ≢ NoMemory → (given taken : List Statement) → SiftsTo s limits given taken old
+      → Offends s limits taken (old.kept.bytes + old.kept.framing) (instance n record_) (fault_number fault)
 
-  wrong-is : (fault : Fault) → IsOfStatement fault → IsOfInstance fault → fault ≢ NoMemory → (fault ≢ NoMemory → kept ≡ old.kept) → IsRefusedBy fault → IsWrong s limits old (instance n record_) n fault (record old { kept = kept })
+  wrong-is : (fault : Fault) → IsOfStatement fault → IsOfInstance fault → fault ≢ NoMemory → (fault ≢ NoMemory → kept ≡ old.kept)
+      → IsRefusedBy fault → IsWrong s limits old (instance n record_) n fault (record old { kept = kept })
   wrong-is fault kind of other same refused = record {
     record_ = record_;
     statement_is = refl;
@@ -163,13 +186,16 @@ module _ (s : Schema) (formed : IsWellFormed s) (limits : Limits) (old : Sieve) 
         (λ m among. passed-named s given taken old.refusals.items sifts.sifted m among) fault of (refused other given taken sifts);
   }
 
-  end-is : (fault : Fault) → IsOfStatement fault → (IsOfInstance fault → ⊥) → IsRefusedBy fault → JudgeGives s limits old (instance n record_) (Err fault) (record old { kept = kept })
+  end-is : (fault : Fault) → IsOfStatement fault → (IsOfInstance fault → ⊥) → IsRefusedBy fault
+      → JudgeGives s limits old (instance n record_) (Err fault) (record old { kept = kept })
   end-is fault kind none refused = λ other given taken sifts. record {
     offends = refused other given taken sifts;
-    by_length = λ m q is. by-length s limits taken (old.kept.bytes + old.kept.framing) n record_ fault kind none other (refused other given taken sifts);
+    by_length = λ m q is. by-length s limits taken (old.kept.bytes + old.kept.framing) n record_ fault kind none other
+        (refused other given taken sifts);
   }
 
-  pub refused-judges : (fault : Fault) → IsOfStatement fault → (fault ≢ NoMemory → kept ≡ old.kept) → IsRefusedBy fault → JudgeGives s limits old (instance n record_) (wrong_or_end n fault) (record old { kept = kept })
+  pub refused-judges : (fault : Fault) → IsOfStatement fault → (fault ≢ NoMemory → kept ≡ old.kept) → IsRefusedBy fault
+      → JudgeGives s limits old (instance n record_) (wrong_or_end n fault) (record old { kept = kept })
   refused-judges (Check fault) kind same refused = wrong-is (Check fault) kind tt (λ is. cc) same refused
   refused-judges DuplicateName kind same refused = wrong-is DuplicateName kind tt (λ is. cc) same refused
   refused-judges (Token fault) kind same refused = end-is (Token fault) kind (λ of. of) refused
@@ -184,13 +210,16 @@ module _ (s : Schema) (formed : IsWellFormed s) (limits : Limits) (old : Sieve) 
   refused-judges Write kind same refused = end-is Write kind (λ of. of) refused
 
 -- one whose record is refused before it is asked for
-pub alone-judges : (s : Schema) → IsWellFormed s → (limits : Limits) (old : Sieve) (statement : Statement) (n : ℕ) (fault : Fault) → IsRefusedAlone s old statement n fault → IsOfStatement fault → JudgeGives s limits old statement (wrong_or_end n fault) old
+pub alone-judges : (s : Schema) → IsWellFormed s → (limits : Limits) (old : Sieve) (statement : Statement) (n : ℕ) (fault : Fault)
+    → IsRefusedAlone s old statement n fault → IsOfStatement fault → JudgeGives s limits old statement (wrong_or_end n fault) old
 alone-judges s formed limits old statement n fault is kind =
     subst (λ (st : Statement). JudgeGives s limits old st (wrong_or_end n fault) old) (sym is.statement_is)
-    (refused-judges s formed limits old old.kept n is.record_ fault kind (λ other. refl) (λ other given taken sifts. breaks_rule n is.record_ (fault_number fault) (is.breaks other)))
+    (refused-judges s formed limits old old.kept n is.record_ fault kind (λ other. refl)
+    (λ other given taken sifts. breaks_rule n is.record_ (fault_number fault) (is.breaks other)))
 
 -- the same, by what was told of it
-pub alone-said : (s : Schema) → IsWellFormed s → (limits : Limits) (old now : Sieve) (statement : Statement) (n : ℕ) (fault : Fault) (known : Schema) (said : Result Judgement Fault) → known ≡ s → IsRefusedAlone known old statement n fault → IsOfStatement fault
+pub alone-said : (s : Schema) → IsWellFormed s → (limits : Limits) (old now : Sieve) (statement : Statement) (n : ℕ) (fault : Fault)
+    (known : Schema) (said : Result Judgement Fault) → known ≡ s → IsRefusedAlone known old statement n fault → IsOfStatement fault
     → said ≡ wrong_or_end n fault → now ≡ old → JudgeGives s limits old statement said now
 alone-said s formed limits old now statement n fault known said is alone kind answer same =
     subst (λ (sieve : Sieve). JudgeGives s limits old statement said sieve) (sym same)
@@ -198,7 +227,8 @@ alone-said s formed limits old now statement n fault known said is alone kind an
     (alone-judges s formed limits old statement n fault (subst (λ (k : Schema). IsRefusedAlone k old statement n fault) is alone) kind))
 
 -- one whose name one has that was refused
-pub again-judges : (s : Schema) (limits : Limits) (old : Sieve) (n : ℕ) (record_ : Record) → HasName old.names n → JudgeGives s limits old (instance n record_) (Ok (Wrong n DuplicateName)) old
+pub again-judges : (s : Schema) (limits : Limits) (old : Sieve) (n : ℕ) (record_ : Record) → HasName old.names n
+    → JudgeGives s limits old (instance n record_) (Ok (Wrong n DuplicateName)) old
 again-judges s limits old n r has = record {
   record_ = r;
   statement_is = refl;

@@ -1,6 +1,6 @@
 pub mod Rightness
-pub mod RefusedBefore
 pub mod Judged
+pub mod Numbers
 pub mod Readings
 pub mod Followed
 pub mod Broke
@@ -9,3 +9,17 @@ pub mod Sought
 pub mod WrongOn
 pub mod Surveyed
 pub mod Told
+pub mod Ahead
+pub mod Tokens
+pub mod Begun
+pub mod Ends
+pub mod Behind
+pub mod Steps
+pub mod Onward
+pub mod Refusals
+pub mod Feeding
+pub mod Taken
+pub mod Instances
+pub mod ReadWhole
+pub mod AtEnd
+pub mod LastStage

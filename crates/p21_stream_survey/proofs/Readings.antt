@@ -1,6 +1,6 @@
 -- What a survey knows of a reading, with a statement more.
 use Rattle.std.proofs.Common.{false, ◌≡◌, ◌≢◌, ◌⊎◌, ◌↔◌, ◌≤◌, ◌<◌, ℕ, Bool, IsTrue, suc, true, List, [], ◌∷◌, ◌++◌, map, length, inl, inr, refl, sym, ap, subst, ◌∙◌, length-append, arith}
-use Rattle.std.proofs.lemmas.List.{map-append}
+use Rattle.std.proofs.lemmas.List.{append-nil, map-append, nil_from_length}
 use Rattle.std.proofs.lemmas.List.Elements.{Contains-append_cases, Contains-append_left, Contains-append_right}
 use Rattle.std.specs.BTreeSet.{BTreeSet}
 use Rattle.p21_spec_basics.proofs.Members.{Contains-cases, Contains-first, Contains-none}
@@ -20,7 +20,9 @@ use Rattle.p21_stream_sieve.specs.declared.sieve.Sieve.{Sieve}
 use Rattle.p21_stream_statements.specs.Fault.{fault_number}
 use Rattle.p21_stream_statements.specs.declared.fault.Fault.{Fault}
 use Rattle.p21_stream_statements.specs.declared.refusal.Refusal.{Refusal}
+use Rattle.p21_stream_survey.proofs.Numbers.{lists-more, refuses-number}
 use Rattle.p21_stream_survey.specs.Judging.{Takes}
+use Rattle.p21_stream_survey.specs.Kinds.{IsOfFile}
 use Rattle.p21_stream_survey.specs.Reading.{HasRead, listed_as}
 use Rattle.p21_stream_survey.specs.declared.listed.Listed as code
 use Rattle.p21_stream_survey.specs.declared.listing.Listing.{Listing}
@@ -34,10 +36,12 @@ cancel-end [] (y ∷ ys) zs same short =
     let sum = length-append (y ∷ ys) zs in
     absurd (omega (arith, size, sum))
 cancel-end (x ∷ xs) [] zs same short = absurd (omega (arith, short))
-cancel-end (x ∷ xs) (y ∷ ys) zs same short = let rest : xs ++ zs ≡ ys ++ zs = cc in let first : x ≡ y = cc in ap (λ (z : ℕ). z ∷ xs) first ∙ ap (λ (l : List ℕ). y ∷ l) (cancel-end xs ys zs rest (omega (arith, short)))
+cancel-end (x ∷ xs) (y ∷ ys) zs same short = let rest : xs ++ zs ≡ ys ++ zs = cc in let first : x ≡ y = cc in ap (λ (z : ℕ). z ∷ xs) first
+    ∙ ap (λ (l : List ℕ). y ∷ l) (cancel-end xs ys zs rest (omega (arith, short)))
 
 -- with the same bytes behind both they differ as before
-differ-behind : (kept bytes more : List ℕ) (broken : Bool) → length kept ≤ length bytes → (IsTrue broken ↔ (kept ≢ bytes)) → IsTrue broken ↔ (kept ++ more ≢ bytes ++ more)
+differ-behind : (kept bytes more : List ℕ) (broken : Bool) → length kept ≤ length bytes → (IsTrue broken ↔ (kept ≢ bytes)) → IsTrue broken
+    ↔ (kept ++ more ≢ bytes ++ more)
 differ-behind kept bytes more broken short known = (
   λ yes same. known.0 yes (cancel-end kept bytes more same short),
   λ differ. known.1 (λ same. differ (ap (λ (l : List ℕ). l ++ more) same)),
@@ -52,7 +56,8 @@ no-longer-behind kept bytes more short =
 -- ---- what is listed
 
 -- one of the refusals names an instance, with one more
-refused-more : (listed : List Listed) (more : Listed) (n : ℕ) → survey.IsRefused (listed ++ more ∷ []) n → survey.IsRefused listed n ⊎ (more.subject ≡ in_instance n)
+refused-more : (listed : List Listed) (more : Listed) (n : ℕ) → survey.IsRefused (listed ++ more ∷ []) n → survey.IsRefused listed n
+    ⊎ (more.subject ≡ in_instance n)
 refused-more listed more n (refusal, among, is) = elim (Contains-append_cases listed (more ∷ []) refusal among) [
   | inl before ↦ inl (refusal, before, is)
   | inr last ↦ elim (Contains-cases more [] refusal last) [
@@ -67,24 +72,37 @@ refused-before listed more n (refusal, among, is) = (refusal, Contains-append_le
 refused-last : (listed : List Listed) (more : Listed) (n : ℕ) → more.subject ≡ in_instance n → survey.IsRefused (listed ++ more ∷ []) n
 refused-last listed more n is = (more, Contains-append_right listed (more ∷ []) more (Contains-first more []), is)
 
-pub listed-more : (list : List code.Listed) (one : code.Listed) (listed : List Listed) → map listed_as list ≡ listed → map listed_as (list ++ one ∷ []) ≡ listed ++ listed_as one ∷ []
+pub listed-more : (list : List code.Listed) (one : code.Listed) (listed : List Listed) → map listed_as list ≡ listed
+    → map listed_as (list ++ one ∷ []) ≡ listed ++ listed_as one ∷ []
 listed-more list one listed is = map-append listed_as list (one ∷ []) ∙ ap (λ (l : List Listed). l ++ listed_as one ∷ []) is
 
 -- ---- a statement that is taken
 
-pub reads-taken : (s : Schema) (limits : Limits) (read : Reading) (bytes : List ℕ) (statement : Statement) (old new : Sieve) (before behind : Listing) → HasRead s limits read old before → Takes s limits read.given read.taken old statement new
-    → behind.list.items ≡ before.list.items → behind.passed ≡ before.passed → behind.is_broken ≡ before.is_broken → behind.statement ≡ suc before.statement
+pub reads-taken : (s : Schema) (limits : Limits) (read : Reading) (bytes : List ℕ) (statement : Statement) (old new : Sieve)
+    (before behind : Listing) → HasRead s limits read old before → Takes s limits read.given read.taken old statement new
+    → behind.list.items ≡ before.list.items → behind.passed ≡ before.passed → behind.is_broken ≡ before.is_broken
+    → behind.statement ≡ suc before.statement
     → HasRead s limits (taking read bytes statement) new behind
 reads-taken s limits read bytes st old new before behind has takes list passed broken statement = record {
   sifts = takes.sifts;
   listed = ap (λ (l : List code.Listed). map listed_as l) list ∙ has.listed;
   named = λ n. (
-    λ refused. elim ((has.named n).0 refused) [ inl out ↦ inl (subst (λ (ns : BTreeSet ℕ). HasName ns n) (sym takes.names) out) | inr over ↦ inr (subst (λ (ns : BTreeSet ℕ). HasName ns n) (sym passed) over) ],
-    λ was. (has.named n).1 (elim was [ inl out ↦ inl (subst (λ (ns : BTreeSet ℕ). HasName ns n) takes.names out) | inr over ↦ inr (subst (λ (ns : BTreeSet ℕ). HasName ns n) passed over) ]),
+    λ refused. elim ((has.named n).0 refused) [
+      | inl out ↦ inl (subst (λ (ns : BTreeSet ℕ). HasName ns n) (sym takes.names) out)
+      | inr over ↦
+          inr (subst (λ (ns : BTreeSet ℕ). HasName ns n) (sym passed) over)
+    ],
+    λ was. (has.named n).1 (elim was [
+      | inl out ↦ inl (subst (λ (ns : BTreeSet ℕ). HasName ns n) takes.names out)
+      | inr over ↦ inr
+          (subst (λ (ns : BTreeSet ℕ). HasName ns n) passed over)
+    ]),
   );
   counted = statement ∙ ap suc has.counted;
-  broken = subst (λ (b : Bool). IsTrue b ↔ (read.kept ++ bytes ≢ read.bytes ++ bytes)) (sym broken) (differ-behind read.kept read.bytes bytes before.is_broken has.no_longer has.broken);
+  broken = subst (λ (b : Bool). IsTrue b ↔ (read.kept ++ bytes ≢ read.bytes ++ bytes)) (sym broken)
+      (differ-behind read.kept read.bytes bytes before.is_broken has.no_longer has.broken);
   no_longer = no-longer-behind read.kept read.bytes bytes has.no_longer;
+  of_file = has.of_file;
 }
 
 -- ---- an instance that is left out
@@ -93,18 +111,28 @@ pub instance-named : (m n : ℕ) → in_instance m ≡ in_instance n → m ≡ n
 instance-named m n same = cc
 
 -- the set of names has one more
-named-more : (old new : Sieve) (n : ℕ) (fault : Fault) → Lists old n fault new → HaveNames old.names old.refusals.items → (m : ℕ) → HasName new.names m ↔ (HasName old.names m ⊎ (n ≡ m))
+named-more : (old new : Sieve) (n : ℕ) (fault : Fault) → Lists old n fault new → HaveNames old.names old.refusals.items → (m : ℕ)
+    → HasName new.names m ↔ (HasName old.names m ⊎ (n ≡ m))
 named-more old new n fault lists have m =
-    let now : HaveNames new.names (old.refusals.items ++ at_instance fault n ∷ []) = subst (λ (rs : List Refusal). HaveNames new.names rs) lists.refusals_are (lists.names have) in (
+    let now : HaveNames new.names (old.refusals.items ++ at_instance fault n ∷ []) =
+    subst (λ (rs : List Refusal). HaveNames new.names rs) lists.refusals_are (lists.names have) in (
       λ had. elim (by ((now m).0 had)) [ inl before ↦ inl ((have m).1 before) | inr same ↦ inr same ],
-      λ which. (now m).1 (elim which [ inl before ↦ earlier ((have m).0 before) | inr same ↦ subst (λ (k : ℕ). HasRefusal (old.refusals.items ++ at_instance fault n ∷ []) k) same last ]),
+      λ which. (now m).1 (elim which [
+        | inl before ↦ earlier ((have m).0 before)
+        | inr same ↦ subst
+            (λ (k : ℕ). HasRefusal (old.refusals.items ++ at_instance fault n ∷ []) k) same last
+      ]),
     )
   where
     earlier : HasRefusal old.refusals.items m → HasRefusal (old.refusals.items ++ at_instance fault n ∷ []) m
     earlier (other, among) = (other, Contains-append_left old.refusals.items (at_instance fault n ∷ []) (at_instance other m) among)
 
     last : HasRefusal (old.refusals.items ++ at_instance fault n ∷ []) n
-    last = (fault, Contains-append_right old.refusals.items (at_instance fault n ∷ []) (at_instance fault n) (Contains-first (at_instance fault n) []))
+    last = (
+      fault,
+      Contains-append_right old.refusals.items (at_instance fault n ∷ []) (at_instance fault n)
+          (Contains-first (at_instance fault n) []),
+    )
 
     by : HasRefusal (old.refusals.items ++ at_instance fault n ∷ []) m → HasRefusal old.refusals.items m ⊎ (n ≡ m)
     by (other, among) = elim (Contains-append_cases old.refusals.items (at_instance fault n ∷ []) (at_instance other m) among) [
@@ -115,20 +143,26 @@ named-more old new n fault lists have m =
       ]
     ]
 
-pub reads-left_out : (s : Schema) (limits : Limits) (read : Reading) (bytes : List ℕ) (n begins : ℕ) (r : Record) (fault : Fault) (old new : Sieve) (before behind : Listing) (one : code.Listed) → HasRead s limits read old before → Lists old n fault new
-    → RefusesInstance s read.given n r fault → listed_as one ≡ record { number = fault_number fault; subject = in_instance n; begins = begins } → behind.list.items ≡ before.list.items ++ one ∷ [] → behind.passed ≡ before.passed
-    → behind.is_broken ≡ before.is_broken → behind.statement ≡ suc before.statement → HasRead s limits (leaving_out read bytes n r (fault_number fault) begins) new behind
+pub reads-left_out : (s : Schema) (limits : Limits) (read : Reading) (bytes : List ℕ) (n begins : ℕ) (r : Record) (fault : Fault)
+    (old new : Sieve) (before behind : Listing) (one : code.Listed) → HasRead s limits read old before → Lists old n fault new
+    → RefusesInstance s read.given n r fault → listed_as
+    one ≡ record { number = fault_number fault; subject = in_instance n; begins = begins }
+    → behind.list.items ≡ before.list.items ++ one ∷ [] → behind.passed ≡ before.passed
+    → behind.is_broken ≡ before.is_broken → behind.statement ≡ suc before.statement
+    → HasRead s limits (leaving_out read bytes n r (fault_number fault) begins) new behind
 reads-left_out s limits read bytes n begins r fault old new before behind one has lists refused is list passed broken statement =
     let told : Listed = record { number = fault_number fault; subject = in_instance n; begins = begins } in
     let more = named-more old new n fault lists has.sifts.names in
     record {
       sifts = record {
-        sifted = subst (λ (rs : List Refusal). AreSifted s (read.given ++ instance n r ∷ []) read.taken rs) (sym lists.refusals_are) (refuses read.given read.taken old.refusals.items n r fault has.sifts.sifted refused);
+        sifted = subst (λ (rs : List Refusal). AreSifted s (read.given ++ instance n r ∷ []) read.taken rs) (sym lists.refusals_are)
+            (refuses read.given read.taken old.refusals.items n r fault has.sifts.sifted refused);
         keeps = subst (λ (k : Kept). Keeps s limits read.taken k) (sym lists.kept_is) has.sifts.keeps;
         lines = ap (λ (k : Kept). k.lines) lists.kept_is ∙ has.sifts.lines;
         names = lists.names has.sifts.names;
       };
-      listed = ap (λ (l : List code.Listed). map listed_as l) list ∙ listed-more before.list.items one read.listed has.listed ∙ ap (λ (l : Listed). read.listed ++ l ∷ []) is;
+      listed = ap (λ (l : List code.Listed). map listed_as l) list ∙ listed-more before.list.items one read.listed has.listed
+          ∙ ap (λ (l : Listed). read.listed ++ l ∷ []) is;
       named = λ m. (
         λ was. elim (refused-more read.listed told m was) [
           | inl earlier ↦ elim ((has.named m).0 earlier) [
@@ -146,22 +180,29 @@ reads-left_out s limits read bytes n begins r fault old new before behind one ha
         ],
       );
       counted = statement ∙ ap suc has.counted;
-      broken = subst (λ (b : Bool). IsTrue b ↔ (read.kept ++ bytes ≢ read.bytes ++ bytes)) (sym broken) (differ-behind read.kept read.bytes bytes before.is_broken has.no_longer has.broken);
+      broken = subst (λ (b : Bool). IsTrue b ↔ (read.kept ++ bytes ≢ read.bytes ++ bytes)) (sym broken)
+          (differ-behind read.kept read.bytes bytes before.is_broken has.no_longer has.broken);
       no_longer = no-longer-behind read.kept read.bytes bytes has.no_longer;
+      of_file = lists-more read.listed told has.of_file (refuses-number s read.given n r fault refused);
     }
 
 -- ---- a statement that is passed over
 
-pub reads-passed : (s : Schema) (limits : Limits) (read : Reading) (bytes : List ℕ) (number begins : ℕ) (subject : Subject) (sieve : Sieve) (before behind : Listing) (one : code.Listed) → HasRead s limits read sieve before → 0 < length bytes
-    → listed_as one ≡ record { number = number; subject = subject; begins = begins } → behind.list.items ≡ before.list.items ++ one ∷ [] → ((m : ℕ) → HasName behind.passed m ↔ (HasName before.passed m ⊎ (subject ≡ in_instance m)))
-    → behind.is_broken ≡ true → behind.statement ≡ suc before.statement → HasRead s limits (passing_over read bytes number subject begins) sieve behind
-reads-passed s limits read bytes number begins subject sieve before behind one has some is list passed broken statement =
+pub reads-passed : (s : Schema) (limits : Limits) (read : Reading) (bytes : List ℕ) (number begins : ℕ) (subject : Subject) (sieve : Sieve)
+    (before behind : Listing) (one : code.Listed) → HasRead s limits read sieve before
+    → IsOfFile number
+    → listed_as one ≡ record { number = number; subject = subject; begins = begins } → behind.list.items ≡ before.list.items ++ one ∷ []
+    → ((m : ℕ) → HasName behind.passed m ↔ (HasName before.passed m ⊎ (subject ≡ in_instance m)))
+    → IsTrue behind.is_broken ↔ (IsTrue before.is_broken ⊎ (0 < length bytes)) → behind.statement ≡ suc before.statement
+    → HasRead s limits (passing_over read bytes number subject begins) sieve behind
+reads-passed s limits read bytes number begins subject sieve before behind one has of is list passed broken statement =
     let told : Listed = record { number = number; subject = subject; begins = begins } in
     let short = has.no_longer in
     let sum = length-append read.bytes bytes in
     record {
       sifts = has.sifts;
-      listed = ap (λ (l : List code.Listed). map listed_as l) list ∙ listed-more before.list.items one read.listed has.listed ∙ ap (λ (l : Listed). read.listed ++ l ∷ []) is;
+      listed = ap (λ (l : List code.Listed). map listed_as l) list ∙ listed-more before.list.items one read.listed has.listed
+          ∙ ap (λ (l : Listed). read.listed ++ l ∷ []) is;
       named = λ m. (
         λ was. elim (refused-more read.listed told m was) [
           | inl earlier ↦ elim ((has.named m).0 earlier) [ inl out ↦ inl out | inr over ↦ inr ((passed m).1 (inl over)) ]
@@ -176,9 +217,21 @@ reads-passed s limits read bytes number begins subject sieve before behind one h
         ],
       );
       counted = statement ∙ ap suc has.counted;
-      broken = subst (λ (b : Bool). IsTrue b ↔ (read.kept ≢ read.bytes ++ bytes)) (sym broken) (λ yes same. (let size = ap length same in absurd (omega (arith, size, sum, short, some))), λ differ. refl);
+      broken = (
+        λ yes same. elim (broken.0 yes) [
+          | inl was ↦ has.broken.0 was (same ∙ (ap (λ (l : List ℕ). read.bytes ++ l)
+              (nil_from_length bytes (let size = ap length same in omega (arith, size, sum, short))) ∙ append-nil read.bytes))
+          | inr some ↦ (let size = ap length same in omega (arith, size, sum, short, some))
+        ],
+        λ differ. broken.1 (some-passed bytes differ),
+      );
       no_longer = omega (arith, short, sum);
+      of_file = lists-more read.listed told has.of_file of;
     }
+  where
+    some-passed : (passed_ : List ℕ) → read.kept ≢ read.bytes ++ passed_ → IsTrue before.is_broken ⊎ (0 < length passed_)
+    some-passed [] differ = inl (has.broken.1 (λ same. differ (same ∙ sym (append-nil read.bytes))))
+    some-passed (byte ∷ passed_) differ = inr (omega arith)
 
 -- ---- the beginning of a file
 
@@ -197,7 +250,9 @@ not-broken true is = absurd (false-is (sym is))
 not-broken false is = (λ yes. absurd (false-is yes), λ differ. absurd (differ refl))
 
 -- nothing is read, kept and listed
-pub reads-nothing : (s : Schema) (limits : Limits) (sieve : Sieve) (listing : Listing) → sieve.kept ≡ nothing_kept → sieve.refusals.items ≡ [] → HaveNames sieve.names [] → listing.list.items ≡ [] → listing.passed.keys ≡ [] → listing.statement ≡ 1 → listing.is_broken ≡ false
+pub reads-nothing : (s : Schema) (limits : Limits) (sieve : Sieve) (listing : Listing) → sieve.kept ≡ nothing_kept
+    → sieve.refusals.items ≡ [] → HaveNames sieve.names [] → listing.list.items ≡ [] → listing.passed.keys ≡ [] → listing.statement ≡ 1
+    → listing.is_broken ≡ false
     → HasRead s limits nothing_read sieve listing
 reads-nothing s limits sieve listing kept refusals names list passed statement whole = record {
   sifts = record {
@@ -209,9 +264,14 @@ reads-nothing s limits sieve listing kept refusals names list passed statement w
   listed = ap (λ (l : List code.Listed). map listed_as l) list;
   named = λ n. (
     λ was. absurd (none-listed n was),
-    λ known. elim known [ inl out ↦ absurd (none-refused n ((names n).0 out)) | inr over ↦ absurd (none-refused n ((has-none listing.passed passed n).0 over)) ],
+    λ known. elim known [
+      | inl out ↦ absurd (none-refused n ((names n).0 out))
+      | inr over ↦ absurd
+          (none-refused n ((has-none listing.passed passed n).0 over))
+    ],
   );
   counted = statement;
   broken = not-broken listing.is_broken whole;
   no_longer = omega arith;
+  of_file = tt;
 }

@@ -6,7 +6,7 @@ use Rattle.p21_spec_laws.specs.CompleteFile.{Entry, IsMeant, entries_in}
 use Rattle.p21_spec_laws.specs.UnrefusedStatements.{IsFound}
 use Rattle.p21_spec_schema.specs.Schema.{Schema}
 use Rattle.p21_spec_survey.specs.Survey as survey
-use Rattle.p21_spec_survey.specs.Survey.{EndsList, IsSurvey, Listed, Reading, at_statement, at_stretch, by_refusal, interrupted, with_refusal}
+use Rattle.p21_spec_survey.specs.Survey.{EndsList, IsRead, IsSurvey, Listed, Reading, at_most, at_statement, at_stretch, by_refusal, interrupted, with_refusal}
 use Rattle.p21_stream_sieve.specs.declared.sieve.Sieve.{Sieve}
 use Rattle.p21_stream_statements.specs.Fault.{fault_number}
 use Rattle.p21_stream_statements.specs.declared.fault.Fault.{Fault}
@@ -14,52 +14,86 @@ use Rattle.p21_stream_statements.specs.declared.fault.Fault.TheVariants.{Read}
 use Rattle.p21_stream_statements.specs.declared.refusal.At.{At}
 use Rattle.p21_stream_statements.specs.declared.refusal.At.TheVariants.{Statement}
 use Rattle.p21_stream_survey.proofs.Readings.{listed-more}
-use Rattle.p21_stream_survey.specs.Ending.{EndsAtStretch, EndsBy, EndsInterrupted, IsReadSo}
+use Rattle.p21_stream_survey.specs.Ending.{EndsAtStretch, EndsBy, EndsInterrupted, IsSurveyed}
 use Rattle.p21_stream_survey.specs.Reading.{HasRead, listed_as, subject_of}
 use Rattle.p21_stream_survey.specs.declared.listed.Extent.TheVariants.{Most, ReadTo}
 use Rattle.p21_stream_survey.specs.declared.listed.Listed as code
 use Rattle.p21_stream_survey.specs.declared.listing.Listing.{Listing}
 
 -- the instances that are taken
-abbrev entries_of : (s : Schema) (limits : Limits) (read : Reading) (sieve : Sieve) (listing : Listing) → HasRead s limits read sieve listing → List Entry
+abbrev pub entries_of : (s : Schema) (limits : Limits) (read : Reading) (sieve : Sieve) (listing : Listing)
+    → HasRead s limits read sieve listing → List Entry
 entries_of s limits read sieve listing has = entries_in has.sifts.keeps.groups
 
 -- it is a survey, where its list ends so
-surveyed : (s : Schema) (limits : Limits) (file : List ℕ) (read : Reading) (sieve : Sieve) (listing : Listing) (begins : ℕ) (list : List Listed) (extent : survey.Extent) (so : IsReadSo s limits file read sieve listing begins)
-    → EndsList s limits file read (entries_of s limits read sieve listing so.has) list [] extent → IsSurvey s limits file list [] extent
-surveyed s limits file read sieve listing begins list extent so ends =
-    let unrefused = so.has.sifts.keeps.unrefused in
+pub surveyed : (s : Schema) (limits : Limits) (file : List ℕ) (read : Reading) (sieve : Sieve) (listing : Listing) (list : List Listed)
+    (references : List (ℕ × ℕ)) (extent : survey.Extent) → IsRead s limits file read → (has : HasRead s limits read sieve listing)
+    → EndsList s limits file read (entries_of s limits read sieve listing has) list references extent
+    → IsSurvey s limits file list references extent
+surveyed s limits file read sieve listing list references extent is_read has ends =
+    let unrefused = has.sifts.keeps.unrefused in
     record {
       reading = read;
-      is_read = so.is_read;
-      entries = entries_of s limits read sieve listing so.has;
+      is_read = is_read;
+      entries = entries_of s limits read sieve listing has;
       entries_are = unrefused.instances_are;
-      meant = Each-weaker (IsFound s limits) (IsMeant s) (λ e is. is.meant) (entries_of s limits read sieve listing so.has) unrefused.found;
+      meant = Each-weaker (IsFound s limits) (IsMeant s) (λ e is. is.meant) (entries_of s limits read sieve listing has) unrefused.found;
       ends = ends;
     }
 
 -- one more in the list
-list-is : (s : Schema) (limits : Limits) (read : Reading) (sieve : Sieve) (before behind : Listing) (fault : Fault) (at : At) (begins : ℕ) → HasRead s limits read sieve before → behind.list.items ≡ before.list.items ++ record { fault = fault; at = at; begins = begins } ∷ []
+list-is : (s : Schema) (limits : Limits) (read : Reading) (sieve : Sieve) (before behind : Listing) (fault : Fault) (at : At) (begins : ℕ)
+    → HasRead s limits read sieve before → behind.list.items ≡ before.list.items ++ record { fault = fault; at = at; begins = begins } ∷ []
     → with_refusal read (fault_number fault) (subject_of at) begins ≡ map listed_as behind.list.items
-list-is s limits read sieve before behind fault at begins has is = sym (ap (λ (l : List code.Listed). map listed_as l) is ∙ listed-more before.list.items _ read.listed has.listed)
+list-is s limits read sieve before behind fault at begins has is =
+    sym (ap (λ (l : List code.Listed). map listed_as l) is ∙ listed-more before.list.items _ read.listed has.listed)
 
-pub ends-by : (before behind : Listing) (fault : Fault) (at : At) (begins : ℕ) → behind.list.items ≡ before.list.items ++ record { fault = fault; at = at; begins = begins } ∷ [] → EndsBy before fault at begins (ReadTo begins) behind
+pub ends-by : (before behind : Listing) (fault : Fault) (at : At) (begins : ℕ)
+    → behind.list.items ≡ before.list.items ++ record { fault = fault; at = at; begins = begins } ∷ []
+    → EndsBy before fault at begins (ReadTo begins) behind
 ends-by before behind fault at begins is s limits file read sieve so ends =
-    subst (λ (l : List Listed). IsSurvey s limits file l [] (survey.read_to begins)) (list-is s limits read sieve before behind fault at begins so.has is)
-    (surveyed s limits file read sieve before begins (with_refusal read (fault_number fault) (subject_of at) begins) (survey.read_to begins) so (by_refusal (fault_number fault) (subject_of at) begins ends so.begins_at))
+    subst (λ (l : List Listed). IsSurvey s limits file l [] (survey.read_to begins))
+    (list-is s limits read sieve before behind fault at begins so.has is)
+    (surveyed s limits file read sieve before (with_refusal read (fault_number fault) (subject_of at) begins) [] (survey.read_to begins)
+    so.is_read so.has (by_refusal (fault_number fault) (subject_of at) begins ends so.begins_at))
 
-pub ends-at_stretch : (before behind : Listing) (fault : Fault) (at : At) (begins : ℕ) → behind.list.items ≡ before.list.items ++ record { fault = fault; at = at; begins = begins } ∷ [] → EndsAtStretch before fault at begins Most behind
+pub ends-at_stretch : (before behind : Listing) (fault : Fault) (at : At) (begins : ℕ)
+    → behind.list.items ≡ before.list.items ++ record { fault = fault; at = at; begins = begins } ∷ []
+    → EndsAtStretch before fault at begins Most behind
 ends-at_stretch before behind fault at begins is s limits file read sieve so passes =
-    subst (λ (l : List Listed). IsSurvey s limits file l [] survey.most) (list-is s limits read sieve before behind fault at begins so.has is)
-    (surveyed s limits file read sieve before begins (with_refusal read (fault_number fault) (subject_of at) begins) survey.most so (at_stretch (fault_number fault) (subject_of at) begins passes so.begins_at))
+    subst (λ (l : List Listed). IsSurvey s limits file l [] survey.most)
+    (list-is s limits read sieve before behind fault at begins so.has is)
+    (surveyed s limits file read sieve before (with_refusal read (fault_number fault) (subject_of at) begins) [] survey.most so.is_read
+    so.has (at_stretch (fault_number fault) (subject_of at) begins passes so.begins_at))
 
-pub ends-interrupted : (before between behind : Listing) (fault : Fault) (at : At) (begins : ℕ) → between.list.items ≡ before.list.items ++ record { fault = fault; at = at; begins = begins } ∷ [] → between.statement ≡ suc before.statement
-    → behind.list.items ≡ between.list.items ++ record { fault = Read; at = Statement between.statement; begins = begins } ∷ [] → EndsInterrupted before fault at begins (ReadTo begins) behind
+pub ends-interrupted : (before between behind : Listing) (fault : Fault) (at : At) (begins : ℕ)
+    → between.list.items ≡ before.list.items ++ record { fault = fault; at = at; begins = begins } ∷ []
+    → between.statement ≡ suc before.statement
+    → behind.list.items ≡ between.list.items ++ record { fault = Read; at = Statement between.statement; begins = begins } ∷ []
+    → EndsInterrupted before fault at begins (ReadTo begins) behind
 ends-interrupted before between behind fault at begins is statement last s limits file read sieve so passes =
     let first : List Listed = with_refusal read (fault_number fault) (subject_of at) begins in
     let last_is : Listed → List Listed = λ l. first ++ l ∷ [] in
-    let told : map listed_as behind.list.items ≡ first ++ record { number = 91; subject = at_statement between.statement; begins = begins } ∷ [] = ap (λ (l : List code.Listed). map listed_as l) last ∙ listed-more between.list.items _ first (sym (list-is s limits read sieve before between fault at begins so.has is)) in
+    let told : map listed_as behind.list.items ≡ first
+    ++ record { number = 91; subject = at_statement between.statement; begins = begins } ∷ [] =
+    ap (λ (l : List code.Listed). map listed_as l) last
+    ∙ listed-more between.list.items _ first (sym (list-is s limits read sieve before between fault at begins so.has is)) in
     let counted : between.statement ≡ suc (suc read.count) = statement ∙ ap suc so.has.counted in
-    let list : first ++ record { number = 91; subject = at_statement (suc (suc read.count)); begins = begins } ∷ [] ≡ map listed_as behind.list.items = sym (told ∙ ap (λ (k : ℕ). last_is (record { number = 91; subject = at_statement k; begins = begins })) counted) in
+    let list : first ++ record { number = 91; subject = at_statement (suc (suc read.count)); begins = begins } ∷ [] ≡ map listed_as
+    behind.list.items = sym (told ∙ ap (λ (k : ℕ). last_is (record { number = 91; subject = at_statement k; begins = begins }))
+    counted) in
     subst (λ (l : List Listed). IsSurvey s limits file l [] (survey.read_to begins)) list
-    (surveyed s limits file read sieve before begins (first ++ record { number = 91; subject = at_statement (suc (suc read.count)); begins = begins } ∷ []) (survey.read_to begins) so (interrupted (fault_number fault) (subject_of at) begins passes so.begins_at))
+    (surveyed s limits file read sieve before (first ++ record {
+      number = 91;
+      subject = at_statement (suc (suc read.count));
+      begins =
+          begins;
+    } ∷ []) [] (survey.read_to begins) so.is_read so.has
+    (interrupted (fault_number fault) (subject_of at) begins passes so.begins_at))
+
+-- where as many are listed as are asked for
+pub surveyed-most : (s : Schema) (limits : Limits) (file : List ℕ) (read : Reading) (sieve : Sieve) (listing : Listing)
+    → IsRead s limits file read → HasRead s limits read sieve listing → IsSurveyed s limits file listing Most
+surveyed-most s limits file read sieve listing is_read has =
+    subst (λ (l : List Listed). IsSurvey s limits file l [] survey.most) (sym has.listed)
+    (surveyed s limits file read sieve listing read.listed [] survey.most is_read has (at_most [] tt))

@@ -40,7 +40,8 @@ pub record Follows (s : Schema) (limits : Limits) (sieve : Sieve) (statement : S
   pub few : length (flat_map statement_tokens (given ++ statement ∷ [])) < 2 ^ 64
 
 -- an instance of this name stands there, and this is found of it
-pub record FollowsFound (s : Schema) (limits : Limits) (sieve : Sieve) (n : ℕ) (entities : List ℕ) (needs : List Need) (text : List ℕ) : Type 0 where
+pub record FollowsFound (s : Schema) (limits : Limits) (sieve : Sieve) (n : ℕ) (entities : List ℕ) (needs : List Need)
+    (text : List ℕ) : Type 0 where
   pub record_ : Record
   pub found : HasFound s n record_ entities needs text
   pub follows : Follows s limits sieve (instance n record_)
@@ -48,7 +49,8 @@ pub record FollowsFound (s : Schema) (limits : Limits) (sieve : Sieve) (n : ℕ)
 -- ---- what is said
 
 -- the statement is right behind those given, and it is taken
-pub record Takes (s : Schema) (limits : Limits) (given taken : List Statement) (old : Sieve) (statement : Statement) (new : Sieve) : Type 0 where
+pub record Takes (s : Schema) (limits : Limits) (given taken : List Statement) (old : Sieve) (statement : Statement) (new : Sieve) : Type
+    0 where
   pub sifts : SiftsTo s limits (given ++ statement ∷ []) (taken ++ statement ∷ []) new
   pub right : IsRight s given statement
   pub names : new.names ≡ old.names
@@ -62,19 +64,23 @@ pub record IsWrong (s : Schema) (limits : Limits) (old : Sieve) (statement : Sta
   pub refused : (given taken : List Statement) → SiftsTo s limits given taken old → RefusesInstance s given n record_ fault
 
 -- behind the statements that are taken it is refused by this fault, an instance by its length alone
-pub record IsEnd (s : Schema) (limits : Limits) (taken : List Statement) (old : Sieve) (statement : Statement) (fault : Fault) : Type 0 where
+pub record IsEnd (s : Schema) (limits : Limits) (taken : List Statement) (old : Sieve) (statement : Statement) (fault : Fault) : Type
+    0 where
   pub offends : Offends s limits taken (old.kept.bytes + old.kept.framing) statement (fault_number fault)
   pub by_length : (n : ℕ) (record_ : Record) → statement ≡ instance n record_ → fault_number fault ≡ 27
 
 -- what is said of a statement, for all that were given before it
 abbrev pub JudgeGives : Schema → Limits → Sieve → Statement → Result Judgement Fault → Sieve → Type 0
-JudgeGives s limits old statement (Ok Right) new = (given taken : List Statement) → SiftsTo s limits given taken old → Takes s limits given taken old statement new
+JudgeGives s limits old statement (Ok Right) new = (given taken : List Statement) → SiftsTo s limits given taken old
+    → Takes s limits given taken old statement new
 JudgeGives s limits old statement (Ok (Wrong n fault)) new = IsWrong s limits old statement n fault new
-JudgeGives s limits old statement (Err fault) new = fault ≢ NoMemory → (given taken : List Statement) → SiftsTo s limits given taken old → IsEnd s limits taken old statement fault
+JudgeGives s limits old statement (Err fault) new = fault ≢ NoMemory → (given taken : List Statement) → SiftsTo s limits given taken old
+    → IsEnd s limits taken old statement fault
 
 -- the same of an instance, by what is found of it
 abbrev pub FoundGives : Schema → Limits → Sieve → ℕ → List ℕ → List Need → List ℕ → Result Judgement Fault → Sieve → Type 0
-FoundGives s limits old n entities needs text result new = (record_ : Record) → HasFound s n record_ entities needs text → JudgeGives s limits old (instance n record_) result new
+FoundGives s limits old n entities needs text result new = (record_ : Record) → HasFound s n record_ entities needs text
+    → JudgeGives s limits old (instance n record_) result new
 
 -- what is said of a statement, where what keeps the others keeps it or not
 abbrev pub said_of : Result (Unit {0}) Fault → Result Judgement Fault

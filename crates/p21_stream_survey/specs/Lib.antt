@@ -1,5 +1,6 @@
 -- What is said of each statement and done with it, what is known of a reading, and which references are told.
 pub mod Judging
+pub mod Kinds
 pub mod Reading
 pub mod Following
 pub mod Breaking
@@ -9,3 +10,11 @@ pub mod Wrong
 pub mod Ending
 pub mod Telling
 pub mod Silence
+pub mod Course
+pub mod Walking
+pub mod Taking
+pub mod Token
+pub mod Canonical
+pub mod Found
+pub mod Finishing
+pub mod ReadOut

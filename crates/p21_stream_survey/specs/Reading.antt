@@ -10,6 +10,7 @@ use Rattle.p21_stream_statements.specs.Fault.{fault_number}
 use Rattle.p21_stream_statements.specs.declared.refusal.At.{At}
 use Rattle.p21_stream_statements.specs.declared.refusal.At.TheVariants.{Instance, Statement}
 use Rattle.p21_stream_survey.specs.Judging.{SiftsTo}
+use Rattle.p21_stream_survey.specs.Kinds.{ListsOfFile}
 use Rattle.p21_stream_survey.specs.declared.listed.Listed.{Listed}
 use Rattle.p21_stream_survey.specs.declared.listing.Listing.{Listing}
 
@@ -27,7 +28,7 @@ abbrev pub WasRefused : Sieve → Listing → ℕ → Type 0
 WasRefused sieve listing n = HasName sieve.names n ⊎ HasName listing.passed n
 
 -- Of the statements of a reading those that are taken are kept, and what is listed is listed; the instances that were left out or passed over
--- are known by name, the statements are counted, and it is known whether bytes were passed over
+-- are known by name, the statements are counted, and it is known whether bytes were passed over; and each refusal is one that a file has
 pub record HasRead (s : Schema) (limits : Limits) (read : Reading) (sieve : Sieve) (listing : Listing) : Type 0 where
   pub sifts : SiftsTo s limits read.given read.taken sieve
   pub listed : map listed_as listing.list.items ≡ read.listed
@@ -35,3 +36,4 @@ pub record HasRead (s : Schema) (limits : Limits) (read : Reading) (sieve : Siev
   pub counted : listing.statement ≡ suc read.count
   pub broken : IsTrue listing.is_broken ↔ (read.kept ≢ read.bytes)
   pub no_longer : length read.kept ≤ length read.bytes
+  pub of_file : ListsOfFile read.listed

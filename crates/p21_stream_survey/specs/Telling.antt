@@ -22,7 +22,8 @@ pub record Silence : Type 0 where
 
 -- nothing is told of a reference that is refused by this fault
 abbrev pub IsSilent : Silence → Reference → Fault → Type 0
-IsSilent silence reference fault = HasName silence.names reference.1.target ⊎ HasName silence.passed reference.1.target ⊎ ((fault ≡ Dangling) × (silence.is_broken ≡ true))
+IsSilent silence reference fault = HasName silence.names reference.1.target ⊎ HasName silence.passed reference.1.target
+    ⊎ ((fault ≡ Dangling) × (silence.is_broken ≡ true))
 
 -- none that is stored serves it, and it is told
 pub record IsTold (s : Schema) (stored : List StoredEntry) (silence : Silence) (reference : Reference) (fault : Fault) : Type 0 where
@@ -33,7 +34,8 @@ pub record IsTold (s : Schema) (stored : List StoredEntry) (silence : Silence) (
 
 -- the refusal is of this reference
 abbrev pub IsRefusalOf : Schema → List StoredEntry → Silence → Reference → Refusal → Type 0
-IsRefusalOf s stored silence reference refusal = (fault : Fault) × IsTold s stored silence reference fault × (refusal ≡ at_instance fault reference.0)
+IsRefusalOf s stored silence reference refusal = (fault : Fault) × IsTold s stored silence reference fault
+    × (refusal ≡ at_instance fault reference.0)
 
 -- it is served, or nothing is told of it, or its refusal is among these
 abbrev pub IsAnswered : Schema → List StoredEntry → Silence → List Refusal → Reference → Type 0
@@ -42,15 +44,18 @@ IsAnswered s stored silence refusals reference =
     ⊎ ((refusal : Refusal) × Contains refusals refusal × IsRefusalOf s stored silence reference refusal)
 
 -- the refusal of a reference is added, where it has one that is told
-pub record AddsRefusal (s : Schema) (stored : List StoredEntry) (silence : Silence) (reference : Reference) (old new : List Refusal) : Type 0 where
+pub record AddsRefusal (s : Schema) (stored : List StoredEntry) (silence : Silence) (reference : Reference) (old new : List Refusal) : Type
+    0 where
   pub added : List Refusal
   pub new_is : new ≡ old ++ added
   pub right : Each (IsRefusalOf s stored silence reference) added
   pub answered : IsAnswered s stored silence added reference
 
 -- refusals of references that wait are added: of all of them, if there are fewer than so many in the end
-pub record ListsReferences (s : Schema) (stored : List StoredEntry) (waiting : List Reference) (silence : Silence) (most : ℕ) (old new : List Refusal) : Type 0 where
+pub record ListsReferences (s : Schema) (stored : List StoredEntry) (waiting : List Reference) (silence : Silence) (most : ℕ)
+    (old new : List Refusal) : Type 0 where
   pub added : List Refusal
   pub new_is : new ≡ old ++ added
-  pub right : Each (λ (refusal : Refusal). (reference : Reference) × Contains waiting reference × IsRefusalOf s stored silence reference refusal) added
+  pub right : Each (λ (refusal : Refusal). (reference : Reference) × Contains waiting reference
+      × IsRefusalOf s stored silence reference refusal) added
   pub all : length new < most → Each (IsAnswered s stored silence added) waiting

@@ -1,7 +1,7 @@
 -- An instance that is refused, with a signpost in a string of it, is passed over and listed (this project's own).
 use Rattle.std.specs.BTreeSet.{Updates}
 use Rattle.std.specs.Ordering.{nat_cmp}
-use Rattle.std.specs.Prelude.{◌≡◌, ◌<◌, ℕ, true, suc, List, [], ◌∷◌, ◌++◌, length, take, drop}
+use Rattle.std.specs.Prelude.{◌≡◌, ◌<◌, ◌↔◌, ◌⊎◌, ℕ, IsTrue, true, suc, List, [], ◌∷◌, ◌++◌, take, drop}
 use Rattle.p21_spec_basics.specs.Limits.{Limits}
 use Rattle.p21_spec_exchange.specs.Record.{Record}
 use Rattle.p21_spec_exchange.specs.Statement.{instance}
@@ -26,7 +26,8 @@ use Rattle.p21_stream_survey.specs.Reading.{HasRead}
 use Rattle.p21_stream_survey.specs.declared.listing.Listing.{Listing}
 
 -- at a point of a data section an instance has ended that begins behind so many bytes and is refused, with a signpost in a string of it
-pub record IsWrongAt (s : Schema) (limits : Limits) (known : Known) (point : Point) (held : Held) (n : ℕ) (record_ : Record) (fault : Fault) (begins : ℕ) : Type 0 where
+pub record IsWrongAt (s : Schema) (limits : Limits) (known : Known) (point : Point) (held : Held) (n : ℕ) (record_ : Record) (fault : Fault)
+    (begins : ℕ) : Type 0 where
   pub logs : Logs s limits known held point
   pub ended : HasEnded held point (instance n record_)
   pub refused : RefusesInstance s point.read.given n record_ fault
@@ -35,23 +36,25 @@ pub record IsWrongAt (s : Schema) (limits : Limits) (known : Known) (point : Poi
   pub opens : OpensAs held.buffer Statement
   pub begins_in : BeginsInEach known point begins
 
--- its refusal is listed, and it is passed over by so many of these bytes: by some
-pub record ListsWrong (before : Listing) (n : ℕ) (fault : Fault) (begins count : ℕ) (bytes : List ℕ) (passage : Passage) (behind : Listing) : Type 0 where
+-- its refusal is listed, and it is passed over by so many of as many bytes
+pub record ListsWrong (before : Listing) (n : ℕ) (fault : Fault) (begins count size : ℕ) (passage : Passage) (behind : Listing) : Type
+    0 where
   pub passage_is : passage ≡ GoesOn count
-  pub some : 0 < count
-  pub some_bytes : 0 < length bytes
   pub list : behind.list.items ≡ before.list.items ++ record { fault = fault; at = Instance n; begins = begins } ∷ []
   pub passed : Updates nat_cmp before.passed behind.passed n true
-  pub broken : behind.is_broken ≡ true
+  pub broken : IsTrue behind.is_broken ↔ (IsTrue before.is_broken ⊎ ((0 < count) × (0 < size)))
   pub statement : behind.statement ≡ suc before.statement
 
 -- Of each such point: where the reading goes on the instance is passed over and listed; else nothing is listed, and it is known of it what the
 -- log says
 abbrev pub PassesWrong : Held → Listing → ℕ → Fault → ℕ → List ℕ → Passage → Held → Listing → Type 0
 PassesWrong old before n fault begins bytes (GoesOn count) new behind =
-    (s : Schema) (limits : Limits) (known : Known) (point : Point) (record_ : Record) (sieve : Sieve) → bytes ≡ old.buffer → IsWrongAt s limits known point old n record_ fault begins → HasRead s limits point.read sieve before
-    → Stands s limits known new sieve behind (behind_stretch point (take count bytes) (fault_number fault) (in_instance n) begins (drop count bytes ++ point.ahead))
+    (s : Schema) (limits : Limits) (known : Known) (point : Point) (record_ : Record) (sieve : Sieve) → bytes ≡ old.buffer
+    → IsWrongAt s limits known point old n record_ fault begins → HasRead s limits point.read sieve before
+    → Stands s limits known new sieve behind (behind_stretch point (take count bytes) (fault_number fault) (in_instance n) begins
+    (drop count bytes ++ point.ahead))
 PassesWrong old before n fault begins bytes passage new behind =
     (behind ≡ before)
-    × ((s : Schema) (limits : Limits) (known : Known) (point : Point) (record_ : Record) → bytes ≡ old.buffer → IsWrongAt s limits known point old n record_ fault begins
+    × ((s : Schema) (limits : Limits) (known : Known) (point : Point) (record_ : Record) → bytes ≡ old.buffer
+    → IsWrongAt s limits known point old n record_ fault begins
     → PassageFor s limits known point old.buffer [] point.ahead (fault_number fault) (in_instance n) begins passage new)

@@ -1,8 +1,9 @@
 //! What is done with a statement of which a step refused some bytes: it is passed over, or the list ends with it.
-ghost use Rattle.std.specs.Prelude.{◌↔◌, IfOk, IsTrue};
+ghost use Rattle.std.specs.Prelude.{◌≡◌, ◌↔◌, IfOk, IsTrue, false};
 ghost use Rattle.p21_spec_survey.specs.Survey.{IsGoneOnBehind};
+ghost use Rattle.p21_stream_log.specs.Passage.{GoesOnAt, StaysAt};
 ghost use Rattle.p21_stream_statements.specs.Fault.{fault_number};
-ghost use Rattle.p21_stream_survey.specs.Breaking.{MayBePassed, PassesBroken};
+ghost use Rattle.p21_stream_survey.specs.Breaking.{MayBePassed, MayNotBePassed, PassesBroken};
 
 use p21_stream_log::{Log, Opening, Passage, log_laws, opening_of};
 use p21_stream_statements::Fault;
@@ -12,7 +13,8 @@ use std::alloc::Global;
 /// Whether a statement is passed over of which a step refused some, with these bytes behind the last statement: whether its refusal is one
 /// behind which a survey goes on, it stands in a data section, and it doesn't begin with ENDSEC.
 pub(crate) fn may_be_passed(log: &Log, fault: Fault, bytes: &[u8]) -> bool
-    ensures { IsTrue result → MayBePassed log.now fault bytes.now }
+    ensures yes { IsTrue result → MayBePassed log.now fault bytes.now }
+    ensures no { result ≡ false → MayNotBePassed log.now fault bytes.now }
 {
     if !is_gone_on_behind(fault) {
         return false;
@@ -41,7 +43,9 @@ pub(crate) fn pass_broken(
     place: u64,
     bytes: &[u8],
 ) -> Result<Passage, NoMemory>
-    ensures { IfOk result (λ passage. PassesBroken log.old fault bytes.now passage log.new) }
+    ensures passes { IfOk result (λ passage. PassesBroken log.old fault bytes.now passage log.new) }
+    ensures stays { IfOk result (λ passage. StaysAt passage log.old log.new) }
+    ensures begins { IfOk result (λ passage. GoesOnAt log.old passage log.new) }
 {
     log_laws();
     let front = match log.broken_front(alloc, limits, bytes, place) {

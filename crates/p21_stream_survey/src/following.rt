@@ -1,9 +1,11 @@
 //! What is done with a statement that has ended and is judged: it is taken, or left out.
-ghost use Rattle.std.specs.Prelude.{IfOk, OnOk};
+ghost use Rattle.std.specs.Prelude.{IfOk, IsTrue, OnOk};
+ghost use Rattle.p21_stream_log.specs.Log.{Closes};
 ghost use Rattle.p21_stream_statements.specs.Source.{IsOfStatement};
 ghost use Rattle.p21_stream_survey.specs.Following.{LeavesOut, TakesRight};
 
 use crate::listing::Listing;
+use crate::noting::Noted;
 use p21_stream_log::Log;
 use p21_stream_sieve::Sieve;
 use p21_stream_statements::{At, Fault};
@@ -15,7 +17,8 @@ use p21_values::{Name, NoMemory};
 ///
 /// `NoMemory`.
 pub(crate) fn take_right(log: &mut Log, listing: &mut Listing) -> Result<(), NoMemory>
-    ensures { OnOk result (TakesRight log.old listing.old log.new listing.new) }
+    ensures takes { OnOk result (TakesRight log.old listing.old log.new listing.new) }
+    ensures closes { Closes log.old log.new }
 {
     log.take();
     listing.count()
@@ -32,9 +35,11 @@ pub(crate) fn leave_out(
     listing: &mut Listing,
     name: Name,
     fault: Fault,
+    noted: Noted<'_>,
 ) -> Result<bool, NoMemory>
     requires { IsOfStatement fault }
-    ensures { IfOk result (λ left. LeavesOut log.old sieve.old listing.old name fault left log.new sieve.new listing.new) }
+    ensures leaves { IfOk result (λ left. LeavesOut log.old sieve.old listing.old name fault left log.new sieve.new listing.new) }
+    ensures closes { IfOk result (λ left. IsTrue left → Closes log.old log.new) }
 {
     let begins = match log.leave_out() {
         Some(begins) => begins,
@@ -43,7 +48,7 @@ pub(crate) fn leave_out(
     let Ok(()) = sieve.list_or_end(name, fault) else {
         return Err(NoMemory);
     };
-    match listing.list(fault, At::Instance(name), begins) {
+    match listing.list(fault, At::Instance(name), begins, noted) {
         Ok(()) => Ok(true),
         Err(NoMemory) => Err(NoMemory),
     }

@@ -1,9 +1,11 @@
 //! A statement of which a step refused some bytes is passed over, and listed.
 ghost use Rattle.std.specs.Prelude.{IfOk};
+ghost use Rattle.p21_stream_log.specs.Passage.{GoesOnAt, StaysAt};
 ghost use Rattle.p21_stream_survey.specs.Passing.{GoesOnBroken, ListsPassed};
 
 use crate::breaking::pass_broken;
 use crate::listing::Listing;
+use crate::noting::Noted;
 use p21_stream_log::{Log, Passage};
 use p21_stream_statements::{At, Fault};
 use p21_values::{Limits, NoMemory};
@@ -30,11 +32,22 @@ pub(crate) fn go_on_behind(
     broken: Broken,
     bytes: &[u8],
 ) -> Result<Passage, NoMemory>
-    ensures { IfOk result (λ passage. GoesOnBroken log.old listing.old broken.fault broken.begins bytes.now passage log.new listing.new) }
+    ensures goes { IfOk result (λ passage. GoesOnBroken log.old listing.old broken.fault broken.begins bytes.now passage log.new
+        listing.new) }
+    ensures stays { IfOk result (λ passage. StaysAt passage log.old log.new) }
+    ensures begins { IfOk result (λ passage. GoesOnAt log.old passage log.new) }
 {
+    let noted = Noted::of(log, broken.fault, bytes);
     match pass_broken(log, alloc, limits, broken.fault, broken.place, bytes) {
         Ok(Passage::GoesOn(count)) => {
-            list_passed(listing, broken.fault, broken.begins, count, bytes)
+            list_passed(
+                listing,
+                broken.fault,
+                broken.begins,
+                count,
+                bytes.len(),
+                noted,
+            )
         }
         Ok(Passage::AtFileMark) => Ok(Passage::AtFileMark),
         Ok(Passage::TooLong) => Ok(Passage::TooLong),
@@ -43,23 +56,19 @@ pub(crate) fn go_on_behind(
     }
 }
 
-/// Lists a statement that is passed over by so many of these bytes. They are some: where they were none, nobody would go on.
+/// Lists a statement that is passed over by so many of as many bytes.
 pub(crate) fn list_passed(
     listing: &mut Listing,
     fault: Fault,
     begins: u64,
     count: usize,
-    bytes: &[u8],
+    size: usize,
+    noted: Noted<'_>,
 ) -> Result<Passage, NoMemory>
-    ensures { IfOk result (λ passage. ListsPassed listing.old fault begins count bytes.now passage listing.new) }
+    ensures { IfOk result (λ passage. ListsPassed listing.old fault begins count size passage listing.new) }
 {
-    if count == 0 {
-        return Err(NoMemory);
-    }
-    if bytes.is_empty() {
-        return Err(NoMemory);
-    }
-    match listing.pass_over(fault, At::Statement(listing.statement), begins) {
+    let at = At::Statement(listing.statement);
+    match listing.pass_over(fault, at, begins, count.min(size), noted) {
         Ok(()) => Ok(Passage::GoesOn(count)),
         Err(NoMemory) => Err(NoMemory),
     }

@@ -14,7 +14,7 @@ ghost use Rattle.p21_stream_survey.specs.Judging.{Follows, FollowsFound, FoundGi
 
 use p21_grammar::Event;
 use p21_grammar_tree::Record;
-use p21_mapping::KnownEntities;
+use p21_mapping::{KnownEntities, Trail, check_owned_record};
 use p21_schema::Schema;
 use p21_stream_kept::{FoundInstance, Workspace};
 use p21_stream_sieve::Sieve;
@@ -29,8 +29,8 @@ pub(crate) struct Judge<'a> {
     pub sieve: Sieve,
     // What is known of the records of entities with large sets.
     pub known: KnownEntities<'a>,
-    // Where instances are checked that are taken by their tokens.
-    workspace: Workspace,
+    // Where instances are checked that are taken by their tokens: its trail leads to what is refused in the record that was judged last.
+    pub workspace: Workspace,
 }
 
 /// What is said of a statement.
@@ -57,7 +57,7 @@ impl<'a> Judge<'a> {
         }
     }
 
-    /// Judges a statement.
+    /// Judges a statement. A record that is refused by what is known of its entity may be walked through for the place.
     ///
     /// # Errors
     ///
@@ -67,6 +67,7 @@ impl<'a> Judge<'a> {
         schema: &Schema,
         limits: Limits,
         event: Event,
+        is_walked: bool,
     ) -> Result<Judgement, Fault>
         requires follows { Follows schema.now limits self.old.sieve (statement_of event) }
         requires known { self.old.known ≡ schema.now }
@@ -75,6 +76,8 @@ impl<'a> Judge<'a> {
     {
         schema.well_formed();
         if let Some((name, fault)) = self.refused_by(&event) {
+            let alloc = *self.sieve.refusals.allocator();
+            lead(alloc, schema, event, is_walked, &mut self.workspace.trail);
             return wrong_or_end(name, fault);
         }
         match event {
@@ -123,8 +126,10 @@ impl<'a> Judge<'a> {
         limits: Limits,
         found: &FoundInstance<'_>,
     ) -> Result<Judgement, Fault>
-        requires follows { FollowsFound schema.now limits self.old.sieve found.now.name (ids_view found.now.entities.now) (needs_view found.now.needs.now) found.now.line.now }
-        ensures gives { FoundGives schema.now limits self.old.sieve found.now.name (ids_view found.now.entities.now) (needs_view found.now.needs.now) found.now.line.now result self.new.sieve }
+        requires follows { FollowsFound schema.now limits self.old.sieve found.now.name (ids_view found.now.entities.now)
+            (needs_view found.now.needs.now) found.now.line.now }
+        ensures gives { FoundGives schema.now limits self.old.sieve found.now.name (ids_view found.now.entities.now)
+            (needs_view found.now.needs.now) found.now.line.now result self.new.sieve }
         ensures known { self.new.known ≡ self.old.known }
     {
         schema.well_formed();
@@ -151,6 +156,18 @@ impl<'a> Judge<'a> {
             return None;
         }
         Some((*name, Fault::from(fault)))
+    }
+}
+
+/// Has a trail lead to what is refused in the record of an instance, if it is walked through, or else nowhere.
+fn lead(alloc: Global, schema: &Schema, event: Event, is_walked: bool, trail: &mut Trail) {
+    trail.clear();
+    let Event::Instance(_, record) = event else {
+        return;
+    };
+    if is_walked {
+        // That it is refused, and why, is known.
+        let _ = check_owned_record(alloc, schema, record, trail);
     }
 }
 

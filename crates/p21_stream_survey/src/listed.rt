@@ -1,4 +1,6 @@
-use p21_stream_statements::{At, Fault};
+use p21_stream_output::Accepted;
+use p21_stream_sieve::Spots;
+use p21_stream_statements::{At, Fault, Refusal};
 
 /// A refusal that is listed, and how many bytes of the file stand in front of its statement.
 #[derive(Clone, Copy, Debug, PartialEq, Eq)]
@@ -17,4 +19,18 @@ pub enum Extent {
     ReadTo(u64),
     /// As far as to the last refusal of the list, since no more were asked for.
     Most,
+}
+
+/// What a survey finds of a file.
+#[derive(Drop)]
+pub struct Found {
+    /// The refusals of statements, in the order of the file.
+    pub list: Vec<Listed>,
+    /// The refusals of references, behind them.
+    pub references: Vec<Refusal>,
+    pub extent: Extent,
+    /// The file, exactly where nothing is refused.
+    pub accepted: Option<Accepted>,
+    /// Where the refusals stand, as far as that was asked for and is known.
+    pub spots: Spots,
 }

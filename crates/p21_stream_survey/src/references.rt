@@ -10,6 +10,7 @@ ghost use Rattle.p21_stream_survey.specs.Telling.{AddsRefusal, IsSilent, ListsRe
 
 use p21_schema::Schema;
 use p21_stream_kept::{Kept, Reference};
+use p21_stream_sieve::Spots;
 use p21_stream_statements::{At, Fault, Refusal};
 use p21_values::NoMemory;
 use std::collections::BTreeSet;
@@ -23,7 +24,7 @@ pub(crate) struct Silence<'a> {
     pub is_broken: bool,
 }
 
-/// Lists the references that no instance serves, up to so many refusals in all.
+/// Lists the references that no instance serves, up to so many refusals in all, and notes what is wanted at them.
 ///
 /// # Errors
 ///
@@ -34,15 +35,17 @@ pub(crate) fn list_references(
     schema: &Schema,
     most: u64,
     refusals: &mut Vec<Refusal>,
+    spots: &mut Spots,
 ) -> Result<(), NoMemory>
-    ensures lists { OnOk result (ListsReferences schema.now kept.now.stored kept.now.waiting (silence_of silence.entry) most refusals.old.items refusals.new.items) }
+    ensures lists { OnOk result (ListsReferences schema.now kept.now.stored kept.now.waiting (silence_of silence.entry) most
+        refusals.old.items refusals.new.items) }
     ensures counted { length refusals.old.items ≤ most → OnOk result (length refusals.new.items ≤ most) }
 {
     let found = match kept.waiting_refusals(schema) {
         Ok(found) => found,
         Err(NoMemory) => return Err(NoMemory),
     };
-    list_each(silence, most, kept.waiting(), &found, refusals)
+    list_each(silence, most, kept.waiting(), &found, refusals, spots)
 }
 
 /// Lists those of these references, by why no instance serves each: so the loop is over parameters.
@@ -52,16 +55,19 @@ fn list_each(
     waiting: &[Reference],
     found: &[Option<Fault>],
     refusals: &mut Vec<Refusal>,
+    spots: &mut Spots,
 ) -> Result<(), NoMemory>
     requires { length found.now ≡ length waiting.now }
-    ensures lists { (s : Meant) (stored : List StoredEntry) → AllZip (AnswersNeedOf s stored) (references_of waiting.now) found.now → OnOk result (ListsReferences s stored (references_of waiting.now) (silence_of silence.entry) most refusals.old.items refusals.new.items) }
+    ensures lists { (s : Meant) (stored : List StoredEntry) → AllZip (AnswersNeedOf s stored) (references_of waiting.now) found.now
+        → OnOk result (ListsReferences s stored (references_of waiting.now) (silence_of silence.entry) most refusals.old.items
+        refusals.new.items) }
     ensures counted { length refusals.old.items ≤ most → OnOk result (length refusals.new.items ≤ most) }
 {
     for index in 0..waiting.len() {
         if refusals.len() as u64 >= most {
             return Ok(());
         }
-        match list_one(silence, &waiting[index], found[index], refusals) {
+        match list_one(silence, &waiting[index], found[index], refusals, spots) {
             Ok(()) => {}
             Err(NoMemory) => return Err(NoMemory),
         }
@@ -75,8 +81,10 @@ fn list_one(
     reference: &Reference,
     found: Option<Fault>,
     refusals: &mut Vec<Refusal>,
+    spots: &mut Spots,
 ) -> Result<(), NoMemory>
-    ensures adds { (s : Meant) (stored : List StoredEntry) → AnswersNeedOf s stored (reference_of reference.now) found → OnOk result (AddsRefusal s stored (silence_of silence.entry) (reference_of reference.now) refusals.old.items refusals.new.items) }
+    ensures adds { (s : Meant) (stored : List StoredEntry) → AnswersNeedOf s stored (reference_of reference.now) found
+        → OnOk result (AddsRefusal s stored (silence_of silence.entry) (reference_of reference.now) refusals.old.items refusals.new.items) }
     ensures counted { OnOk result (length refusals.new.items ≤ length refusals.old.items + 1) }
 {
     let Some(fault) = found else {
@@ -90,7 +98,10 @@ fn list_one(
         at: At::Instance(reference.holder),
     };
     match refusals.push(refusal) {
-        Ok(()) => Ok(()),
+        Ok(()) => {
+            spots.note_need(reference.need);
+            Ok(())
+        }
         Err(_) => Err(NoMemory),
     }
 }

@@ -1,8 +1,10 @@
 //! An instance that is refused, with a signpost in a string of it, is passed over and listed.
 ghost use Rattle.std.specs.Prelude.{◌≡◌, IfOk};
+ghost use Rattle.p21_stream_log.specs.Passage.{GoesOnAt};
 ghost use Rattle.p21_stream_survey.specs.Wrong.{ListsWrong, PassesWrong};
 
 use crate::listing::Listing;
+use crate::noting::Noted;
 use p21_stream_log::{Log, Passage, log_laws};
 use p21_stream_statements::{At, Fault};
 use p21_values::{Name, NoMemory};
@@ -27,12 +29,15 @@ pub(crate) fn pass_wrong(
     alloc: Global,
     wrong: Wrong,
     bytes: &[u8],
+    noted: Noted<'_>,
 ) -> Result<Passage, NoMemory>
-    ensures { IfOk result (λ passage. PassesWrong log.old listing.old wrong.name wrong.fault wrong.begins bytes.now passage log.new listing.new) }
+    ensures passes { IfOk result (λ passage. PassesWrong log.old listing.old wrong.name wrong.fault wrong.begins bytes.now passage log.new
+        listing.new) }
+    ensures begins { IfOk result (λ passage. GoesOnAt log.old passage log.new) }
 {
     log_laws();
     match log.pass(alloc, bytes, &[]) {
-        Ok(Passage::GoesOn(count)) => list_wrong(listing, wrong, count, bytes),
+        Ok(Passage::GoesOn(count)) => list_wrong(listing, wrong, count, bytes.len(), noted),
         Ok(Passage::AtFileMark) => Ok(Passage::AtFileMark),
         Ok(Passage::TooLong) => Ok(Passage::TooLong),
         Ok(Passage::Sought(seeker)) => Ok(Passage::Sought(seeker)),
@@ -40,26 +45,22 @@ pub(crate) fn pass_wrong(
     }
 }
 
-/// Lists an instance that is passed over by so many of these bytes: by some.
+/// Lists an instance that is passed over by so many of as many bytes.
 fn list_wrong(
     listing: &mut Listing,
     wrong: Wrong,
     count: usize,
-    bytes: &[u8],
+    size: usize,
+    noted: Noted<'_>,
 ) -> Result<Passage, NoMemory>
-    ensures { IfOk result (λ passage. ListsWrong listing.old wrong.name wrong.fault wrong.begins count bytes.now passage listing.new) }
+    ensures { IfOk result (λ passage. ListsWrong listing.old wrong.name wrong.fault wrong.begins count size passage listing.new) }
 {
-    if count == 0 {
-        return Err(NoMemory);
-    }
-    if bytes.is_empty() {
-        return Err(NoMemory);
-    }
     match listing.pass(wrong.name) {
         Ok(()) => {}
         Err(NoMemory) => return Err(NoMemory),
     }
-    match listing.pass_over(wrong.fault, At::Instance(wrong.name), wrong.begins) {
+    let at = At::Instance(wrong.name);
+    match listing.pass_over(wrong.fault, at, wrong.begins, count.min(size), noted) {
         Ok(()) => Ok(Passage::GoesOn(count)),
         Err(NoMemory) => Err(NoMemory),
     }

@@ -32,11 +32,11 @@ fn read(log: &mut Log, piece: &[u8], name: Name, answer: &mut Answer) -> bool {
     let mut rest = piece;
     // A token that waited is given without a further byte.
     for _ in 0..=piece.len().saturating_mul(2) {
-        let Ok(answered) = log.step(rest) else {
-            return false;
-        };
-        let Some((count, event)) = answered else {
+        if rest.is_empty() {
             return true;
+        }
+        let Ok((count, event)) = log.step(rest) else {
+            return false;
         };
         rest = &rest[count..];
         judge(log, event, name, answer);
@@ -190,9 +190,11 @@ fn front_behind(
     for piece in text.as_bytes().chunks(size) {
         let mut rest = piece;
         for _ in 0..=piece.len().saturating_mul(2) {
+            if rest.is_empty() {
+                break;
+            }
             match log.step(rest) {
-                Ok(None) => break,
-                Ok(Some((count, _))) => rest = &rest[count..],
+                Ok((count, _)) => rest = &rest[count..],
                 Err(_) => {
                     let bytes = log.bytes_with(alloc, rest)?;
                     let place = HEAD.len().saturating_add(place) as u64;
@@ -426,9 +428,11 @@ fn passed(
 fn refused_in<'a>(log: &mut Log, piece: &'a [u8], name: Name, answer: &mut Answer) -> &'a [u8] {
     let mut rest = piece;
     for _ in 0..=piece.len().saturating_mul(2) {
+        if rest.is_empty() {
+            return rest;
+        }
         match log.step(rest) {
-            Ok(None) => return &rest[..0],
-            Ok(Some((count, event))) => {
+            Ok((count, event)) => {
                 rest = &rest[count..];
                 judge(log, event, name, answer);
             }
@@ -559,9 +563,11 @@ fn place_of_refused(alloc: Global, text: &str, size: usize) -> Result<Option<u64
     for piece in text.as_bytes().chunks(size) {
         let mut rest = piece;
         for _ in 0..=piece.len().saturating_mul(2) {
+            if rest.is_empty() {
+                break;
+            }
             match log.step(rest) {
-                Ok(None) => break,
-                Ok(Some((count, _))) => rest = &rest[count..],
+                Ok((count, _)) => rest = &rest[count..],
                 Err(fault) => {
                     let bytes = log.bytes_with(alloc, rest)?;
                     return Ok(Some(log.refused_at(fault, &bytes)));

@@ -8,13 +8,15 @@ use Rattle.p21_stream_resume.specs.declared.signpost.Signpost.{Signpost}
 use Rattle.p21_stream_log.proofs.passage.signpost_inside.Goals as goal
 
 pub returns-in-Some : goal.returns-in-Some
-returns-in-Some c = λ state lexed. inl (subst (λ (o : Option (ℕ × Signpost)). FindsInString c.args.statement.now o) c.in-Some.is (c.signpost_in_string.ensures state lexed))
+returns-in-Some c = λ state lexed. inl (subst (λ (o : Option (ℕ × Signpost)). FindsInString c.args.statement.now o) c.in-Some.is
+    (c.signpost_in_string.ensures state lexed))
 
 pub returns-then-is_empty : goal.returns-then-is_empty
 returns-then-is_empty c = λ state lexed.
     found-in_remark c.args.statement.now c.args.behind.now c.signpost_in_remark.result
     (subst (λ (o : Option (ℕ × Signpost)). FindsInString c.args.statement.now o) c.in_default.is (c.signpost_in_string.ensures state lexed))
-    (nil_from_length c.args.behind.now (eqb-true (length c.args.behind.now) 0 (sym c.is_empty.ensures ∙ c.if-is_empty.true))) (c.signpost_in_remark.ensures state lexed)
+    (nil_from_length c.args.behind.now (eqb-true (length c.args.behind.now) 0 (sym c.is_empty.ensures ∙ c.if-is_empty.true)))
+    (c.signpost_in_remark.ensures state lexed)
 
 pub returns-else-is_empty : goal.returns-else-is_empty
 returns-else-is_empty c = λ state lexed. (

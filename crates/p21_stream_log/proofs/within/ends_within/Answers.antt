@@ -7,4 +7,5 @@ use Rattle.p21_stream_log.proofs.within.ends_within.Goals as goal
 pub returns-in_default : goal.returns-in_default
 returns-in_default c = λ gone.
     within-by c.args.statement.now c.in-Ok-Some.lexer c.in-Err-finish.fault c.in_default.not-NoMemory
-    (subst (λ (o : Option Held). IfSome o (λ lexer. HasTaken c.args.statement.now lexer)) c.in-Ok-Some.field-0-is c.in-Ok-Some.ensures) c.in-Err-finish.ensures.history c.in-Err-finish.ensures.names
+    (subst (λ (o : Option Held). IfSome o (λ lexer. HasTaken c.args.statement.now lexer)) c.in-Ok-Some.field-0-is c.in-Ok-Some.ensures)
+    c.in-Err-finish.ensures.history c.in-Err-finish.ensures.names

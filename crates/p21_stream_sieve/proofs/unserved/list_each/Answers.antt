@@ -7,7 +7,11 @@ use Rattle.p21_stream_sieve.proofs.UnservedListing.{AddsSoFar, adds-next, adds-n
 use Rattle.p21_stream_sieve.proofs.unserved.list_each.Goals as goal
 
 pub loop-index-init : goal.loop-index-init
-loop-index-init c = record { adds = λ s kept same all. adds-nothing s kept c.args.names.now c.args.refusals.now.items (references_of c.args.waiting.now) same; counted = λ few. few }
+loop-index-init c = record {
+  adds = λ s kept same all. adds-nothing s kept c.args.names.now c.args.refusals.now.items
+      (references_of c.args.waiting.now) same;
+  counted = λ few. few;
+}
 
 pub loop-index-preserved : goal.loop-index-preserved
 loop-index-preserved c =
@@ -16,15 +20,21 @@ loop-index-preserved c =
     let item = c.index-waiting-index.result in
     let one_more = c.in_ok-list_one.ensures.counted in record {
       adds = λ s kept same all.
-          let So_far : List Reference → Type 0 = λ rest. AddsSoFar s kept c.args.names.now c.args.refusals.now.items c.loop-index.refusals.items rest in
-          let answers = answered-at s kept waiting c.args.found.now k item None c.index-waiting-index.is c.loop-index-test.true (omega (arith, c.loop-index-test.true, c.requires)) all in
-          adds-next s kept c.args.names.now c.args.refusals.now.items c.loop-index.refusals.items c.list_one.new.refusals.items (reference_of item) (references_of (drop (k + 1) waiting))
-          (subst So_far (references-from waiting k item c.index-waiting-index.is c.loop-index-test.true) (c.loop-index.invariant.adds s kept same all)) (c.in_ok-list_one.ensures.adds s kept answers);
+          let So_far : List Reference → Type 0 = λ rest. AddsSoFar s kept c.args.names.now c.args.refusals.now.items
+          c.loop-index.refusals.items rest in
+          let answers = answered-at s kept waiting c.args.found.now k item None c.index-waiting-index.is c.loop-index-test.true
+          (omega (arith, c.loop-index-test.true, c.requires)) all in
+          adds-next s kept c.args.names.now c.args.refusals.now.items c.loop-index.refusals.items c.list_one.new.refusals.items
+          (reference_of item) (references_of (drop (k + 1) waiting))
+          (subst So_far (references-from waiting k item c.index-waiting-index.is c.loop-index-test.true)
+          (c.loop-index.invariant.adds s kept same all)) (c.in_ok-list_one.ensures.adds s kept answers);
       counted = λ few. omega (arith, one_more, c.len.ensures, c.if-len-most.false, c.loop-index.refusals.ok.0);
     }
 
 pub returns-clause-lists : goal.returns-clause-lists
 returns-clause-lists c = λ s kept same all.
-    let So_far : List Reference → Type 0 = λ rest. AddsSoFar s kept c.args.names.now c.args.refusals.now.items c.loop-index.refusals.items rest in
+    let So_far : List Reference → Type 0 = λ rest. AddsSoFar s kept c.args.names.now c.args.refusals.now.items c.loop-index.refusals.items
+    rest in
     lists-all s kept c.args.names.now c.args.most c.args.refusals.now.items c.loop-index.refusals.items
-    (subst So_far (ap references_of (drop_all c.loop-index.index c.args.waiting.now c.loop-index-test.false)) (c.loop-index.invariant.adds s kept same all))
+    (subst So_far (ap references_of (drop_all c.loop-index.index c.args.waiting.now c.loop-index-test.false))
+    (c.loop-index.invariant.adds s kept same all))

@@ -10,6 +10,8 @@ use Rattle.p21_stream_sieve.proofs.unserved.list_each.Given as goal
 -- the refusals of the references before this one are listed
 abbrev pub invariant-loop-index : goal.invariant-loop-index
 invariant-loop-index l = record {
-  adds : (s : Schema) (kept : Kept) → references_of l.waiting ≡ kept.waiting → AllZip (AnswersNeedOf s kept.stored) (references_of l.waiting) l.found → AddsSoFar s kept l.names l.fn.refusals.items l.refusals.items (references_of (drop l.index l.waiting));
+  adds : (s : Schema) (kept : Kept) → references_of l.waiting ≡ kept.waiting
+      → AllZip (AnswersNeedOf s kept.stored) (references_of l.waiting) l.found
+      → AddsSoFar s kept l.names l.fn.refusals.items l.refusals.items (references_of (drop l.index l.waiting));
   counted : length l.fn.refusals.items ≤ l.most → length l.refusals.items ≤ l.most;
 }

@@ -11,6 +11,8 @@ use Rattle.p21_stream_survey.proofs.references.list_each.Given as goal
 -- the refusals of the references before this one are listed
 abbrev pub invariant-loop-index : goal.invariant-loop-index
 invariant-loop-index l = record {
-  adds : (s : Schema) (stored : List StoredEntry) → AllZip (AnswersNeedOf s stored) (references_of l.waiting) l.found → AddsSoFar s stored (silence_of l.silence) (references_of l.waiting) l.fn.refusals.items l.refusals.items (references_of (drop l.index l.waiting));
+  adds : (s : Schema) (stored : List StoredEntry) → AllZip (AnswersNeedOf s stored) (references_of l.waiting) l.found
+      → AddsSoFar s stored (silence_of l.silence) (references_of l.waiting) l.fn.refusals.items l.refusals.items
+      (references_of (drop l.index l.waiting));
   counted : length l.fn.refusals.items ≤ l.most → length l.refusals.items ≤ l.most;
 }
