@@ -24,7 +24,8 @@ use Rattle.p21_stream_statements.specs.declared.fault.Fault.{Fault}
 use Rattle.p21_stream_statements.specs.declared.fault.Fault.TheVariants.{Token, Grammar, Check, SchemaName, SectionTwice, DuplicateName, CanonicalTooLong, Dangling, WrongTarget, NoMemory, Read, Write}
 use Rattle.p21_stream_io.specs.Transfer.{AppendsPartOf}
 
-pub only-canonical : (s : Schema) → IsWellFormed s → (limits : Limits) → AreLimits limits → (bytes text : List ℕ) → IsCanonicalFile s limits bytes text → IsOnlyCanonicalFile s limits bytes text
+pub only-canonical : (s : Schema) → IsWellFormed s → (limits : Limits) → AreLimits limits → (bytes text : List ℕ)
+    → IsCanonicalFile s limits bytes text → IsOnlyCanonicalFile s limits bytes text
 only-canonical s formed limits are bytes text is = record {
   is_canonical = is;
   is_accepted = is-accepted s limits are bytes text is;
@@ -33,7 +34,8 @@ only-canonical s formed limits are bytes text is = record {
   only = λ meaning means other c same.
       let one : is.0 ≡ meaning = Means-one s formed limits limits bytes is.0 meaning is.1 means in
       let of = is.2 in
-      let back : SameFileMeaning meaning of.canonical.meaning = SameFileMeaning-symmetric of.canonical.meaning meaning (subst (SameFileMeaning of.canonical.meaning) one of.same) in
+      let back : SameFileMeaning meaning of.canonical.meaning =
+      SameFileMeaning-symmetric of.canonical.meaning meaning (subst (SameFileMeaning of.canonical.meaning) one of.same) in
       file-once s formed other text c of.canonical (SameFileMeaning-transitive c.meaning meaning of.canonical.meaning same back);
 }
 
@@ -46,7 +48,8 @@ in-one_way s formed bytes = record {
 
 -- ---- of what a reader gave
 
-pub canonical-of_read : (s : Schema) → IsWellFormed s → (limits : Limits) → AreLimits limits → (old new : Option (List ℕ)) (output : Output) → IsAcceptedInput s limits old new output → IsCanonicalOfRead s limits old new (output_text output)
+pub canonical-of_read : (s : Schema) → IsWellFormed s → (limits : Limits) → AreLimits limits → (old new : Option (List ℕ)) (output : Output)
+    → IsAcceptedInput s limits old new output → IsCanonicalOfRead s limits old new (output_text output)
 canonical-of_read s formed limits are old new output is = record {
   bytes = is.bytes;
   read = is.read;
@@ -56,7 +59,9 @@ canonical-of_read s formed limits are old new output is = record {
 
 -- ---- written
 
-pub all-written : (s : Schema) → IsWellFormed s → (limits : Limits) → AreLimits limits → (old new writer_old writer_new : Option (List ℕ)) (output : Output) (size : ℕ) → IsAcceptedInput s limits old new output → Appends writer_old writer_new (output_text output) → size ≡ length (output_text output)
+pub all-written : (s : Schema) → IsWellFormed s → (limits : Limits) → AreLimits limits
+    → (old new writer_old writer_new : Option (List ℕ)) (output : Output) (size : ℕ) → IsAcceptedInput s limits old new output
+    → Appends writer_old writer_new (output_text output) → size ≡ length (output_text output)
     → IsWritten s limits old new writer_old writer_new size
 all-written s formed limits are old new writer_old writer_new output size is written size_is = record {
   text = output_text output;
@@ -65,12 +70,16 @@ all-written s formed limits are old new writer_old writer_new output size is wri
   size_is = size_is;
 }
 
-pub part-written : (s : Schema) → IsWellFormed s → (limits : Limits) → AreLimits limits → (old new writer_old writer_new : Option (List ℕ)) (output : Output) → IsAcceptedInput s limits old new output → AppendsPartOf writer_old writer_new (output_text output)
+pub part-written : (s : Schema) → IsWellFormed s → (limits : Limits) → AreLimits limits
+    → (old new writer_old writer_new : Option (List ℕ)) (output : Output) → IsAcceptedInput s limits old new output
+    → AppendsPartOf writer_old writer_new (output_text output)
     → IsPartWritten s limits old new writer_old writer_new
-part-written s formed limits are old new writer_old writer_new output is part = record { text = output_text output; canonical = canonical-of_read s formed limits are old new output is; part = part }
+part-written s formed limits are old new writer_old writer_new output is part =
+    record { text = output_text output; canonical = canonical-of_read s formed limits are old new output is; part = part }
 
 -- what is refused is not written
-pub read-fails : (s : Schema) (limits : Limits) (old new writer : Option (List ℕ)) (fault : Fault) → RefusesRead s limits old new fault → FailsToWrite s limits old new writer writer fault
+pub read-fails : (s : Schema) (limits : Limits) (old new writer : Option (List ℕ)) (fault : Fault) → RefusesRead s limits old new fault
+    → FailsToWrite s limits old new writer writer fault
 read-fails s limits old new writer Write refuses = absurd refuses
 read-fails s limits old new writer NoMemory refuses = (refuses, Keeps-refl writer)
 read-fails s limits old new writer Read refuses = (refuses, Keeps-refl writer)
@@ -84,7 +93,8 @@ read-fails s limits old new writer CanonicalTooLong refuses = (refuses, Keeps-re
 read-fails s limits old new writer Dangling refuses = (refuses, Keeps-refl writer)
 read-fails s limits old new writer WrongTarget refuses = (refuses, Keeps-refl writer)
 
-pub read-no_write : (s : Schema) (limits : Limits) (old new : Option (List ℕ)) (fault : Fault) (count : ℕ) → RefusesRead s limits old new fault → count ≡ write_failures count fault
+pub read-no_write : (s : Schema) (limits : Limits) (old new : Option (List ℕ)) (fault : Fault) (count : ℕ)
+    → RefusesRead s limits old new fault → count ≡ write_failures count fault
 read-no_write s limits old new Write count refuses = absurd refuses
 read-no_write s limits old new NoMemory count refuses = refl
 read-no_write s limits old new Read count refuses = refl
@@ -101,16 +111,30 @@ read-no_write s limits old new WrongTarget count refuses = refl
 -- ---- compared
 
 -- a whole file has a canonical file, which is the only one
-pub of-whole : (s : Schema) → IsWellFormed s → (limits : Limits) → AreLimits limits → (old new : Option (List ℕ)) (kept : Kept) (input : IsWholeInput s limits old new kept)
+pub of-whole : (s : Schema) → IsWellFormed s → (limits : Limits) → AreLimits limits
+    → (old new : Option (List ℕ)) (kept : Kept) (input : IsWholeInput s limits old new kept)
     → (text : List ℕ) × IsCanonicalOfRead s limits old new text × IsCanonicalFile s limits input.bytes text
 of-whole s formed limits are old new kept input =
     let w = input.whole in
-    let (blocks, canonical, size) = keeps-file s formed limits input.bytes w.given kept w.keeps w.structure w.text w.is_file w.statements_are (tokens_of w.structure) refl w.laid w.statements_within w.source_within w.served in
-    let text : List ℕ = text_with_header kept.header blocks in
-    (text, record { bytes = input.bytes; read = input.read; canonical = only-canonical s formed limits are input.bytes text canonical; in_one_way = in-one_way s formed input.bytes }, canonical)
+    let (blocks, canonical, size) = keeps-file s formed limits input.bytes w.given kept w.keeps w.structure w.text w.is_file
+    w.statements_are (tokens_of w.structure) refl w.laid w.statements_within w.source_within w.served in
+    let text : List ℕ = text_with_header kept.header blocks in (
+      text,
+      record {
+        bytes = input.bytes;
+        read = input.read;
+        canonical =
+            only-canonical s formed limits are input.bytes text canonical;
+        in_one_way = in-one_way s formed input.bytes;
+      },
+      canonical,
+    )
 
-pub both-compared : (s : Schema) → IsWellFormed s → (limits : Limits) → AreLimits limits → (first_old first_new second_old second_new : Option (List ℕ)) (first second : Kept) (same : Bool) → IsWholeInput s limits first_old first_new first → IsWholeInput s limits second_old second_new second
-    → first.lines ≡ with_lines → second.lines ≡ beside (earlier_of first) → IsTrue same ↔ IsSameAs (earlier_of first) second → Compares s limits first_old first_new second_old second_new same
+pub both-compared : (s : Schema) → IsWellFormed s → (limits : Limits) → AreLimits limits
+    → (first_old first_new second_old second_new : Option (List ℕ)) (first second : Kept) (same : Bool)
+    → IsWholeInput s limits first_old first_new first → IsWholeInput s limits second_old second_new second
+    → first.lines ≡ with_lines → second.lines ≡ beside (earlier_of first) → IsTrue same ↔ IsSameAs (earlier_of first) second
+    → Compares s limits first_old first_new second_old second_new same
 both-compared s formed limits are first_old first_new second_old second_new first second same one two full later is =
     let (text, of_first, canonical) = of-whole s formed limits are first_old first_new first one in
     let (other, of_second, canonical_) = of-whole s formed limits are second_old second_new second two in
@@ -118,8 +142,10 @@ both-compared s formed limits are first_old first_new second_old second_new firs
     let equal : IsTrue same → text ≡ other = λ yes.
     let (shared, of_one, of_two) = law.0 (is.0 yes) in
     one-file s formed limits one.bytes text shared canonical of_one ∙ one-file s formed limits two.bytes shared other of_two canonical_ in
-    let told : text ≡ other → IsTrue same = λ alike. is.1 (law.1 (text, canonical, subst (λ (x : List ℕ). IsCanonicalFile s limits two.bytes x) (sym alike) canonical_)) in
-    let tell = files-tell s formed limits of_first.bytes of_second.bytes text other of_first.canonical.is_canonical of_second.canonical.is_canonical in
+    let told : text ≡ other → IsTrue same = λ alike. is.1
+    (law.1 (text, canonical, subst (λ (x : List ℕ). IsCanonicalFile s limits two.bytes x) (sym alike) canonical_)) in
+    let tell = files-tell s formed limits of_first.bytes of_second.bytes text other of_first.canonical.is_canonical
+    of_second.canonical.is_canonical in
     record {
       first_text = text;
       second_text = other;

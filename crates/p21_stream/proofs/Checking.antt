@@ -27,7 +27,8 @@ no-end [] more is = cc
 no-end (t ∷ ts) more is = cc
 
 -- they stand in front of an open statement
-before-open : (ended opened tokens more : List Token) → Each IsNoSemicolon opened → ended ++ opened ≡ (tokens ++ semicolon ∷ []) ++ more → BeginsWith (tokens ++ semicolon ∷ []) ended
+before-open : (ended opened tokens more : List Token) → Each IsNoSemicolon opened → ended ++ opened ≡ (tokens ++ semicolon ∷ []) ++ more
+    → BeginsWith (tokens ++ semicolon ∷ []) ended
 before-open [] [] [] more none is = cc
 before-open [] (x ∷ xs) [] more none is = let same : x ≡ semicolon = cc in absurd (none.0 same)
 before-open [] [] (t ∷ ts) more none is = cc
@@ -42,7 +43,8 @@ before-open (e ∷ es) opened (t ∷ ts) more none is =
 none-laid : (front rest : List ℕ) (tokens : List Token) → [] ≡ front ++ rest → Laid front (tokens ++ semicolon ∷ []) → ⊥
 none-laid [] rest tokens is laid =
     let same : [] ≡ laid.lexemes = one_lexemes [] [] laid.lexemes ([], tt, refl) laid.laid in
-    no-end tokens [] (subst (λ (ls : List Lexeme). tokens_in ls ≡ (tokens ++ semicolon ∷ []) ++ []) (sym same) (laid.tokens_are ∙ sym (nothing-more (tokens ++ semicolon ∷ []))))
+    no-end tokens [] (subst (λ (ls : List Lexeme). tokens_in ls ≡ (tokens ++ semicolon ∷ []) ++ []) (sym same)
+    (laid.tokens_are ∙ sym (nothing-more (tokens ++ semicolon ∷ []))))
   where
     nothing-more : (l : List Token) → l ++ [] ≡ l
     nothing-more [] = refl
@@ -50,21 +52,27 @@ none-laid [] rest tokens is laid =
 none-laid (x ∷ xs) rest tokens is laid = cc
 
 -- where they are laid in a prefix of the bytes taken, they are the first of the statements given
-tokens-ended : (held : statements.Held) (reading : StatementHistory) (live : statements.IsLive held reading) (front rest : List ℕ) (tokens : List Token) → reading.taken ≡ front ++ rest → Laid front (tokens ++ semicolon ∷ []) → BeginsWith (tokens ++ semicolon ∷ []) (flat_map statement_tokens reading.given)
+tokens-ended : (held : statements.Held) (reading : StatementHistory) (live : statements.IsLive held reading) (front rest : List ℕ)
+    (tokens : List Token) → reading.taken ≡ front ++ rest → Laid front (tokens ++ semicolon ∷ [])
+    → BeginsWith (tokens ++ semicolon ∷ []) (flat_map statement_tokens reading.given)
 tokens-ended held reading live front rest tokens is laid = elim live.answered [
   | inl none ↦ absurd (none-laid front rest tokens (sym (nothing-taken held reading live none) ∙ is) laid)
   | inr answers ↦ (let (more, given) = answers.given_at_once front rest tokens semicolon (live.taken_are ∙ is) laid tt in
-      before-open (flat_map statement_tokens reading.given) live.ended_by.depth_is.opened tokens more live.ended_by.depth_is.open_statement.no_semicolon (sym (tokens-given held reading live) ∙ given))
+      before-open (flat_map statement_tokens reading.given) live.ended_by.depth_is.opened tokens more
+      live.ended_by.depth_is.open_statement.no_semicolon (sym (tokens-given held reading live) ∙ given))
 ]
 
 -- ---- what was checked of them
 
-pub records-mean : (s : Schema) (limits : Limits) (entries : List Entry) → Each (IsFound s limits) entries → Each (λ (i : ℕ × Record). IsMeaningful s i.1) (written_in entries)
+pub records-mean : (s : Schema) (limits : Limits) (entries : List Entry) → Each (IsFound s limits) entries
+    → Each (λ (i : ℕ × Record). IsMeaningful s i.1) (written_in entries)
 records-mean s limits entries found =
     Each-mapped (λ (i : ℕ × Record). IsMeaningful s i.1) (λ (e : Entry). (e.name, e.record_)) entries
-    (Each-weaker (IsFound s limits) (λ (e : Entry). IsMeaningful s e.record_) (λ e is. (is.meant.kinds, e.meaning, is.meant.means)) entries found)
+    (Each-weaker (IsFound s limits) (λ (e : Entry). IsMeaningful s e.record_) (λ e is. (is.meant.kinds, e.meaning, is.meant.means)) entries
+    found)
 
-pub checks-statements : (s : Schema) (limits : Limits) (held : statements.Held) (kept : Kept) (reading : StatementHistory) → IsLive s limits held kept reading → ChecksStatements s reading.taken
+pub checks-statements : (s : Schema) (limits : Limits) (held : statements.Held) (kept : Kept) (reading : StatementHistory)
+    → IsLive s limits held kept reading → ChecksStatements s reading.taken
 checks-statements s limits held kept reading live front rest tokens is laid =
     let unrefused = live.keeps.unrefused in
     record {
@@ -72,6 +80,8 @@ checks-statements s limits held kept reading live front rest tokens is laid =
       tokens_begin = tokens-ended held reading live.reads front rest tokens is laid;
       of_file = live.reads.of_file;
       names_differ = unrefused.names_differ;
-      records_mean = subst (λ (is : List (ℕ × Record)). Each (λ (i : ℕ × Record). IsMeaningful s i.1) is) (sym unrefused.instances_are) (records-mean s limits (entries_in live.keeps.groups) unrefused.found);
-      schema_named = λ part chars among is_schema. (Each-member (IsFitting s limits) reading.given (header part) unrefused.fitting among).1 chars is_schema;
+      records_mean = subst (λ (is : List (ℕ × Record)). Each (λ (i : ℕ × Record). IsMeaningful s i.1) is) (sym unrefused.instances_are)
+          (records-mean s limits (entries_in live.keeps.groups) unrefused.found);
+      schema_named = λ part chars among is_schema. (Each-member (IsFitting s limits) reading.given (header part) unrefused.fitting among).1
+          chars is_schema;
     }

@@ -35,17 +35,20 @@ failure-or P WrongTarget tells = inr (tells (λ e. cc e))
 
 -- ---- a reader
 
-not-accepted : (s : Schema) (limits : Limits) (bytes : List ℕ) (rest : Option (List ℕ)) → Each IsByte bytes → IsRefused s limits (Some bytes) rest → ¬ IsAccepted s limits bytes
+not-accepted : (s : Schema) (limits : Limits) (bytes : List ℕ) (rest : Option (List ℕ)) → Each IsByte bytes
+    → IsRefused s limits (Some bytes) rest → ¬ IsAccepted s limits bytes
 not-accepted s limits bytes None are refused accepted = absurd refused.consumed
 not-accepted s limits bytes (Some rest) are refused accepted =
     let whole : bytes ≡ refused.bytes ++ rest = refused.consumed in
     let later : Each IsByte rest = Each-back IsByte refused.bytes rest (subst (Each IsByte) whole are) in
     elim refused.refused [
       | inl dead ↦ dead rest later (subst (IsAccepted s limits) whole accepted)
-      | inr ended ↦ ended.1 (subst (IsAccepted s limits) (whole ∙ ap (λ (l : List ℕ). refused.bytes ++ l) ended.0 ∙ append-nil refused.bytes) accepted)
+      | inr ended ↦ ended.1 (subst (IsAccepted s limits)
+          (whole ∙ ap (λ (l : List ℕ). refused.bytes ++ l) ended.0 ∙ append-nil refused.bytes) accepted)
     ]
 
-refused-read : (s : Schema) (limits : Limits) (bytes : List ℕ) (rest : Option (List ℕ)) (fault : Fault) → Each IsByte bytes → RefusesRead s limits (Some bytes) rest fault → IsFailure fault ⊎ ¬ IsAccepted s limits bytes
+refused-read : (s : Schema) (limits : Limits) (bytes : List ℕ) (rest : Option (List ℕ)) (fault : Fault) → Each IsByte bytes
+    → RefusesRead s limits (Some bytes) rest fault → IsFailure fault ⊎ ¬ IsAccepted s limits bytes
 refused-read s limits bytes rest NoMemory are refuses = inl (inl refl)
 refused-read s limits bytes rest Read are refuses = inl (inr (inl refl))
 refused-read s limits bytes rest Write are refuses = absurd refuses
@@ -62,22 +65,31 @@ refused-read s limits bytes rest WrongTarget are refuses = inr (not-accepted s l
 -- ---- a session
 
 -- what holds under the schema and the limits of a session
-under : (P : Schema → Limits → Type 0) (s : Schema) (limits : Limits) (held : SessionHeld) (history : SessionHistory) → IsOpen s limits held history → P (schema_of held) (limits_of held) → P s limits
-under P s limits held history is_open holds = subst (λ (l : Limits). P s l) is_open.limits_are (subst (λ (t : Schema). P t (limits_of held)) is_open.schema_is holds)
+under : (P : Schema → Limits → Type 0) (s : Schema) (limits : Limits) (held : SessionHeld) (history : SessionHistory)
+    → IsOpen s limits held history → P (schema_of held) (limits_of held) → P s limits
+under P s limits held history is_open holds = subst (λ (l : Limits). P s l) is_open.limits_are
+    (subst (λ (t : Schema). P t (limits_of held)) is_open.schema_is holds)
 
-refused-piece : (s : Schema) (limits : Limits) (held new : SessionHeld) (history : SessionHistory) (piece more : List ℕ) (refusal : Refusal) → IsOpen s limits held history → FeedGives held piece (Err refusal) new → Each IsByte piece → Each IsByte more
+refused-piece : (s : Schema) (limits : Limits) (held new : SessionHeld) (history : SessionHistory) (piece more : List ℕ) (refusal : Refusal)
+    → IsOpen s limits held history → FeedGives held piece (Err refusal) new → Each IsByte piece → Each IsByte more
     → IsFailure refusal.fault ⊎ ¬ IsAccepted s limits (history.taken ++ (piece ++ more))
 refused-piece s limits held new history piece more refusal is_open gives are later =
     failure-or (¬ IsAccepted s limits (history.taken ++ (piece ++ more))) refusal.fault (λ other.
     let r = gives history is_open.stands is_open.goes_on in
     let whole : take r.count piece ++ drop r.count piece ≡ piece = take-append-drop r.count piece in
-    let behind : Each IsByte (drop r.count piece) = Each-back IsByte (take r.count piece) (drop r.count piece) (subst (Each IsByte) (sym whole) are) in
+    let behind : Each IsByte (drop r.count piece) = Each-back IsByte (take r.count piece) (drop r.count piece)
+    (subst (Each IsByte) (sym whole) are) in
     let joined : (history.taken ++ take r.count piece) ++ (drop r.count piece ++ more) ≡ history.taken ++ (piece ++ more) =
-    append_assoc history.taken (take r.count piece) (drop r.count piece ++ more) ∙ ap (λ (l : List ℕ). history.taken ++ l) (sym (append_assoc (take r.count piece) (drop r.count piece) more) ∙ ap (λ (l : List ℕ). l ++ more) whole) in
-    let dead = under (λ t l. (next : List ℕ) → Each IsByte next → ¬ IsAccepted t l ((history.taken ++ take r.count piece) ++ next)) s limits held history is_open (r.dead other) in
-    λ accepted. dead (drop r.count piece ++ more) (Each-append IsByte (drop r.count piece) more behind later) (subst (IsAccepted s limits) (sym joined) accepted))
+    append_assoc history.taken (take r.count piece) (drop r.count piece ++ more)
+    ∙ ap (λ (l : List ℕ). history.taken ++ l) (sym (append_assoc (take r.count piece) (drop r.count piece) more)
+    ∙ ap (λ (l : List ℕ). l ++ more) whole) in
+    let dead = under (λ t l. (next : List ℕ) → Each IsByte next → ¬ IsAccepted t l ((history.taken ++ take r.count piece) ++ next)) s limits
+    held history is_open (r.dead other) in
+    λ accepted. dead (drop r.count piece ++ more) (Each-append IsByte (drop r.count piece) more behind later)
+    (subst (IsAccepted s limits) (sym joined) accepted))
 
-refused-end : (s : Schema) (limits : Limits) (held : SessionHeld) (history : SessionHistory) (refusal : Refusal) → IsOpen s limits held history → FinishGives held (Err refusal) → IsFailure refusal.fault ⊎ ¬ IsAccepted s limits history.taken
+refused-end : (s : Schema) (limits : Limits) (held : SessionHeld) (history : SessionHistory) (refusal : Refusal)
+    → IsOpen s limits held history → FinishGives held (Err refusal) → IsFailure refusal.fault ⊎ ¬ IsAccepted s limits history.taken
 refused-end s limits held history refusal is_open gives =
     failure-or (¬ IsAccepted s limits history.taken) refusal.fault (λ other.
     under (λ t l. ¬ IsAccepted t l history.taken) s limits held history is_open (gives other history is_open.stands))

@@ -56,40 +56,59 @@ lines-are (x ∷ xs) = ap (λ (ls : List Line). (x.name, x.text) ∷ ls) (lines-
 -- ---- the end
 
 -- a whole file whose references are served has blocks that are its canonical file
-whole-file : (s : Schema) → IsWellFormed s → (limits : Limits) (held : statements.Held) (kept : Kept) (reading : StatementHistory) → IsLive s limits held kept reading → reading.seen ≡ None → AreWholeStatements reading.taken reading.given
-    → Each (λ (r : Reference). IsServedBy s kept.stored r.1) kept.waiting → (blocks : List Block) × IsCanonicalFile s limits reading.taken (text_with_header kept.header blocks) × (length (text_with_header kept.header blocks) ≡ kept.bytes + kept.framing)
+whole-file : (s : Schema) → IsWellFormed s → (limits : Limits) (held : statements.Held) (kept : Kept) (reading : StatementHistory)
+    → IsLive s limits held kept reading → reading.seen ≡ None → AreWholeStatements reading.taken reading.given
+    → Each (λ (r : Reference). IsServedBy s kept.stored r.1) kept.waiting
+    → (blocks : List Block) × IsCanonicalFile s limits reading.taken (text_with_header kept.header blocks)
+    × (length (text_with_header kept.header blocks) ≡ kept.bytes + kept.framing)
 whole-file s formed limits held kept reading live none w served =
-    let within : AreStatementsWithin limits.record_source 0 w.laid.lexemes = subst (λ (most : ℕ). AreStatementsWithin most 0 w.laid.lexemes) (ap (λ p. p.0) live.limits_are) (statements-within held reading live.reads none w) in
+    let within : AreStatementsWithin limits.record_source 0 w.laid.lexemes =
+    subst (λ (most : ℕ). AreStatementsWithin most 0 w.laid.lexemes) (ap (λ p. p.0) live.limits_are)
+    (statements-within held reading live.reads none w) in
     let short = source-within held reading live.reads in
     let limit : (limits_of held).1 ≡ limits.file_source = ap (λ p. p.1) live.limits_are in
-    keeps-file s formed limits reading.taken reading.given kept live.keeps w.whole.structure w.whole.text w.whole.is_file w.whole.statements_are w.found w.whole.tokens_are w.laid within (rw (← limit) short) served
+    keeps-file s formed limits reading.taken reading.given kept live.keeps w.whole.structure w.whole.text w.whole.is_file
+    w.whole.statements_are w.found w.whole.tokens_are w.laid within (rw (← limit) short) served
 
-pub end-counted : (s : Schema) → IsWellFormed s → (held : statements.Held) (kept : Kept) → EndsServed s held kept → (counted : Counted) → counted.instances ≡ length kept.stored → counted.bytes ≡ kept.bytes + kept.framing → CountsEnd s held kept (Ok counted)
+pub end-counted : (s : Schema) → IsWellFormed s → (held : statements.Held) (kept : Kept) → EndsServed s held kept → (counted : Counted)
+    → counted.instances ≡ length kept.stored → counted.bytes ≡ kept.bytes + kept.framing → CountsEnd s held kept (Ok counted)
 end-counted s formed held kept (ended, served) counted instances bytes limits taken given live =
     let reading : StatementHistory = record { taken = taken; seen = None; given = given } in
     let w = ended reading live.reads refl in
     let (blocks, canonical, size) = whole-file s formed limits held kept reading live refl w served in
     let (stored, full, many) = keeps-lines s limits given kept live.keeps in
-    let text : output_text (record { header = kept.header; sections = map written blocks; kept = map instance_of stored; statement = 0 }) ≡ text_with_header kept.header blocks = output-is kept.header (map written blocks) blocks (are-written blocks) in
+    let text : output_text (record {
+      header = kept.header;
+      sections = map written blocks;
+      kept = map instance_of stored;
+      statement =
+          0;
+    }) ≡ text_with_header kept.header blocks = output-is kept.header (map written blocks) blocks (are-written blocks) in
     record {
       output = record { header = kept.header; sections = map written blocks; kept = map instance_of stored; statement = 0 };
       accepted = record {
         is_canonical = subst (λ (bytes : List ℕ). IsCanonicalFile s limits taken bytes) (sym text) canonical;
-        instances_are = are-instances s limits taken given (record kept { lines = with_lines; equal = true; stored = stored }) full w.whole.structure w.whole.text (record { laid = tokens-laid taken given w; is_file = w.whole.is_file }) w.whole.statements_are refl (map instance_of stored) (lines-are stored);
+        instances_are = are-instances s limits taken given (record kept { lines = with_lines; equal = true; stored = stored }) full
+            w.whole.structure w.whole.text (record { laid = tokens-laid taken given w; is_file = w.whole.is_file }) w.whole.statements_are
+            refl (map instance_of stored) (lines-are stored);
       };
       instances_are = instances ∙ sym many ∙ sym (length-map stored instance_of);
       bytes_are = bytes ∙ sym size ∙ sym (ap length text);
     }
 
 -- what is kept of it
-pub end-whole : (s : Schema) (held : statements.Held) (kept whole : Kept) → EndsServed s held kept → whole ≡ kept → EndsWhole s held kept (Ok whole)
+pub end-whole : (s : Schema) (held : statements.Held) (kept whole : Kept) → EndsServed s held kept → whole ≡ kept
+    → EndsWhole s held kept (Ok whole)
 end-whole s held kept whole (ended, served) same limits taken given live =
     let reading : StatementHistory = record { taken = taken; seen = None; given = given } in
     let w = ended reading live.reads refl in
-    let within : AreStatementsWithin limits.record_source 0 w.laid.lexemes = subst (λ (most : ℕ). AreStatementsWithin most 0 w.laid.lexemes) (ap (λ p. p.0) live.limits_are) (statements-within held reading live.reads refl w) in
+    let within : AreStatementsWithin limits.record_source 0 w.laid.lexemes =
+    subst (λ (most : ℕ). AreStatementsWithin most 0 w.laid.lexemes) (ap (λ p. p.0) live.limits_are)
+    (statements-within held reading live.reads refl w) in
     let short = source-within held reading live.reads in
     let limit : (limits_of held).1 ≡ limits.file_source = ap (λ p. p.1) live.limits_are in
-    let (laid, all_within) = subst (λ (ts : List Token). (l : Laid taken ts) × AreStatementsWithin limits.record_source 0 l.lexemes) (sym w.whole.tokens_are) (w.laid, within) in
+    let (laid, all_within) = subst (λ (ts : List Token). (l : Laid taken ts) × AreStatementsWithin limits.record_source 0 l.lexemes)
+    (sym w.whole.tokens_are) (w.laid, within) in
     subst (IsKeptOfWhole s limits taken) (sym same) (record {
       given = given;
       keeps = live.keeps;
@@ -106,25 +125,33 @@ end-whole s held kept whole (ended, served) same limits taken given live =
 -- ---- by histories
 
 -- where no call was refused
-pub counts : (s : Schema) (limits : Limits) (held : statements.Held) (kept : Kept) (was : Option Refusal) → was ≡ None → (result : Result Counted Refusal) → CountsEnd s held kept result → CountGives (record { schema = s; limits = limits; statements = held; kept = kept; refused = was }) result
+pub counts : (s : Schema) (limits : Limits) (held : statements.Held) (kept : Kept) (was : Option Refusal) → was ≡ None
+    → (result : Result Counted Refusal) → CountsEnd s held kept result
+    → CountGives (record { schema = s; limits = limits; statements = held; kept = kept; refused = was }) result
 unfolding Stands
-counts s limits held kept was open_ (Ok counted) gives = λ history stands. let none = sym stands.0 ∙ open_ in let going = stands.1 none in (none, gives limits history.taken going.0 going.1)
+counts s limits held kept was open_ (Ok counted) gives = λ history stands. let none = sym stands.0
+    ∙ open_ in let going = stands.1 none in (none, gives limits history.taken going.0 going.1)
 counts s limits held kept was open_ (Err refusal) gives = ends s limits held kept was open_ (Err refusal) gives
 
-pub wholes : (s : Schema) (limits : Limits) (held : statements.Held) (kept : Kept) (was : Option Refusal) → was ≡ None → (result : Result Kept Refusal) → EndsWhole s held kept result → WholeGives (record { schema = s; limits = limits; statements = held; kept = kept; refused = was }) result
+pub wholes : (s : Schema) (limits : Limits) (held : statements.Held) (kept : Kept) (was : Option Refusal) → was ≡ None
+    → (result : Result Kept Refusal) → EndsWhole s held kept result
+    → WholeGives (record { schema = s; limits = limits; statements = held; kept = kept; refused = was }) result
 unfolding Stands
-wholes s limits held kept was open_ (Ok whole) gives = λ history stands. let none = sym stands.0 ∙ open_ in let going = stands.1 none in (none, gives limits history.taken going.0 going.1)
+wholes s limits held kept was open_ (Ok whole) gives = λ history stands. let none = sym stands.0
+    ∙ open_ in let going = stands.1 none in (none, gives limits history.taken going.0 going.1)
 wholes s limits held kept was open_ (Err refusal) gives = ends s limits held kept was open_ (Err refusal) gives
 
 -- of the bytes that a reader gave
-pub whole-counted : (old new : Option (List ℕ)) (session : SessionHeld) (counted : Counted) → IsFedWhole old new session → CountGives session (Ok counted) → IsCountedInput (schema_of session) (session_limits session) old new counted
+pub whole-counted : (old new : Option (List ℕ)) (session : SessionHeld) (counted : Counted) → IsFedWhole old new session
+    → CountGives session (Ok counted) → IsCountedInput (schema_of session) (session_limits session) old new counted
 whole-counted old new session counted whole gives = record {
   bytes = whole.bytes;
   read = whole.read;
   is_counted = (gives (taken_history whole.bytes) whole.stands).1;
 }
 
-pub whole-input : (old new : Option (List ℕ)) (session : SessionHeld) (kept : Kept) → IsFedWhole old new session → WholeGives session (Ok kept) → IsWholeInput (schema_of session) (session_limits session) old new kept
+pub whole-input : (old new : Option (List ℕ)) (session : SessionHeld) (kept : Kept) → IsFedWhole old new session
+    → WholeGives session (Ok kept) → IsWholeInput (schema_of session) (session_limits session) old new kept
 whole-input old new session kept whole gives = record {
   bytes = whole.bytes;
   read = whole.read;

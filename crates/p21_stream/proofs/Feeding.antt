@@ -23,13 +23,15 @@ use Rattle.p21_tokens.specs.Histories as tokens
 
 -- ---- within the limit of a file
 
-live-short : (held : statements.Held) (reading : statements.StatementHistory) → statements.IsLive held reading → length reading.taken ≤ (statements.limits_of held).1
+live-short : (held : statements.Held) (reading : statements.StatementHistory) → statements.IsLive held reading
+    → length reading.taken ≤ (statements.limits_of held).1
 live-short held reading live = short live.answered where
   short : (live.history ≡ empty) ⊎ tokens.Answers held.lexer live.history → length reading.taken ≤ (statements.limits_of held).1
   short (inl none) = let e : reading.taken ≡ [] = sym live.taken_are ∙ ap (λ h. h.taken) none in rw e (omega arith)
   short (inr answers) = subst (λ (l : List ℕ). length l ≤ (statements.limits_of held).1) live.taken_are answers.file_within
 
-pub taken-short : (held : SessionHeld) (history : SessionHistory) → Stands held history → history.refusal ≡ None → length history.taken ≤ (limits_of held).file_source
+pub taken-short : (held : SessionHeld) (history : SessionHistory) → Stands held history → history.refusal ≡ None
+    → length history.taken ≤ (limits_of held).file_source
 unfolding Stands
 taken-short held history stands open_ =
     let live = (stands.1 open_).1 in
@@ -37,7 +39,9 @@ taken-short held history stands open_ =
 
 -- ---- one more piece
 
-pub along-more : (start old new : Option (List ℕ)) (before after : SessionHeld) (piece : List ℕ) (size count : ℕ) → Consumes old new piece → length piece ≡ count → FeedGives before piece (Ok tt) after → IsFedFrom start old before size → IsFedFrom start new after (size + count)
+pub along-more : (start old new : Option (List ℕ)) (before after : SessionHeld) (piece : List ℕ) (size count : ℕ) → Consumes old new piece
+    → length piece ≡ count → FeedGives before piece (Ok tt) after → IsFedFrom start old before size
+    → IsFedFrom start new after (size + count)
 along-more start old new before after piece size count more count_is gives along = record {
   bytes = along.bytes ++ piece;
   consumed = Consumes-trans start old new along.bytes piece along.consumed more;
@@ -48,7 +52,8 @@ along-more start old new before after piece size count more count_is gives along
 -- ---- refusals
 
 -- a refusal that is no fault of a reader or a writer
-pub refused-by : (s : Schema) (limits : Limits) (start new : Option (List ℕ)) (fault : Fault) → IsOfBytes fault → (fault ≢ NoMemory → IsRefused s limits start new) → RefusesRead s limits start new fault
+pub refused-by : (s : Schema) (limits : Limits) (start new : Option (List ℕ)) (fault : Fault) → IsOfBytes fault
+    → (fault ≢ NoMemory → IsRefused s limits start new) → RefusesRead s limits start new fault
 refused-by s limits start new NoMemory of refused = tt
 refused-by s limits start new Read of refused = tt
 refused-by s limits start new Write of refused = of
@@ -69,18 +74,24 @@ pub each-byte : (buffer : List ℕ) → ((i : ℕ) → Fits w8 (slice_index_or b
 each-byte [] fits = tt
 each-byte (byte ∷ bytes) fits = ((let f = (fits 0).fits in omega arith), each-byte bytes (λ i. fits (suc i)))
 
-pub dead-piece : (s : Schema) (limits : Limits) (taken piece : List ℕ) (count : ℕ) → Each IsByte piece → IsDead s limits (taken ++ take count piece) → IsDead s limits (taken ++ piece)
+pub dead-piece : (s : Schema) (limits : Limits) (taken piece : List ℕ) (count : ℕ) → Each IsByte piece
+    → IsDead s limits (taken ++ take count piece) → IsDead s limits (taken ++ piece)
 dead-piece s limits taken piece count are dead =
     let whole = take-append-drop count piece in
-    let later : Each IsByte (drop count piece) = Each-back IsByte (take count piece) (drop count piece) (subst (Each IsByte) (sym whole) are) in
-    subst (IsDead s limits) (append_assoc taken (take count piece) (drop count piece) ∙ ap (λ (l : List ℕ). taken ++ l) whole) (dead_further s limits (taken ++ take count piece) (drop count piece) later dead)
+    let later : Each IsByte (drop count piece) = Each-back IsByte (take count piece) (drop count piece)
+    (subst (Each IsByte) (sym whole) are) in
+    subst (IsDead s limits) (append_assoc taken (take count piece) (drop count piece) ∙ ap (λ (l : List ℕ). taken ++ l) whole)
+    (dead_further s limits (taken ++ take count piece) (drop count piece) later dead)
 
 -- nor is a text accepted whose prefix is dead
-pub dead-text : (s : Schema) (limits : Limits) (text : List ℕ) (count : ℕ) → ((i : ℕ) → Fits w8 (slice_index_or text i 0)) → IsDead s limits ([] ++ take count text) → ¬ IsAccepted s limits text
-dead-text s limits text count fits dead accepted = dead-piece s limits [] text count (each-byte text fits) dead [] tt (subst (IsAccepted s limits) (sym (append-nil text)) accepted)
+pub dead-text : (s : Schema) (limits : Limits) (text : List ℕ) (count : ℕ) → ((i : ℕ) → Fits w8 (slice_index_or text i 0))
+    → IsDead s limits ([] ++ take count text) → ¬ IsAccepted s limits text
+dead-text s limits text count fits dead accepted =
+    dead-piece s limits [] text count (each-byte text fits) dead [] tt (subst (IsAccepted s limits) (sym (append-nil text)) accepted)
 
 -- a piece with which nothing that is accepted goes on
-pub piece-refused : (before after : SessionHeld) (piece : List ℕ) (refusal : Refusal) → ((i : ℕ) → Fits w8 (slice_index_or piece i 0)) → IsOfBytes refusal.fault → FeedGives before piece (Err refusal) after → RefusesPiece before piece refusal.fault
+pub piece-refused : (before after : SessionHeld) (piece : List ℕ) (refusal : Refusal) → ((i : ℕ) → Fits w8 (slice_index_or piece i 0))
+    → IsOfBytes refusal.fault → FeedGives before piece (Err refusal) after → RefusesPiece before piece refusal.fault
 piece-refused before after piece refusal fits of gives old new more start size along =
     let r = gives (taken_history along.bytes) along.stands refl in
     refused-by (schema_of before) (limits_of before) start new refusal.fault of (λ other. record {
@@ -91,7 +102,9 @@ piece-refused before after piece refusal fits of gives old new more start size a
 
 -- ---- the end
 
-pub whole-refused : (old new : Option (List ℕ)) (session : SessionHeld) (refusal : Refusal) → IsFedWhole old new session → IsOfBytes refusal.fault → FinishGives session (Err refusal) → RefusesRead (schema_of session) (limits_of session) old new refusal.fault
+pub whole-refused : (old new : Option (List ℕ)) (session : SessionHeld) (refusal : Refusal) → IsFedWhole old new session
+    → IsOfBytes refusal.fault → FinishGives session (Err refusal)
+    → RefusesRead (schema_of session) (limits_of session) old new refusal.fault
 whole-refused old new session refusal whole of gives =
     refused-by (schema_of session) (limits_of session) old new refusal.fault of (λ other. record {
       bytes = whole.bytes;
@@ -99,7 +112,8 @@ whole-refused old new session refusal whole of gives =
       refused = inr (whole.read.at_end, gives other (taken_history whole.bytes) whole.stands);
     })
 
-pub whole-accepted : (old new : Option (List ℕ)) (session : SessionHeld) (output : Output) → IsFedWhole old new session → FinishGives session (Ok output) → IsAcceptedInput (schema_of session) (limits_of session) old new output
+pub whole-accepted : (old new : Option (List ℕ)) (session : SessionHeld) (output : Output) → IsFedWhole old new session
+    → FinishGives session (Ok output) → IsAcceptedInput (schema_of session) (limits_of session) old new output
 whole-accepted old new session output whole gives = record {
   bytes = whole.bytes;
   read = whole.read;
@@ -115,7 +129,8 @@ pub record InLoop (start now : Option (List ℕ)) (first session : SessionHeld) 
   pub left_is : size + left ≡ most
   pub kept : KeepsSchema first session
 
-pub loop-starts : (now : Option (List ℕ)) (session : SessionHeld) (most : ℕ) → Stands session nothing_taken → InLoop now now session session most most
+pub loop-starts : (now : Option (List ℕ)) (session : SessionHeld) (most : ℕ) → Stands session nothing_taken
+    → InLoop now now session session most most
 loop-starts now session most stands = record {
   size = 0;
   along = record { bytes = []; consumed = Consumes-nil now; size_is = refl; stands = stands };
@@ -123,15 +138,21 @@ loop-starts now session most stands = record {
   kept = (refl, refl);
 }
 
-pub loop-short : (start old new : Option (List ℕ)) (first before after : SessionHeld) (most left count : ℕ) → most ≡ (limits_of first).file_source → InLoop start old first before most left → KeepsSchema before after → FeedsMore old new before after count → count ≤ left
+pub loop-short : (start old new : Option (List ℕ)) (first before after : SessionHeld) (most left count : ℕ)
+    → most ≡ (limits_of first).file_source → InLoop start old first before most left → KeepsSchema before after
+    → FeedsMore old new before after count → count ≤ left
 loop-short start old new first before after most left count is in_loop keeps feeds =
     let along = feeds.along start in_loop.size in_loop.along in
-    let short : length along.bytes ≤ most = subst (λ (n : ℕ). length along.bytes ≤ n) (ap (λ (l : Limits). l.file_source) (keeps.1 ∙ in_loop.kept.1) ∙ sym is) (taken-short after (taken_history along.bytes) along.stands refl) in
+    let short : length along.bytes ≤ most = subst (λ (n : ℕ). length along.bytes ≤ n)
+    (ap (λ (l : Limits). l.file_source) (keeps.1 ∙ in_loop.kept.1) ∙ sym is)
+    (taken-short after (taken_history along.bytes) along.stands refl) in
     let size = along.size_is in
     let left_is = in_loop.left_is in
     omega arith
 
-pub loop-goes_on : (start old new : Option (List ℕ)) (first before after : SessionHeld) (most left count : ℕ) → count ≤ left → InLoop start old first before most left → KeepsSchema before after → FeedsMore old new before after count → InLoop start new first after most (left - count)
+pub loop-goes_on : (start old new : Option (List ℕ)) (first before after : SessionHeld) (most left count : ℕ) → count ≤ left
+    → InLoop start old first before most left → KeepsSchema before after → FeedsMore old new before after count
+    → InLoop start new first after most (left - count)
 loop-goes_on start old new first before after most left count short in_loop keeps feeds = record {
   size = in_loop.size + count;
   along = feeds.along start in_loop.size in_loop.along;
@@ -139,23 +160,31 @@ loop-goes_on start old new first before after most left count short in_loop keep
   kept = (keeps.0 ∙ in_loop.kept.0, keeps.1 ∙ in_loop.kept.1);
 }
 
-pub loop-whole : (start old new : Option (List ℕ)) (first before after : SessionHeld) (most left count : ℕ) → InLoop start old first before most left → FeedsMore old new before after count → count ≡ 0 → IsFedWhole start new after
+pub loop-whole : (start old new : Option (List ℕ)) (first before after : SessionHeld) (most left count : ℕ)
+    → InLoop start old first before most left → FeedsMore old new before after count → count ≡ 0 → IsFedWhole start new after
 loop-whole start old new first before after most left count in_loop feeds none =
     let along = feeds.along start in_loop.size in_loop.along in
     record { bytes = along.bytes; read = record { consumed = along.consumed; at_end = feeds.ended none }; stands = along.stands }
 
-pub loop-refused : (start old new : Option (List ℕ)) (first before : SessionHeld) (most left : ℕ) (fault : Fault) → InLoop start old first before most left → RefusesFedBytes old new before fault → RefusesRead (schema_of first) (limits_of first) start new fault
+pub loop-refused : (start old new : Option (List ℕ)) (first before : SessionHeld) (most left : ℕ) (fault : Fault)
+    → InLoop start old first before most left → RefusesFedBytes old new before fault
+    → RefusesRead (schema_of first) (limits_of first) start new fault
 loop-refused start old new first before most left fault in_loop refuses =
-    subst (λ (l : Limits). RefusesRead (schema_of first) l start new fault) in_loop.kept.1 (subst (λ (s : Schema). RefusesRead s (limits_of before) start new fault) in_loop.kept.0 (refuses start in_loop.size in_loop.along))
+    subst (λ (l : Limits). RefusesRead (schema_of first) l start new fault) in_loop.kept.1
+    (subst (λ (s : Schema). RefusesRead s (limits_of before) start new fault) in_loop.kept.0 (refuses start in_loop.size in_loop.along))
 
-pub loop-consumed : (start old new : Option (List ℕ)) (first before : SessionHeld) (most left : ℕ) → most ≡ (limits_of first).file_source → InLoop start old first before most left → TakesAtMost (left + 1) old new → ConsumesAtMost (limits_of first) start new
+pub loop-consumed : (start old new : Option (List ℕ)) (first before : SessionHeld) (most left : ℕ) → most ≡ (limits_of first).file_source
+    → InLoop start old first before most left → TakesAtMost (left + 1) old new → ConsumesAtMost (limits_of first) start new
 loop-consumed start old new first before most left is in_loop takes = (
   in_loop.along.bytes ++ takes.0,
   Consumes-trans start old new in_loop.along.bytes takes.0 in_loop.along.consumed takes.1,
-  (let size = in_loop.along.size_is in let left_is = in_loop.left_is in let some = takes.2 in omega (arith, length-append in_loop.along.bytes takes.0)),
+  (let size = in_loop.along.size_is in let left_is = in_loop.left_is in let some = takes.2 in
+      omega (arith, length-append in_loop.along.bytes takes.0)),
 )
 
 -- ---- what a session stands for, under its schema and its limits
 
-pub under : (P : Schema → Limits → Type 0) (s : Schema) (limits : Limits) (first session : SessionHeld) → schema_of first ≡ s → limits_of first ≡ limits → KeepsSchema first session → P (schema_of session) (limits_of session) → P s limits
-under P s limits first session is_schema are_limits keeps holds = subst (λ (l : Limits). P s l) (keeps.1 ∙ are_limits) (subst (λ (t : Schema). P t (limits_of session)) (keeps.0 ∙ is_schema) holds)
+pub under : (P : Schema → Limits → Type 0) (s : Schema) (limits : Limits) (first session : SessionHeld) → schema_of first ≡ s
+    → limits_of first ≡ limits → KeepsSchema first session → P (schema_of session) (limits_of session) → P s limits
+under P s limits first session is_schema are_limits keeps holds =
+    subst (λ (l : Limits). P s l) (keeps.1 ∙ are_limits) (subst (λ (t : Schema). P t (limits_of session)) (keeps.0 ∙ is_schema) holds)

@@ -6,12 +6,12 @@ pub mod Ending
 pub mod Checking
 pub mod Instances
 pub mod Counts
-pub mod Passed
-pub mod PassedInstances
+pub mod Taken
+pub mod TakenInstances
 pub mod Canonicals
 pub mod Claiming
 pub mod Feeding
 pub mod Texts
-pub mod Keepers
 pub mod SurveyFeeding
-pub mod SurveyEnding
+pub mod SurveyLists
+pub mod SurveyInput

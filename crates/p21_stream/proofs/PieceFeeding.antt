@@ -16,12 +16,11 @@ use Rattle.p21_stream_kept.specs.Steps.{StepKeepsBound}
 use Rattle.p21_stream.proofs.Checking.{checks-statements}
 use Rattle.p21_stream.proofs.Going.{held-while_live}
 use Rattle.p21_stream.proofs.Within.{references-within}
-use Rattle.p21_stream.specs.Bounds.{IsBounded, IsNothing, IsNothingLeft}
+use Rattle.p21_stream.specs.Bounds.{IsBounded, IsNothing}
 use Rattle.p21_stream.specs.Held.{SessionHeld}
 use Rattle.p21_stream.specs.Histories.{FeedChecks, FeedGives, FeedNeedsNoMemory, FeedPlaces, HoldsFor, Stands, nothing_taken}
 use Rattle.p21_stream.specs.Session.{IsLive}
-use Rattle.p21_stream.specs.Walk.{IsUnderWay, NeedsNoMemory, ReadGives, ReadPlaces}
-use Rattle.p21_stream.specs.declared.keeper.Stop.TheVariants.{Refused}
+use Rattle.p21_stream.specs.Walk.{EndsBy, IsUnderWay, NeedsNoMemory, PlacesByte, ReadsWhole}
 
 -- a fault is want of memory, or it is another one
 memory-or_other : (fault : Fault) → (fault ≡ NoMemory) ⊎ (fault ≢ NoMemory)
@@ -46,9 +45,16 @@ none-some refusal o none some = let clash : None ≡ Some refusal = none ∙ som
 pub nothing-is : (kept new : Kept) → new ≡ kept → IsNothing kept → IsNothing new
 nothing-is kept new same nothing = subst IsNothing (sym same) nothing
 
-module _ (s : Schema) (limits : Limits) (held : statements.Held) (kept : Kept) (refused : Option Refusal) (live : statements.IsLive held nothing_read) (counted : limits.file_source < 2 ^ 64) (are : statements.limits_of held ≡ (limits.record_source, limits.file_source)) (nothing : IsNothing kept) (none : refused ≡ None) where
+module _ (s : Schema) (limits : Limits) (held : statements.Held) (kept : Kept) (refused : Option Refusal)
+    (live : statements.IsLive held nothing_read) (counted : limits.file_source < 2 ^ 64)
+    (are : statements.limits_of held ≡ (limits.record_source, limits.file_source)) (nothing : IsNothing kept) (none : refused ≡ None) where
   live-new : IsLive s limits held kept nothing_read
-  live-new = record { reads = live; limits_are = are; keeps = subst (λ (k : Kept). Keeps s limits [] k) (sym nothing.1) (keeps-at_start s limits nothing.0) }
+  live-new = record {
+    reads = live;
+    limits_are = are;
+    keeps =
+        subst (λ (k : Kept). Keeps s limits [] k) (sym nothing.1) (keeps-at_start s limits nothing.0);
+  }
 
   pub stands-new : Stands (record { schema = s; limits = limits; statements = held; kept = kept; refused = refused }) nothing_taken
   unfolding Stands
@@ -58,23 +64,48 @@ module _ (s : Schema) (limits : Limits) (held : statements.Held) (kept : Kept) (
   bounded-new =
       let bytes : kept.bytes ≡ 0 = ap (λ (k : Kept). k.bytes) nothing.1 in
       let references : kept.references ≡ 0 = ap (λ (k : Kept). k.references) nothing.1 in
-      record { counted = counted; limits_are = are; kept_within = omega (arith, bytes); needs_within = omega (arith, references); reads = λ same. (nothing_read, refl, live-new); of_bytes = λ r is. absurd (none-some r refused (sym none) is) }
+      record {
+        counted = counted;
+        limits_are = are;
+        kept_within = omega (arith, bytes);
+        needs_within = omega (arith, references);
+        reads =
+            λ same. (nothing_read, refl, live-new);
+        of_bytes = λ r is. absurd (none-some r refused (sym none) is);
+      }
 
 -- ---- a piece that is read
 
 -- no byte was seen, so any may come first
-pub under-way : (s : Schema) (limits : Limits) (held : statements.Held) (kept : Kept) (was : Option Refusal) (piece : List ℕ) → IsBounded (record { schema = s; limits = limits; statements = held; kept = kept; refused = was }) → was ≡ None → IsUnderWay (Keeps s limits) limits held kept piece
+pub under-way : (s : Schema) (limits : Limits) (held : statements.Held) (kept : Kept) (was : Option Refusal) (piece : List ℕ)
+    → IsBounded (record { schema = s; limits = limits; statements = held; kept = kept; refused = was }) → was ≡ None
+    → IsUnderWay s limits held kept piece
 under-way s limits held kept was piece bounded open_ =
     let (reading, none, live) = bounded.reads open_ in
-    record { reading = reading; live = live; seen_at = subst (λ (o : Option ℕ). statements.IsSeenAt o piece 0) (sym none) tt; counted = bounded.counted }
+    record {
+      reading = reading;
+      live = live;
+      seen_at = subst (λ (o : Option ℕ). statements.IsSeenAt o piece 0) (sym none) tt;
+      counted =
+          bounded.counted;
+    }
 
-module _ (s : Schema) (limits : Limits) (held next : statements.Held) (kept after : Kept) (piece : List ℕ) (was : Option Refusal) (open_ : was ≡ None) (gives : ReadGives s limits (Keeps s limits) (IsNothingLeft s limits) held kept piece (Ok tt) next after) where
-  pub fed-whole : FeedGives (record { schema = s; limits = limits; statements = held; kept = kept; refused = was }) piece (Ok tt) (record { schema = s; limits = limits; statements = next; kept = after; refused = was })
+module _ (s : Schema) (limits : Limits) (held next : statements.Held) (kept after : Kept) (piece : List ℕ) (was : Option Refusal)
+    (open_ : was ≡ None) (gives : ReadsWhole s limits held kept piece next after) where
+  pub fed-whole : FeedGives (record { schema = s; limits = limits; statements = held; kept = kept; refused = was }) piece (Ok tt)
+      (record { schema = s; limits = limits; statements = next; kept = after; refused = was })
   unfolding Stands
   fed-whole history stands =
       let none : history.refusal ≡ None = sym stands.0 ∙ open_ in
-      let going = stands.1 none in
-      (none, (stands.0, (λ _. gives (record { taken = history.taken; seen = None; given = going.0 }) going.1 tt), λ refusal is. absurd (none-some refusal history.refusal (sym none) is)))
+      let going = stands.1 none in (
+        none,
+        (
+          stands.0,
+          (λ _. gives (record { taken = history.taken; seen = None; given = going.0 }) going.1 tt),
+          λ refusal is. absurd
+              (none-some refusal history.refusal (sym none) is),
+        ),
+      )
 
   pub fed-checks : FeedChecks (record { schema = s; limits = limits; statements = held; kept = kept; refused = was }) piece (Ok tt)
   unfolding Stands
@@ -83,7 +114,9 @@ module _ (s : Schema) (limits : Limits) (held next : statements.Held) (kept afte
       let whole = gives (record { taken = history.taken; seen = None; given = going.0 }) going.1 tt in
       checks-statements s limits next after (record { taken = history.taken ++ piece; seen = None; given = whole.0 }) whole.1
 
-  pub bounded-whole : StepKeepsBound limits kept after → statements.limits_of next ≡ statements.limits_of held → IsBounded (record { schema = s; limits = limits; statements = held; kept = kept; refused = was }) → IsBounded (record { schema = s; limits = limits; statements = next; kept = after; refused = was })
+  pub bounded-whole : StepKeepsBound limits kept after → statements.limits_of next ≡ statements.limits_of held
+      → IsBounded (record { schema = s; limits = limits; statements = held; kept = kept; refused = was })
+      → IsBounded (record { schema = s; limits = limits; statements = next; kept = after; refused = was })
   bounded-whole bound limits_same bounded =
       let way = under-way s limits held kept was piece bounded open_ in
       let whole = gives way.reading way.live way.seen_at in
@@ -100,23 +133,31 @@ module _ (s : Schema) (limits : Limits) (held next : statements.Held) (kept afte
 -- ---- a piece that is refused
 
 -- a refusal that was answered before is answered again
-pub fed-again : (held : SessionHeld) (piece : List ℕ) (refusal : Refusal) → held.refused ≡ Some refusal → FeedGives held piece (Err refusal) held
+pub fed-again : (held : SessionHeld) (piece : List ℕ) (refusal : Refusal) → held.refused ≡ Some refusal
+    → FeedGives held piece (Err refusal) held
 unfolding Stands
 fed-again held piece refusal was history stands none = absurd (none-some refusal held.refused (sym (stands.0 ∙ none)) was)
 
-pub fed-refused : (s : Schema) (limits : Limits) (held next : statements.Held) (kept after end : Kept) (piece : List ℕ) (was : Option Refusal) (refusal : Refusal) → ReadGives s limits (Keeps s limits) (IsNothingLeft s limits) held kept piece (Err (Refused refusal)) next after
-    → FeedGives (record { schema = s; limits = limits; statements = held; kept = kept; refused = was }) piece (Err refusal) (record { schema = s; limits = limits; statements = next; kept = end; refused = Some refusal })
+pub fed-refused : (s : Schema) (limits : Limits) (held next : statements.Held) (kept end : Kept) (piece : List ℕ) (was : Option Refusal)
+    (refusal : Refusal) → EndsBy s limits held kept piece refusal
+    → FeedGives (record { schema = s; limits = limits; statements = held; kept = kept; refused = was }) piece (Err refusal)
+    (record { schema = s; limits = limits; statements = next; kept = end; refused = Some refusal })
 unfolding Stands
-fed-refused s limits held next kept after end piece was refusal gives history stands none =
+fed-refused s limits held next kept end piece was refusal ends history stands none =
     let going = stands.1 none in
     elim (memory-or_other refusal.fault) [
       | inl memory ↦ record {
         count = 0;
         within = omega arith;
         dead = λ other. absurd (other memory);
-        stands = (refl, (λ clash. absurd (none-some refusal None refl (sym clash))), λ r is other. absurd (other (ap (λ (o : Option Refusal). elim o [ None ↦ NoMemory | Some x ↦ x.fault ]) (sym is) ∙ memory)));
+        stands = (
+          refl,
+          (λ clash. absurd (none-some refusal None refl (sym clash))),
+          λ r is other. absurd
+              (other (ap (λ (o : Option Refusal). elim o [ None ↦ NoMemory | Some x ↦ x.fault ]) (sym is) ∙ memory)),
+        );
       }
-      | inr other ↦ (let d = (gives other (record { taken = history.taken; seen = None; given = going.0 }) going.1 tt).0 in record {
+      | inr other ↦ (let d = ends other (record { taken = history.taken; seen = None; given = going.0 }) going.1 tt in record {
         count = d.upto;
         within = d.within;
         dead = λ _. d.dead;
@@ -125,19 +166,25 @@ fed-refused s limits held next kept after end piece was refusal gives history st
     ]
 
 -- a byte that the walk refuses the session refuses
-pub fed-places : (s : Schema) (limits : Limits) (held next : statements.Held) (kept end : Kept) (piece : List ℕ) (was : Option Refusal) (refusal : Refusal) → ReadPlaces (Keeps s limits) limits held kept piece (Err (Refused refusal)) next
-    → FeedPlaces (record { schema = s; limits = limits; statements = held; kept = kept; refused = was }) piece (Err refusal) (record { schema = s; limits = limits; statements = next; kept = end; refused = Some refusal })
+pub fed-places : (s : Schema) (limits : Limits) (held next : statements.Held) (kept end : Kept) (piece : List ℕ) (was : Option Refusal)
+    (refusal : Refusal) → PlacesByte s limits held kept piece next refusal
+    → FeedPlaces (record { schema = s; limits = limits; statements = held; kept = kept; refused = was }) piece (Err refusal)
+    (record { schema = s; limits = limits; statements = next; kept = end; refused = Some refusal })
 unfolding Stands
 fed-places s limits held next kept end piece was refusal has history stands none =
     let going = stands.1 none in
-    subst (λ (l : ℕ × ℕ). HasPlace l history.taken piece refusal.fault (place_behind next)) going.1.limits_are (has (record { taken = history.taken; seen = None; given = going.0 }) going.1 tt)
+    subst (λ (l : ℕ × ℕ). HasPlace l history.taken piece refusal.fault (place_behind next)) going.1.limits_are
+    (has (record { taken = history.taken; seen = None; given = going.0 }) going.1 tt)
 
-pub again-places : (held : SessionHeld) (piece : List ℕ) (refusal : Refusal) → held.refused ≡ Some refusal → FeedPlaces held piece (Err refusal) held
+pub again-places : (held : SessionHeld) (piece : List ℕ) (refusal : Refusal) → held.refused ≡ Some refusal
+    → FeedPlaces held piece (Err refusal) held
 unfolding Stands
 again-places held piece refusal was history stands none = absurd (none-some refusal held.refused (sym (stands.0 ∙ none)) was)
 
-pub bounded-refused : (s : Schema) (limits : Limits) (held next : statements.Held) (kept end : Kept) (was : Option Refusal) (refusal : Refusal) → end ≡ nothing_kept → statements.limits_of next ≡ statements.limits_of held → IsOfBytes refusal.fault
-    → IsBounded (record { schema = s; limits = limits; statements = held; kept = kept; refused = was }) → IsBounded (record { schema = s; limits = limits; statements = next; kept = end; refused = Some refusal })
+pub bounded-refused : (s : Schema) (limits : Limits) (held next : statements.Held) (kept end : Kept) (was : Option Refusal)
+    (refusal : Refusal) → end ≡ nothing_kept → statements.limits_of next ≡ statements.limits_of held → IsOfBytes refusal.fault
+    → IsBounded (record { schema = s; limits = limits; statements = held; kept = kept; refused = was })
+    → IsBounded (record { schema = s; limits = limits; statements = next; kept = end; refused = Some refusal })
 bounded-refused s limits held next kept end was refusal nothing same of bounded =
     let bytes : end.bytes ≡ 0 = ap (λ (k : Kept). k.bytes) nothing in
     let references : end.references ≡ 0 = ap (λ (k : Kept). k.references) nothing in
@@ -152,23 +199,32 @@ bounded-refused s limits held next kept end was refusal nothing same of bounded 
 
 -- ---- separators
 
-pub fed-quiet : (s : Schema) (limits : Limits) (held : statements.Held) (kept : Kept) (piece : List ℕ) (was : Option Refusal) (refusal : Refusal) → NeedsNoMemory {Answer = Unit {0}} (Keeps s limits) limits held kept piece (Err refusal)
+pub fed-quiet : (s : Schema) (limits : Limits) (held : statements.Held) (kept : Kept) (piece : List ℕ) (was : Option Refusal)
+    (refusal : Refusal) → NeedsNoMemory s limits held kept piece refusal
     → FeedNeedsNoMemory (record { schema = s; limits = limits; statements = held; kept = kept; refused = was }) piece (Err refusal)
 unfolding Stands
-fed-quiet s limits held kept piece was refusal needs history stands none pending are = let going = stands.1 none in needs (record { taken = history.taken; seen = None; given = going.0 }) going.1 tt pending are
+fed-quiet s limits held kept piece was refusal needs history stands none pending are = let going = stands.1 none in
+    needs (record { taken = history.taken; seen = None; given = going.0 }) going.1 tt pending are
 
-pub again-quiet : (held : SessionHeld) (piece : List ℕ) (refusal : Refusal) → held.refused ≡ Some refusal → FeedNeedsNoMemory held piece (Err refusal)
+pub again-quiet : (held : SessionHeld) (piece : List ℕ) (refusal : Refusal) → held.refused ≡ Some refusal
+    → FeedNeedsNoMemory held piece (Err refusal)
 unfolding Stands
 again-quiet held piece refusal was history stands none pending are = absurd (none-some refusal held.refused (sym (stands.0 ∙ none)) was)
 
 -- ---- what is held
 
-pub holds : (held : SessionHeld) (pending depth kept needs : ℕ) → ((reading : statements.StatementHistory) → statements.IsLive held.statements reading → statements.HasOpenStatement reading pending depth) → kept ≡ held.kept.bytes → needs ≡ held.kept.references
+pub holds : (held : SessionHeld) (pending depth kept needs : ℕ)
+    → ((reading : statements.StatementHistory) → statements.IsLive held.statements reading
+    → statements.HasOpenStatement reading pending depth) → kept ≡ held.kept.bytes → needs ≡ held.kept.references
     → HoldsFor held (record { pending = pending; depth = depth; kept = kept; needs = needs })
 unfolding Stands
 holds held pending depth kept needs opens kept_is needs_are history stands none =
     let going = stands.1 none in
     let reading : statements.StatementHistory = record { taken = history.taken; seen = None; given = going.0 } in
-    let own : IsHeld held.schema history.taken (record { pending = pending; depth = depth; kept = held.kept.bytes; needs = held.kept.references }) = held-while_live held.schema held.limits held.statements held.kept reading going.1 pending depth (opens reading going.1.reads) in
-    subst (λ (n : ℕ). IsHeld held.schema history.taken (record { pending = pending; depth = depth; kept = kept; needs = n })) (sym needs_are)
-    (subst (λ (n : ℕ). IsHeld held.schema history.taken (record { pending = pending; depth = depth; kept = n; needs = held.kept.references })) (sym kept_is) own)
+    let own : IsHeld held.schema history.taken (record
+    { pending = pending; depth = depth; kept = held.kept.bytes; needs = held.kept.references }) =
+    held-while_live held.schema held.limits held.statements held.kept reading going.1 pending depth (opens reading going.1.reads) in
+    subst (λ (n : ℕ). IsHeld held.schema history.taken (record { pending = pending; depth = depth; kept = kept; needs = n }))
+    (sym needs_are)
+    (subst (λ (n : ℕ). IsHeld held.schema history.taken
+    (record { pending = pending; depth = depth; kept = n; needs = held.kept.references })) (sym kept_is) own)

@@ -1,9 +1,7 @@
 -- What each session keeps to, whatever it was fed.
-use Rattle.std.specs.Prelude.{◌≡◌, ◌≤◌, ◌<◌, ◌^◌, List, Option, None, Some}
+use Rattle.std.specs.Prelude.{◌≡◌, ◌≤◌, ◌<◌, ◌^◌, Option, None, Some}
 use Rattle.p21_spec_laws.specs.Keeping.{Kept, nothing_with}
 use Rattle.p21_spec_laws.specs.Stored.{KeptLines}
-use Rattle.p21_spec_exchange.specs.Statement.{Statement}
-use Rattle.p21_spec_schema.specs.Schema.{Schema}
 use Rattle.p21_stream_statements.specs.Source.{IsOfBytes}
 use Rattle.p21_stream_statements.specs.declared.refusal.Refusal.{Refusal}
 use Rattle.p21_stream_statements.specs.StatementReader as statements
@@ -13,23 +11,20 @@ use Rattle.p21_stream_kept.specs.Steps.{StepKeepsBound}
 use Rattle.p21_stream.specs.Held.{SessionHeld}
 use Rattle.p21_stream.specs.Session.{IsLive}
 
--- The limits of the reader are those of the session, and 64 bits count the bytes of a file; the canonical lines and the references that are kept are within
--- them; where no byte was refused, the session stands for some bytes; and a refusal is none of a reader or a writer
+-- The limits of the reader are those of the session, and 64 bits count the bytes of a file; the canonical lines and the references that are
+-- kept are within them; where no byte was refused, the session stands for some bytes; and a refusal is none of a reader or a writer
 pub record IsBounded (held : SessionHeld) : Type 0 where
   pub counted : held.limits.file_source < 2 ^ 64
   pub limits_are : statements.limits_of held.statements ≡ (held.limits.record_source, held.limits.file_source)
   pub kept_within : held.kept.bytes ≤ held.limits.file_canonical
   pub needs_within : held.kept.references ≤ held.limits.file_source
-  pub reads : held.refused ≡ None → (reading : StatementHistory) × (reading.seen ≡ None) × IsLive held.schema held.limits held.statements held.kept reading
+  pub reads : held.refused ≡ None → (reading : StatementHistory) × (reading.seen ≡ None)
+      × IsLive held.schema held.limits held.statements held.kept reading
   pub of_bytes : (refusal : Refusal) → held.refused ≡ Some refusal → IsOfBytes refusal.fault
 
 -- the bytes that are kept stay within the limit of a file, and what is kept of lines stays so
 abbrev pub StaysWithin : Limits → Kept → Kept → Type 0
 StaysWithin limits old new = StepKeepsBound limits old new × (new.lines ≡ old.lines)
-
--- of a file that is refused nothing is left
-abbrev pub IsNothingLeft : Schema → Limits → List Statement → Kept → Type 0
-IsNothingLeft s limits given kept = Unit {0}
 
 -- nothing is taken, whatever will be kept of lines
 abbrev pub IsNothing : Kept → Type 0

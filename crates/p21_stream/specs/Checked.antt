@@ -30,4 +30,5 @@ pub record AreChecked (s : Schema) (tokens : List Token) : Type 0 where
 
 -- where a prefix of the bytes is laid and its last token is a `;`, its statements are checked
 abbrev pub ChecksStatements : Schema → List ℕ → Type 0
-ChecksStatements s taken = (front rest : List ℕ) (tokens : List Token) → taken ≡ front ++ rest → Laid front (tokens ++ semicolon ∷ []) → AreChecked s (tokens ++ semicolon ∷ [])
+ChecksStatements s taken = (front rest : List ℕ) (tokens : List Token) → taken ≡ front ++ rest → Laid front (tokens ++ semicolon ∷ [])
+    → AreChecked s (tokens ++ semicolon ∷ [])

@@ -31,9 +31,12 @@ pub record IsOpen (s : Schema) (limits : Limits) (held : SessionHeld) (history :
 
 pub record Claim (s : Schema) (limits : Limits) : Type 0 where
   -- two files mean the same exactly if their canonical files are equal byte for byte
-  pub same_exactly_if_equal : (bytes others a b : List ℕ) → IsOnlyCanonicalFile s limits bytes a → IsOnlyCanonicalFile s limits others b → MeanTheSame s limits bytes others ↔ (a ≡ b)
+  pub same_exactly_if_equal : (bytes others a b : List ℕ) → IsOnlyCanonicalFile s limits bytes a → IsOnlyCanonicalFile s limits others b
+      → MeanTheSame s limits bytes others ↔ (a ≡ b)
   -- and that is what a comparison answers
-  pub compared : (first_old first_new second_old second_new : Option (List ℕ)) (same : Bool) (c : Compares s limits first_old first_new second_old second_new same) → IsTrue same ↔ MeanTheSame s limits c.first.bytes c.second.bytes
+  pub compared : (first_old first_new second_old second_new : Option (List ℕ)) (same : Bool)
+      (c : Compares s limits first_old first_new second_old second_new same)
+      → IsTrue same ↔ MeanTheSame s limits c.first.bytes c.second.bytes
   -- however it was cut, a file has one canonical file, and is read in one way
   pub one_answer : (bytes a b : List ℕ) → IsOnlyCanonicalFile s limits bytes a → IsOnlyCanonicalFile s limits bytes b → a ≡ b
   pub in_one_way : (bytes : List ℕ) → AreReadInOneWay s bytes
@@ -43,11 +46,15 @@ pub record Claim (s : Schema) (limits : Limits) : Type 0 where
   -- and is its own: read again, it gives itself
   pub is_its_own : (bytes a b : List ℕ) → IsOnlyCanonicalFile s limits bytes a → IsOnlyCanonicalFile s limits a b → b ≡ a
   -- what a session answers at the end is the canonical file of the bytes that it was fed
-  pub of_session : (bytes : List ℕ) (output : Output) → IsCanonicalOutput s limits bytes output → IsOnlyCanonicalFile s limits bytes (output_text output)
+  pub of_session : (bytes : List ℕ) (output : Output) → IsCanonicalOutput s limits bytes output
+      → IsOnlyCanonicalFile s limits bytes (output_text output)
   -- a file is refused only where it means nothing, or memory, reader or writer failed: by a call that reads it
-  pub refused_read : (bytes : List ℕ) (rest : Option (List ℕ)) (fault : Fault) → Each IsByte bytes → RefusesRead s limits (Some bytes) rest fault → IsFailure fault ⊎ ¬ IsAccepted s limits bytes
+  pub refused_read : (bytes : List ℕ) (rest : Option (List ℕ)) (fault : Fault) → Each IsByte bytes
+      → RefusesRead s limits (Some bytes) rest fault → IsFailure fault ⊎ ¬ IsAccepted s limits bytes
   -- by a session at a piece, whatever bytes would have come behind it
-  pub refused_piece : (held new : SessionHeld) (history : SessionHistory) (piece more : List ℕ) (refusal : Refusal) → IsOpen s limits held history → FeedGives held piece (Err refusal) new → Each IsByte piece → Each IsByte more
+  pub refused_piece : (held new : SessionHeld) (history : SessionHistory) (piece more : List ℕ) (refusal : Refusal)
+      → IsOpen s limits held history → FeedGives held piece (Err refusal) new → Each IsByte piece → Each IsByte more
       → IsFailure refusal.fault ⊎ ¬ IsAccepted s limits (history.taken ++ (piece ++ more))
   -- and by a session at the end
-  pub refused_end : (held : SessionHeld) (history : SessionHistory) (refusal : Refusal) → IsOpen s limits held history → FinishGives held (Err refusal) → IsFailure refusal.fault ⊎ ¬ IsAccepted s limits history.taken
+  pub refused_end : (held : SessionHeld) (history : SessionHistory) (refusal : Refusal) → IsOpen s limits held history
+      → FinishGives held (Err refusal) → IsFailure refusal.fault ⊎ ¬ IsAccepted s limits history.taken

@@ -26,8 +26,10 @@ pub record IsBetweenPieces (s : Schema) (held : statements.Held) (kept : Kept) :
 
 -- what the end of the bytes gives, whatever the canonical limits
 abbrev pub EndGives : Schema → statements.Held → Kept → Result Output Refusal → Type 0
-EndGives s held kept (Ok accepted) = (limits : Limits) (taken : List ℕ) (given : List Statement) → IsLive s limits held kept (record { taken = taken; seen = None; given = given }) → IsCanonicalOutput s limits taken accepted
-EndGives s held kept (Err refusal) = refusal.fault ≢ NoMemory → (limits : Limits) (taken : List ℕ) (given : List Statement) → IsLive s limits held kept (record { taken = taken; seen = None; given = given }) → ¬ IsAccepted s limits taken
+EndGives s held kept (Ok accepted) = (limits : Limits) (taken : List ℕ) (given : List Statement)
+    → IsLive s limits held kept (record { taken = taken; seen = None; given = given }) → IsCanonicalOutput s limits taken accepted
+EndGives s held kept (Err refusal) = refusal.fault ≢ NoMemory → (limits : Limits) (taken : List ℕ) (given : List Statement)
+    → IsLive s limits held kept (record { taken = taken; seen = None; given = given }) → ¬ IsAccepted s limits taken
 
 -- the bytes end with a whole file, and each reference that waits is served
 abbrev pub EndsServed : Schema → statements.Held → Kept → Type 0
@@ -35,10 +37,12 @@ EndsServed s held kept = statements.FinishGives held (Ok tt) × Each (λ (r : Re
 
 -- what is kept at the end of the bytes, whatever the canonical limits
 abbrev pub EndsWhole : Schema → statements.Held → Kept → Result Kept Refusal → Type 0
-EndsWhole s held kept (Ok whole) = (limits : Limits) (taken : List ℕ) (given : List Statement) → IsLive s limits held kept (record { taken = taken; seen = None; given = given }) → IsKeptOfWhole s limits taken whole
+EndsWhole s held kept (Ok whole) = (limits : Limits) (taken : List ℕ) (given : List Statement)
+    → IsLive s limits held kept (record { taken = taken; seen = None; given = given }) → IsKeptOfWhole s limits taken whole
 EndsWhole s held kept (Err refusal) = EndGives s held kept (Err refusal)
 
 -- what is counted at the end of the bytes, whatever the canonical limits
 abbrev pub CountsEnd : Schema → statements.Held → Kept → Result Counted Refusal → Type 0
-CountsEnd s held kept (Ok counted) = (limits : Limits) (taken : List ℕ) (given : List Statement) → IsLive s limits held kept (record { taken = taken; seen = None; given = given }) → IsCounted s limits taken counted
+CountsEnd s held kept (Ok counted) = (limits : Limits) (taken : List ℕ) (given : List Statement)
+    → IsLive s limits held kept (record { taken = taken; seen = None; given = given }) → IsCounted s limits taken counted
 CountsEnd s held kept (Err refusal) = EndGives s held kept (Err refusal)

@@ -30,7 +30,8 @@ pub record FeedsMore (old new : Option (List ℕ)) (before after : SessionHeld) 
 
 -- what a fault says of the bytes that the session stood for and the piece
 abbrev pub RefusesFedBytes : Option (List ℕ) → Option (List ℕ) → SessionHeld → Fault → Type 0
-RefusesFedBytes old new before fault = (start : Option (List ℕ)) (size : ℕ) → IsFedFrom start old before size → RefusesRead (schema_of before) (limits_of before) start new fault
+RefusesFedBytes old new before fault = (start : Option (List ℕ)) (size : ℕ) → IsFedFrom start old before size
+    → RefusesRead (schema_of before) (limits_of before) start new fault
 
 -- the same of the bytes of a piece, whichever reader gave them
 abbrev pub RefusesPiece : SessionHeld → List ℕ → Fault → Type 0

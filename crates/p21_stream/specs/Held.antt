@@ -33,5 +33,7 @@ refusal_of held = held.refused
 -- what is held stored as numbers and lists, so that two can be told apart; nothing that is claimed rests on it
 abbrev pub held_code : Coded SessionHeld
 held_code = code_by (((Schema × Limits) × (statements.Held × Kept)) × Option Refusal)
-    (coded× (coded× (coded× schema_code limits_row.the_row.coded) (coded× statements_row.the_row.coded kept_row.the_row.coded)) (coded_option refusal_row.the_row.coded))
-    (λ h. (((h.schema, h.limits), (h.statements, h.kept)), h.refused)) (λ p. record { schema = p.0.0.0; limits = p.0.0.1; statements = p.0.1.0; kept = p.0.1.1; refused = p.1 }) (λ _. refl)
+    (coded× (coded× (coded× schema_code limits_row.the_row.coded) (coded× statements_row.the_row.coded kept_row.the_row.coded))
+    (coded_option refusal_row.the_row.coded))
+    (λ h. (((h.schema, h.limits), (h.statements, h.kept)), h.refused))
+    (λ p. record { schema = p.0.0.0; limits = p.0.0.1; statements = p.0.1.0; kept = p.0.1.1; refused = p.1 }) (λ _. refl)

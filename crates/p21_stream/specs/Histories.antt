@@ -48,16 +48,19 @@ RefusesDeadBytes s limits taken refusal = refusal.fault ≢ NoMemory → IsDead 
 
 -- the bytes are read, and what their statements leave is kept
 abbrev pub StandsForBytes : SessionHeld → List ℕ → Type 0
-StandsForBytes held taken = (given : List Statement) × IsLive held.schema held.limits held.statements held.kept (record { taken = taken; seen = None; given = given })
+StandsForBytes held taken = (given : List Statement)
+    × IsLive held.schema held.limits held.statements held.kept (record { taken = taken; seen = None; given = given })
 
 -- what is held stands for a history: what it says is what `new`, `feed`, `finish` and `held` say of it
 unfoldable pub Stands : SessionHeld → SessionHistory → Type 0
-Stands held history = (held.refused ≡ history.refusal) × (history.refusal ≡ None → StandsForBytes held history.taken) × ((refusal : Refusal) → history.refusal ≡ Some refusal → RefusesDeadBytes held.schema held.limits history.taken refusal)
+Stands held history = (held.refused ≡ history.refusal) × (history.refusal ≡ None → StandsForBytes held history.taken)
+    × ((refusal : Refusal) → history.refusal ≡ Some refusal → RefusesDeadBytes held.schema held.limits history.taken refusal)
 
 -- ---- the calls
 
 -- a call refuses the bytes of a piece up to some position: nothing that is accepted begins with the bytes taken and these
-pub record RefusesWithin (old : SessionHeld) (history : SessionHistory) (piece : List ℕ) (refusal : Refusal) (new : SessionHeld) : Type 0 where
+pub record RefusesWithin (old : SessionHeld) (history : SessionHistory) (piece : List ℕ) (refusal : Refusal)
+    (new : SessionHeld) : Type 0 where
   pub count : ℕ
   pub within : count ≤ length piece
   pub dead : RefusesDeadBytes (schema_of old) (limits_of old) (history.taken ++ take count piece) refusal
@@ -65,8 +68,10 @@ pub record RefusesWithin (old : SessionHeld) (history : SessionHistory) (piece :
 
 -- what a piece gives, for each history that the session stood for
 abbrev pub FeedGives : SessionHeld → List ℕ → Result (Unit {0}) Refusal → SessionHeld → Type 0
-FeedGives old piece (Ok done) new = (history : SessionHistory) → Stands old history → (history.refusal ≡ None) × Stands new (fed_history history piece)
-FeedGives old piece (Err refusal) new = (history : SessionHistory) → Stands old history → history.refusal ≡ None → RefusesWithin old history piece refusal new
+FeedGives old piece (Ok done) new = (history : SessionHistory) → Stands old history
+    → (history.refusal ≡ None) × Stands new (fed_history history piece)
+FeedGives old piece (Err refusal) new = (history : SessionHistory) → Stands old history → history.refusal ≡ None
+    → RefusesWithin old history piece refusal new
 
 -- a session that has refused answers the same again, and stays as it is
 abbrev pub RefusesAgain : SessionHeld → Result (Unit {0}) Refusal → SessionHeld → Type 0
@@ -78,17 +83,21 @@ KeepsSchema old new = (schema_of new ≡ schema_of old) × (limits_of new ≡ li
 
 -- what the end of the bytes gives, for each history that the session stood for
 abbrev pub FinishGives : SessionHeld → Result Output Refusal → Type 0
-FinishGives held (Ok accepted) = (history : SessionHistory) → Stands held history → (history.refusal ≡ None) × IsCanonicalOutput (schema_of held) (limits_of held) history.taken accepted
-FinishGives held (Err refusal) = refusal.fault ≢ NoMemory → (history : SessionHistory) → Stands held history → ¬ IsAccepted (schema_of held) (limits_of held) history.taken
+FinishGives held (Ok accepted) = (history : SessionHistory) → Stands held history
+    → (history.refusal ≡ None) × IsCanonicalOutput (schema_of held) (limits_of held) history.taken accepted
+FinishGives held (Err refusal) = refusal.fault ≢ NoMemory → (history : SessionHistory) → Stands held history
+    → ¬ IsAccepted (schema_of held) (limits_of held) history.taken
 
 -- what is counted at the end, for each history that the session stood for
 abbrev pub CountGives : SessionHeld → Result Counted Refusal → Type 0
-CountGives held (Ok counted) = (history : SessionHistory) → Stands held history → (history.refusal ≡ None) × IsCounted (schema_of held) (limits_of held) history.taken counted
+CountGives held (Ok counted) = (history : SessionHistory) → Stands held history
+    → (history.refusal ≡ None) × IsCounted (schema_of held) (limits_of held) history.taken counted
 CountGives held (Err refusal) = FinishGives held (Err refusal)
 
 -- what is kept at the end of a whole file, for each history that the session stood for
 abbrev pub WholeGives : SessionHeld → Result Kept Refusal → Type 0
-WholeGives held (Ok kept) = (history : SessionHistory) → Stands held history → (history.refusal ≡ None) × IsKeptOfWhole (schema_of held) (limits_of held) history.taken kept
+WholeGives held (Ok kept) = (history : SessionHistory) → Stands held history
+    → (history.refusal ≡ None) × IsKeptOfWhole (schema_of held) (limits_of held) history.taken kept
 WholeGives held (Err refusal) = FinishGives held (Err refusal)
 
 -- a session that has refused answers the same at the end
@@ -97,7 +106,8 @@ RefusesAtEnd held result = (refusal : Refusal) → refusal_of held ≡ Some refu
 
 -- what is held of the bytes taken, where none was refused
 abbrev pub HoldsFor : SessionHeld → files.Held → Type 0
-HoldsFor held result = (history : SessionHistory) → Stands held history → history.refusal ≡ None → IsHeld (schema_of held) history.taken result
+HoldsFor held result = (history : SessionHistory) → Stands held history → history.refusal ≡ None
+    → IsHeld (schema_of held) history.taken result
 
 -- a piece is taken only where the statements that end in it are right
 abbrev pub FeedChecks : SessionHeld → List ℕ → Result (Unit {0}) Refusal → Type 0
@@ -107,14 +117,20 @@ FeedChecks old piece (Err refusal) = Unit {0}
 -- where no byte was refused and no token byte is pending, a piece of separators alone asks for no memory
 abbrev pub FeedNeedsNoMemory : SessionHeld → List ℕ → Result (Unit {0}) Refusal → Type 0
 FeedNeedsNoMemory old piece (Ok done) = Unit {0}
-FeedNeedsNoMemory old piece (Err refusal) = (history : SessionHistory) → Stands old history → history.refusal ≡ None → IsPending history.taken 0 → AreSeparators piece → refusal.fault ≢ NoMemory
+FeedNeedsNoMemory old piece (Err refusal) = (history : SessionHistory) → Stands old history → history.refusal ≡ None
+    → IsPending history.taken 0 → AreSeparators piece → refusal.fault ≢ NoMemory
 
 -- behind a piece in which a byte is refused the session stands at that byte
 abbrev pub FeedPlaces : SessionHeld → List ℕ → Result (Unit {0}) Refusal → SessionHeld → Type 0
 FeedPlaces old piece (Ok done) new = Unit {0}
 FeedPlaces old piece (Err refusal) new =
-    (history : SessionHistory) → Stands old history → history.refusal ≡ None → HasPlace ((limits_of old).record_source, (limits_of old).file_source) history.taken piece refusal.fault (place_behind new.statements)
+    (history : SessionHistory) → Stands old history → history.refusal ≡ None
+    → HasPlace ((limits_of old).record_source, (limits_of old).file_source) history.taken piece refusal.fault
+    (place_behind new.statements)
 
 -- the place of the refusal that was answered: of a byte the one at which the session stands
 abbrev pub HasPlaceOf : SessionHeld → Option Place → Type 0
-HasPlaceOf held found = elim held.refused [ None ↦ found ≡ None | Some refusal ↦ IsPlaceOf refusal.fault (place_behind held.statements) found ]
+HasPlaceOf held found = elim held.refused [
+  | None ↦ found ≡ None
+  | Some refusal ↦ IsPlaceOf refusal.fault (place_behind held.statements) found
+]

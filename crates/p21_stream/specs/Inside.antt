@@ -8,7 +8,13 @@ use Rattle.p21_stream.specs.declared.progress.Progress.{Progress}
 
 -- how far a file is read, under a schema and limits
 abbrev pub held_in : Schema → Limits → Progress → SessionHeld
-held_in s limits progress = record { schema = s; limits = limits; statements = progress.walk.statements; kept = progress.walk.kept; refused = progress.refused }
+held_in s limits progress = record {
+  schema = s;
+  limits = limits;
+  statements = progress.walk.statements;
+  kept = progress.walk.kept;
+  refused = progress.refused;
+}
 
 -- the numbers of the definition
 abbrev pub held_of : Held → files.Held

@@ -9,15 +9,13 @@ pub mod Bounds
 pub mod Checked
 pub mod Canonical
 pub mod Inside
-pub mod Passing
+pub mod Taking
 pub mod Answers
 pub mod Claim
 pub mod Feeding
 pub mod ReaderInput
-pub mod Surveying
-pub mod SurveyKeeping
-pub mod SurveyReading
 pub mod Survey
+pub mod SurveyFeeding
 pub mod Listed
 -- What the clauses of its calls cite, for callers who name this crate alone
 pub use Rattle.p21_spec_basics.specs as p21_spec_basics
@@ -37,6 +35,8 @@ pub use Rattle.p21_mapping_values.specs as p21_mapping_values
 pub use Rattle.p21_stream_statements.specs as p21_stream_statements
 pub use Rattle.p21_stream_kept.specs as p21_stream_kept
 pub use Rattle.p21_stream_sieve.specs as p21_stream_sieve
+pub use Rattle.p21_spec_survey.specs as p21_spec_survey
+pub use Rattle.p21_stream_survey.specs as p21_stream_survey
 pub use Rattle.p21_stream_io.specs as p21_stream_io
 pub use Rattle.p21_stream_store.specs as p21_stream_store
 pub use Rattle.p21_stream_output.specs as p21_stream_output

@@ -51,12 +51,11 @@ impl<'s> Model for AnySession<'s> {
 
     ghost use Rattle.p21_stream.specs.Bounds.{IsBounded};
     ghost use Rattle.p21_stream.specs.Inside.{held_in};
-    ghost use Rattle.p21_shorter_instances.specs.ExternalSet.{AreExternalSets};
-    ghost use Rattle.p21_shorter_instances.specs.Steps.{IsPlanOf};
+    ghost use Rattle.p21_shorter_instances.specs.Taker.{IsTakerOf};
 
     ghost view = { λ a. held_in a.schema.now a.limits a.progress };
 
-    ghost invariant = { λ a. IsBounded (held_in a.schema.now a.limits a.progress) × IsPlanOf a.schema.now a.progress.walk.plan × AreExternalSets a.schema.now a.progress.walk.sets };
+    ghost invariant = { λ a. IsBounded (held_in a.schema.now a.limits a.progress) × IsTakerOf a.schema.now a.progress.walk.taker };
 }
 
 impl<'s> AnySession<'s> {
@@ -219,7 +218,8 @@ impl<'s> AnySession<'s> {
     /// Those of `finish`.
     pub(crate) fn whole(self) -> Result<Kept, Refusal>
         ensures gives { WholeGives self.entry result }
-        ensures lines { (lines : KeptLines) → KeepsLines lines self.entry.refused self.entry.kept → IfOk result (λ kept. kept.lines ≡ lines) }
+        ensures lines { (lines : KeptLines) → KeepsLines lines self.entry.refused self.entry.kept
+            → IfOk result (λ kept. kept.lines ≡ lines) }
         ensures kind { IfErr result (λ refusal. IsOfBytes refusal.fault) }
     {
         let AnySession {

@@ -87,7 +87,8 @@ pub fn same_meaning_located<R: Read, S: Read>(
     ensures moved_second { second.new.moved ≤ second.old.moved + (limits.file_source + 1) }
     ensures read { OnOk result ((first.new.failures ≡ first.old.failures) × (second.new.failures ≡ second.old.failures)) }
     ensures failed_first { IfErr result (λ answer. first.new.failures ≡ first_failures first.old.failures answer.0 answer.1.refusal.fault) }
-    ensures failed_second { IfErr result (λ answer. second.new.failures ≡ second_failures second.old.failures answer.0 answer.1.refusal.fault) }
+    ensures failed_second { IfErr result (λ answer. second.new.failures ≡ second_failures second.old.failures answer.0
+        answer.1.refusal.fault) }
 {
     headline(schema, limits);
     let keeping = AnySession::keeping(alloc, schema, limits);
@@ -127,10 +128,13 @@ fn read_whole<R: Read>(
 ) -> Result<(Kept, Refusal), Located>
     requires new { Stands session nothing_taken }
     requires limits { limits_of session ≡ limits }
-    ensures ok { IfOk result (λ found. IsWholeInput (schema_of session.entry) limits (R.remaining reader.old.inner) (R.remaining reader.new.inner) found.0) }
+    ensures ok { IfOk result (λ found. IsWholeInput (schema_of session.entry) limits (R.remaining reader.old.inner)
+        (R.remaining reader.new.inner) found.0) }
     ensures no_memory { IfOk result (λ found. found.1.fault ≡ Fault.NoMemory) }
-    ensures lines { (lines : KeptLines) → KeepsLines lines session.entry.refused session.entry.kept → IfOk result (λ found. found.0.lines ≡ lines) }
-    ensures err { IfErr result (λ located. RefusesRead (schema_of session.entry) limits (R.remaining reader.old.inner) (R.remaining reader.new.inner) located.refusal.fault) }
+    ensures lines { (lines : KeptLines) → KeepsLines lines session.entry.refused session.entry.kept
+        → IfOk result (λ found. found.0.lines ≡ lines) }
+    ensures err { IfErr result (λ located. RefusesRead (schema_of session.entry) limits (R.remaining reader.old.inner)
+        (R.remaining reader.new.inner) located.refusal.fault) }
     ensures consumed { ConsumesAtMost limits (R.remaining reader.old.inner) (R.remaining reader.new.inner) }
 
     ensures moved { reader.new.moved ≤ reader.old.moved + (limits.file_source + 1) }

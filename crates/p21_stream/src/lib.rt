@@ -1,13 +1,12 @@
 //! Whole files: read in pieces, accepted or refused, written in their canonical form, and compared. A session reads a file
-//! piece by piece: its statements are checked as they come, and what they leave is kept. A survey leaves out the instances
-//! that are refused, and lists them.
+//! piece by piece: its statements are checked as they come, and what they leave is kept. A survey (p21_stream_survey) goes on
+//! behind what is refused, and lists it: `src/listing` feeds it what a reader gives, and `specs/Survey` says what its list is.
 //!
 //! A session is a `StatementReader` (`p21_stream_statements`), a `Kept` (`p21_stream_kept`) and a refusal.
 //! `StatementReader::step` speaks of bytes and statements alone, `Kept::take_*` of statements alone; neither knows the
-//! other. A `Walk` (`p21_stream/src/walk`) reads a file piece by piece, generic over what is kept (`Keeper`,
-//! `src/keeper`): by the ghost members of that trait `specs/Walk` says what a token, an instance and a piece give, and
-//! `proofs/Walking` has a lemma for each branch, once for a session and for a survey. `IsLive` there joins the
-//! statement reader and what is kept. `Progress` is a walk over a `Kept` with the refusal that is answered again.
+//! other. A `Walk` (`src/walk`) reads a file piece by piece with both: `specs/Walk` says what a token, an instance and a
+//! piece give, and `proofs/Walking` has a lemma for each branch. `IsLive` (`specs/Session`) joins the statement reader and
+//! what is kept. `Progress` is a walk with the refusal that is answered again.
 //!
 //! A session keeps to its limits (`IsBounded`) by an invariant of its type: while it has refused nothing, it stands for
 //! some bytes, and these have no fewer bytes than references. So `Kept` is asked to take an instance only where it
@@ -25,17 +24,14 @@ mod claim;
 mod comparing;
 mod counting;
 mod held;
-mod keeper;
 mod laws;
 mod listing;
 mod located;
-mod noting;
-mod passing;
 mod progress;
 mod read;
 mod session;
 mod shared;
-mod surveying;
+mod taking;
 mod text;
 mod walk;
 mod writing;
@@ -45,7 +41,7 @@ pub use comparing::{Which, same_meaning, same_meaning_located};
 pub use counting::{Counted, count, count_located};
 pub use held::Held;
 pub use laws::session_laws;
-pub use listing::{Extent, LocatedSurvey, Refusals, Surveyed, survey, survey_located};
+pub use listing::{LocatedSurvey, Refusals, Surveyed, survey, survey_located};
 pub use located::Located;
 pub use p21_express::{Schema, SchemaFault, read_schema};
 pub use p21_grammar::GrammarFault;
@@ -53,10 +49,11 @@ pub use p21_grammar_tree::CheckFault;
 pub use p21_mapping_values::Need;
 pub use p21_stream_io::{ReadFault, Watched, WriteFault};
 pub use p21_stream_output::{Accepted, Cursor};
-pub use p21_stream_sieve::Indices;
+pub use p21_stream_sieve::{Indices, PassedOver};
 pub use p21_stream_statements::{
     At, Expected, Fault, KINDS, Kind, Place, Places, Refusal, StatementReader,
 };
+pub use p21_stream_survey::Extent;
 pub use p21_tokens::{Absent, TokenFault};
 pub use p21_values::{Limits, Name, NoMemory};
 pub use read::{accept, accept_located};

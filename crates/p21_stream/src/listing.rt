@@ -1,33 +1,27 @@
 //! The refusals that one reading finds of a file.
 //!
-//! `check --all` goes on behind refusals of records, of names and of references alone. Behind a wrong byte or statement
-//! nobody knows what the next one is, and a wrong header or schema name makes every record wrong. So any other refusal
-//! is the last of the list, and of references nothing is said then, since their targets may stand in what wasn't read.
-//! 24 EndsEarly is one of these.
-ghost use Rattle.std.specs.Prelude.{◌≡◌, ◌≢◌, ◌≤◌, ◌<◌, ◌+◌, ◌⊎◌, ◌^◌, length, IfErr, IfOk, OnErr, OnOk};
-ghost use Rattle.p21_spec_basics.specs.Limits.{Limits as MeantLimits};
-ghost use Rattle.p21_spec_schema.specs.WellFormed.{IsWellFormed};
+//! A survey goes on behind refusals of records, of names and of references, and behind a statement of a data section that is broken
+//! (p21_stream_survey). A wrong header or schema name makes every record wrong, and behind a statement that nothing ends nobody knows what the
+//! next one is: so these, and what no landmark comes behind, are the last of the list, and of references nothing is said then, since their
+//! targets may stand in what wasn't read.
+ghost use Rattle.std.specs.Prelude.{◌≡◌, ◌≤◌, ◌<◌, ◌+◌, ◌-◌, ◌^◌, ◌⊎◌, ◌++◌, ℕ, List, [], Option, length, map, IfOk, OnErr, OnOk};
 ghost use Rattle.p21_stream_io.specs.Watch.{one_call_more};
+ghost use Rattle.p21_stream_survey.specs.Course.{AsksTheSame};
 ghost use Rattle.p21_stream.specs.Feeding.{TakesAtMost};
 ghost use Rattle.p21_stream.specs.ReaderInput.{ConsumesAtMost};
-ghost use Rattle.p21_stream.specs.Survey.{EndsByRead, ListsAtMost, SurveysInput, asked_for};
-ghost use Rattle.p21_stream.specs.SurveyReading.{EndsWith, FinishGives, IsExtent, IsLiveBetween, IsSurveyedFrom, IsSurveyedWhole, PieceGives, StoppedGives, StopsByRead, StopsMore, StopsSurvey, SurveysMore, stop_failures};
-ghost use Rattle.p21_stream.specs.Surveying.{StopsWithin};
-ghost use Rattle.p21_stream.specs.Walk.{StopsByBytes};
-ghost use Rattle.p21_shorter_instances.specs.ExternalSet.{AreExternalSets};
-ghost use Rattle.p21_shorter_instances.specs.Steps.{IsPlanOf};
+ghost use Rattle.p21_stream.specs.Survey.{EndsByRead, ListsAtMost, SurveysInput, asked_for, refusal_of};
+ghost use Rattle.p21_stream.specs.SurveyFeeding.{HandsOn, HasTakenPiece, IsMovedTo, IsSurveyedFrom, IsSurveyedTo, StandsBehind, SurveysMore, TakesPiece, failures_behind, failures_by};
 
-use crate::keeper::Stop;
 use crate::located::Located;
 use crate::read::PIECE;
-use crate::surveying::Surveying;
-use crate::walk::{Walk, refused};
 use p21_mapping_values::Need;
 use p21_schema::Schema;
+use p21_spec_survey::list_laws;
 use p21_stream_io::{Watched, read_piece};
 use p21_stream_output::Accepted;
-use p21_stream_sieve::Spots;
-use p21_stream_statements::{Fault, Place, Refusal};
+use p21_stream_sieve::{PassedOver, Spots};
+use p21_stream_statements::Refusal;
+use p21_stream_survey::{Extent, Found, Listed, Survey};
 use p21_values::{Limits, NoMemory};
 use std::alloc::Global;
 use std::io::Read;
@@ -44,9 +38,11 @@ pub enum Surveyed {
 /// What is refused of a file.
 #[derive(Debug, Drop)]
 pub struct Refusals {
-    /// The refusals, one or more: those of the instances in the order of the file, then those of references in the same order,
-    /// or the one that ended the reading.
+    /// The refusals, one or more: those of statements in the order of the file, the one that ended the reading as the last of them, and then
+    /// those of references in the same order.
     pub list: Vec<Refusal>,
+    /// For each refusal of a statement how many bytes of the file stand in front of this statement: so it is as long as there are such.
+    pub begins: Vec<u64>,
     /// How much of the file they are about.
     pub extent: Extent,
 }
@@ -84,22 +80,17 @@ impl LocatedSurvey {
     pub fn need(&self, number: usize) -> Option<Need> {
         self.spots.need(number)
     }
+
+    /// The statement of this number, counted from 0, of those that are passed over. None behind the last one. It takes no memory.
+    pub fn passed_over(&self, number: usize) -> Option<PassedOver> {
+        self.spots.passed_over(number)
+    }
 }
 
-/// How much of a file was surveyed.
-#[derive(Clone, Copy, Debug, PartialEq, Eq)]
-pub enum Extent {
-    /// All of it.
-    Whole,
-    /// As far as to the last refusal of the list, which ended the reading.
-    Part,
-    /// As far as to the last refusal of the list, since no more were asked for.
-    Most,
-}
-
-/// Reads a file to its end, and lists what is refused of it, up to so many refusals; one is listed where none is asked for. An
-/// instance that is refused is left out, and the reading goes on: of its references nothing is said, nor of references to
-/// its name. Every other refusal ends the reading, and is the last one; of references nothing is said then.
+/// Reads a file to its end, and lists what is refused of it, up to so many refusals; one is listed where none is asked for. An instance that
+/// is refused is left out, and a statement of a data section that is broken is passed over; the reading goes on behind both. Of references of
+/// an instance that is refused nothing is said, nor of references to its name; and where a statement is passed over no reference is said to
+/// have no target. Every other refusal ends the reading, and is the last one; of references nothing is said then.
 ///
 /// # Errors
 ///
@@ -111,17 +102,22 @@ pub fn survey<R: Read>(
     most: u64,
     reader: &mut Watched<R>,
 ) -> Result<Surveyed, NoMemory>
-    ensures surveys { IfOk result (λ found. SurveysInput schema.now limits (R.remaining reader.old.inner) (R.remaining reader.new.inner) found) }
+    ensures surveys { IfOk result (λ found. SurveysInput schema.now limits (R.remaining reader.old.inner) (R.remaining reader.new.inner)
+        found) }
     ensures counted { IfOk result (ListsAtMost (asked_for most)) }
     ensures consumed { ConsumesAtMost limits (R.remaining reader.old.inner) (R.remaining reader.new.inner) }
 
     ensures moved { reader.new.moved ≤ reader.old.moved + (limits.file_source + 1) }
-    ensures failed { IfOk result (λ found. (reader.new.failures ≡ reader.old.failures) ⊎ ((reader.new.failures ≡ one_call_more reader.old.failures) × EndsByRead found)) }
+    ensures failed { IfOk result (λ found. (reader.new.failures ≡ reader.old.failures)
+        ⊎ ((reader.new.failures ≡ one_call_more reader.old.failures) × EndsByRead found)) }
     ensures ends_by_read { IfOk result (λ found. EndsByRead found → reader.new.failures ≡ one_call_more reader.old.failures) }
-    ensures failed_once { OnErr result ((reader.new.failures ≡ reader.old.failures) ⊎ (reader.new.failures ≡ one_call_more reader.old.failures)) }
+    ensures failed_once { OnErr result ((reader.new.failures ≡ reader.old.failures)
+        ⊎ (reader.new.failures ≡ one_call_more reader.old.failures)) }
 {
-    let mut spots = Spots::new(alloc, false);
-    survey_into(alloc, schema, limits, most, reader, &mut spots)
+    match survey_noting(alloc, schema, limits, most, false, reader) {
+        Ok(LocatedSurvey { found, .. }) => Ok(found),
+        Err(NoMemory) => Err(NoMemory),
+    }
 }
 
 /// As `survey`, with where each refusal of the list stands.
@@ -136,273 +132,220 @@ pub fn survey_located<R: Read>(
     most: u64,
     reader: &mut Watched<R>,
 ) -> Result<LocatedSurvey, NoMemory>
-    ensures surveys { IfOk result (λ located. SurveysInput schema.now limits (R.remaining reader.old.inner) (R.remaining reader.new.inner) located.found) }
+    ensures surveys { IfOk result (λ located. SurveysInput schema.now limits (R.remaining reader.old.inner) (R.remaining reader.new.inner)
+        located.found) }
     ensures counted { IfOk result (λ located. ListsAtMost (asked_for most) located.found) }
     ensures consumed { ConsumesAtMost limits (R.remaining reader.old.inner) (R.remaining reader.new.inner) }
 
     ensures moved { reader.new.moved ≤ reader.old.moved + (limits.file_source + 1) }
-    ensures failed { IfOk result (λ located. (reader.new.failures ≡ reader.old.failures) ⊎ ((reader.new.failures ≡ one_call_more reader.old.failures) × EndsByRead located.found)) }
+    ensures failed { IfOk result (λ located. (reader.new.failures ≡ reader.old.failures)
+        ⊎ ((reader.new.failures ≡ one_call_more reader.old.failures) × EndsByRead located.found)) }
     ensures ends_by_read { IfOk result (λ located. EndsByRead located.found → reader.new.failures ≡ one_call_more reader.old.failures) }
-    ensures failed_once { OnErr result ((reader.new.failures ≡ reader.old.failures) ⊎ (reader.new.failures ≡ one_call_more reader.old.failures)) }
+    ensures failed_once { OnErr result ((reader.new.failures ≡ reader.old.failures)
+        ⊎ (reader.new.failures ≡ one_call_more reader.old.failures)) }
 {
-    let mut spots = Spots::new(alloc, true);
-    match survey_into(alloc, schema, limits, most, reader, &mut spots) {
-        Ok(found) => Ok(LocatedSurvey { found, spots }),
-        Err(NoMemory) => Err(NoMemory),
-    }
+    survey_noting(alloc, schema, limits, most, true, reader)
 }
 
 /// Surveys what a reader has, and notes where the refusals stand if that is asked for.
-fn survey_into<R: Read>(
+fn survey_noting<R: Read>(
     alloc: Global,
     schema: &Schema,
     limits: Limits,
     most: u64,
+    are_places_asked: bool,
     reader: &mut Watched<R>,
-    spots: &mut Spots,
-) -> Result<Surveyed, NoMemory>
-    ensures surveys { IfOk result (λ found. SurveysInput schema.now limits (R.remaining reader.old.inner) (R.remaining reader.new.inner) found) }
-    ensures counted { IfOk result (ListsAtMost (asked_for most)) }
+) -> Result<LocatedSurvey, NoMemory>
+    ensures surveys { IfOk result (λ located. SurveysInput schema.now limits (R.remaining reader.old.inner) (R.remaining reader.new.inner)
+        located.found) }
+    ensures counted { IfOk result (λ located. ListsAtMost (asked_for most) located.found) }
     ensures consumed { ConsumesAtMost limits (R.remaining reader.old.inner) (R.remaining reader.new.inner) }
 
     ensures moved { reader.new.moved ≤ reader.old.moved + (limits.file_source + 1) }
-    ensures failed { IfOk result (λ found. (reader.new.failures ≡ reader.old.failures) ⊎ ((reader.new.failures ≡ one_call_more reader.old.failures) × EndsByRead found)) }
-    ensures ends_by_read { IfOk result (λ found. EndsByRead found → reader.new.failures ≡ one_call_more reader.old.failures) }
-    ensures failed_once { OnErr result ((reader.new.failures ≡ reader.old.failures) ⊎ (reader.new.failures ≡ one_call_more reader.old.failures)) }
+    ensures failed { IfOk result (λ located. (reader.new.failures ≡ reader.old.failures)
+        ⊎ ((reader.new.failures ≡ one_call_more reader.old.failures) × EndsByRead located.found)) }
+    ensures ends_by_read { IfOk result (λ located. EndsByRead located.found → reader.new.failures ≡ one_call_more reader.old.failures) }
+    ensures failed_once { OnErr result ((reader.new.failures ≡ reader.old.failures)
+        ⊎ (reader.new.failures ≡ one_call_more reader.old.failures)) }
 {
     schema.well_formed();
-    let most = at_least_one(most);
-    let surveying = Surveying::new(alloc, schema, most, spots.is_asked());
-    let noted = Spots::new(alloc, spots.is_asked());
-    let mut walk = Walk::new(alloc, limits, surveying, noted);
-    match read_all(&mut walk, schema, limits, reader) {
-        Ok(()) => finish(walk, schema, spots),
-        Err(stop) => stopped(refusals_of(walk, &stop, spots), most, stop),
-    }
+    list_laws();
+    let mut survey = Survey::new(alloc, schema, limits, most, are_places_asked);
+    let has_failed = match feed_all(&mut survey, limits, reader) {
+        Ok(has_failed) => has_failed,
+        Err(NoMemory) => return Err(NoMemory),
+    };
+    let found = match survey.finish(has_failed) {
+        Ok(found) => found,
+        Err(NoMemory) => return Err(NoMemory),
+    };
+    hand_on(alloc, found)
 }
 
-/// The refusals that are listed where the reading stops. Notes where these stand, and the one that stops it.
-fn refusals_of(walk: Walk<Surveying<'_>>, stop: &Stop, spots: &mut Spots) -> Vec<Refusal>
-    ensures { result ≡ walk.entry.kept.sieve.refusals }
-{
-    let Walk {
-        statements,
-        kept,
-        workspace,
-        source,
-        spots: noted,
-        ..
-    } = walk;
-    *spots = noted;
-    if let Stop::Refused(refusal) = stop {
-        spots.note(*refusal, &statements, &source, &workspace.trail);
-    }
-    let Surveying { sieve, .. } = kept;
-    sieve.into_refusals()
-}
-
-/// The number, or one for none.
-fn at_least_one(most: u64) -> u64
-    ensures asked { result ≡ asked_for most }
-    ensures some { 0 < result }
-{
-    if most == 0 { 1 } else { most }
-}
-
-/// Surveys all that a reader has.
-fn read_all<R: Read>(
-    walk: &mut Walk<Surveying<'_>>,
-    schema: &Schema,
+/// Has a survey that is new read what a reader has, until its list has ended or more was read than a file may have; says whether a read failed.
+fn feed_all<R: Read>(
+    survey: &mut Survey<'_>,
     limits: Limits,
     reader: &mut Watched<R>,
-) -> Result<(), Stop>
-    requires formed { IsWellFormed schema.now }
-    requires new { IsSurveyedFrom schema.now limits (R.remaining reader.old.inner) (R.remaining reader.old.inner) walk.old 0 }
-    requires counted { limits.file_source < 2 ^ 64 }
-    requires plan { IsPlanOf schema.now walk.old.plan }
-    requires sets { AreExternalSets schema.now walk.old.sets }
-    requires fewer { length walk.old.kept.sieve.refusals.items < walk.old.kept.most }
-    ensures ok { OnOk result (IsSurveyedWhole schema.now limits (R.remaining reader.old.inner) (R.remaining reader.new.inner) walk.new) }
-    ensures err { IfErr result (StopsSurvey schema.now limits walk.old.kept.most (R.remaining reader.old.inner) (R.remaining reader.new.inner) walk.new.kept.sieve.refusals.items) }
-    ensures fewer { OnOk result (length walk.new.kept.sieve.refusals.items < walk.new.kept.most) }
-    ensures stops { IfErr result (StopsWithin walk.old.kept.most walk.new.kept.sieve.refusals.items) }
-    ensures most { walk.new.kept.most ≡ walk.old.kept.most }
+) -> Result<bool, NoMemory>
+    requires new { StandsBehind survey.old [] }
+    ensures surveyed { IfOk result (IsSurveyedTo limits (R.remaining reader.old.inner) (R.remaining reader.new.inner) survey.new) }
+    ensures same { OnOk result (AsksTheSame survey.old survey.new) }
+    ensures counted { limits.file_source < 2 ^ 64 }
     ensures consumed { ConsumesAtMost limits (R.remaining reader.old.inner) (R.remaining reader.new.inner) }
 
     ensures moved { reader.new.moved ≤ reader.old.moved + (limits.file_source + 1) }
-    ensures read { OnOk result (reader.new.failures ≡ reader.old.failures) }
-    ensures failed { IfErr result (λ stop. reader.new.failures ≡ stop_failures reader.old.failures stop) }
+    ensures failures { IfOk result (λ has_failed. reader.new.failures ≡ failures_behind reader.old.failures has_failed) }
+    ensures unread { OnErr result (reader.new.failures ≡ reader.old.failures) }
 {
     let mut piece = [0; PIECE];
-    let mut left = limits.file_source();
+    let mut taken: u64 = 0;
     loop {
-        let count = match read_more(walk, schema, limits, reader, &mut piece, left) {
-            Ok(count) => count,
-            Err(stop) => return Err(stop),
-        };
-        if count == 0 {
-            return Ok(());
+        if survey.has_ended() {
+            return Ok(false);
         }
-        left -= count;
+        let given = match feed_piece(survey, limits, reader, &mut piece, taken) {
+            Ok(given) => given,
+            Err(NoMemory) => return Err(NoMemory),
+        };
+        let Some(next) = given else {
+            return Ok(true);
+        };
+        if next == taken {
+            return Ok(false);
+        }
+        if next > limits.file_source() {
+            return Ok(false);
+        }
+        taken = next;
     }
 }
 
-/// Surveys what a reader gives at once, and says how many bytes: 0 at the end alone. Its six arguments are what `read_all` has in
-/// its loop, of which this is a round.
-fn read_more<R: Read>(
-    walk: &mut Walk<Surveying<'_>>,
-    schema: &Schema,
+/// Has a survey that has read so many bytes read what a reader gives at once, and says how many it has read then: no more at the end alone.
+/// None where the read failed. No file has as many bytes as 64 bits don't count, so that want of memory is said of one that had.
+fn feed_piece<R: Read>(
+    survey: &mut Survey<'_>,
     limits: Limits,
     reader: &mut Watched<R>,
     piece: &mut [u8],
-    left: u64,
-) -> Result<u64, Stop>
-    requires formed { IsWellFormed schema.now }
+    taken: u64,
+) -> Result<Option<u64>, NoMemory>
     requires room { 0 < length piece.old }
-    requires counted { limits.file_source < 2 ^ 64 }
-    requires live { IsLiveBetween schema.now limits walk.old }
-    requires plan { IsPlanOf schema.now walk.old.plan }
-    requires sets { AreExternalSets schema.now walk.old.sets }
-    requires fewer { length walk.old.kept.sieve.refusals.items < walk.old.kept.most }
-    ensures ok { IfOk result (SurveysMore schema.now limits (R.remaining reader.old.inner) (R.remaining reader.new.inner) walk.old walk.new) }
-    ensures err { IfErr result (StopsMore schema.now limits (R.remaining reader.old.inner) (R.remaining reader.new.inner) walk.old walk.new) }
-    ensures fewer { OnOk result (length walk.new.kept.sieve.refusals.items < walk.new.kept.most) }
-    ensures stops { IfErr result (StopsWithin walk.old.kept.most walk.new.kept.sieve.refusals.items) }
-    ensures most { walk.new.kept.most ≡ walk.old.kept.most }
-    ensures consumed { TakesAtMost (left + 1) (R.remaining reader.old.inner) (R.remaining reader.new.inner) }
-    ensures plan { IsPlanOf schema.now walk.new.plan }
-    ensures sets { AreExternalSets schema.now walk.new.sets }
+    requires within { taken ≤ limits.file_source }
+    requires stands { (start : Option (List ℕ)) × IsSurveyedFrom start (R.remaining reader.old.inner) survey.old taken }
+    ensures more { IfOk result (SurveysMore (R.remaining reader.old.inner) (R.remaining reader.new.inner) survey.old survey.new taken) }
+    ensures same { OnOk result (AsksTheSame survey.old survey.new) }
+    ensures consumed { TakesAtMost ((limits.file_source - taken) + 1) (R.remaining reader.old.inner) (R.remaining reader.new.inner) }
 
-    ensures moved { IfOk result (λ count. reader.new.moved ≤ reader.old.moved + count) }
+    ensures moved { IfOk result (IsMovedTo reader.old.moved reader.new.moved taken) }
     ensures moved_once { reader.new.moved ≤ reader.old.moved + 1 }
-    ensures read { OnOk result (reader.new.failures ≡ reader.old.failures) }
-    ensures failed { IfErr result (λ stop. reader.new.failures ≡ stop_failures reader.old.failures stop) }
+    ensures failures { IfOk result (λ given. reader.new.failures ≡ failures_by reader.old.failures given) }
+    ensures unread { OnErr result (reader.new.failures ≡ reader.old.failures) }
 {
+    let left = limits.file_source() - taken;
     let count = match read_piece(reader, piece, left) {
         Ok(count) => count,
-        Err(_) => {
-            let refusal = refused(Fault::Read, None, walk.statement);
-            return Err(Stop::Refused(refusal));
-        }
+        Err(_) => return Ok(None),
     };
-    match take_piece(walk, schema, limits, &piece[..count]) {
-        Ok(()) => Ok(count as u64),
-        Err(stop) => Err(stop),
-    }
-}
-
-/// Surveys a piece. It stands by itself since the prover knows of a parameter, and of no part of one, that it holds bytes.
-fn take_piece(
-    walk: &mut Walk<Surveying<'_>>,
-    schema: &Schema,
-    limits: Limits,
-    piece: &[u8],
-) -> Result<(), Stop>
-    requires formed { IsWellFormed schema.now }
-    requires counted { limits.file_source < 2 ^ 64 }
-    requires live { IsLiveBetween schema.now limits walk.old }
-    requires plan { IsPlanOf schema.now walk.old.plan }
-    requires sets { AreExternalSets schema.now walk.old.sets }
-    requires fewer { length walk.old.kept.sieve.refusals.items < walk.old.kept.most }
-    ensures gives { PieceGives schema.now limits walk.old piece.now result walk.new }
-    ensures fewer { OnOk result (length walk.new.kept.sieve.refusals.items < walk.new.kept.most) }
-    ensures stops { IfErr result (StopsWithin walk.old.kept.most walk.new.kept.sieve.refusals.items) }
-    ensures most { walk.new.kept.most ≡ walk.old.kept.most }
-    ensures kind { IfErr result StopsByBytes }
-    ensures plan { IsPlanOf schema.now walk.new.plan }
-    ensures sets { AreExternalSets schema.now walk.new.sets }
-{
-    match walk.read(schema, limits, piece) {
-        Ok(()) => Ok(()),
-        Err(stop) => Err(stop),
-    }
-}
-
-/// The end of the bytes. Notes where the refusals stand that are listed.
-fn finish(
-    walk: Walk<Surveying<'_>>,
-    schema: &Schema,
-    spots: &mut Spots,
-) -> Result<Surveyed, NoMemory>
-    requires live { (limits : MeantLimits) × IsLiveBetween schema.now limits walk }
-    requires fewer { length walk.kept.sieve.refusals.items < walk.kept.most }
-    ensures gives { IfOk result (FinishGives schema.now walk.entry) }
-    ensures counted { IfOk result (ListsAtMost walk.entry.kept.most) }
-    ensures unread { IfOk result (λ found. ¬ EndsByRead found) }
-{
-    schema.well_formed();
-    let Walk {
-        statements,
-        kept,
-        statement,
-        spots: noted,
-        ..
-    } = walk;
-    *spots = noted;
-    let Surveying {
-        mut sieve,
-        most,
-        ..
-    } = kept;
-    let places = statements.places();
-    match statements.finish() {
-        Ok(()) => {}
-        Err(fault) => {
-            spots.note_place(Place::of(fault, places));
-            return ended(sieve.into_refusals(), refused(fault, None, statement));
-        }
-    }
-    sieve.list_unserved(schema, most, spots)?;
-    if sieve.refusals.is_empty() {
-        let accepted = sieve.into_kept().into_accepted(statement)?;
-        return Ok(Surveyed::Accepted(accepted));
-    }
-    let extent = extent_of(sieve.refusals.len() as u64, most);
-    Ok(Surveyed::Refused(Refusals {
-        list: sieve.into_refusals(),
-        extent,
-    }))
-}
-
-/// How much of a file that was read whole is listed, by the number of the refusals and how many were asked for.
-fn extent_of(count: u64, most: u64) -> Extent
-    ensures { IsExtent result count most }
-{
-    if count < most {
-        Extent::Whole
-    } else {
-        Extent::Most
-    }
-}
-
-/// What is found where the reading stopped before the end of the bytes.
-fn stopped(list: Vec<Refusal>, most: u64, stop: Stop) -> Result<Surveyed, NoMemory>
-    requires { StopsWithin most list.items stop }
-    ensures gives { IfOk result (StoppedGives list.items stop) }
-    ensures counted { IfOk result (ListsAtMost most) }
-    ensures read { IfOk result (λ found. StopsByRead stop → EndsByRead found) }
-    ensures stopped { IfOk result (λ found. EndsByRead found → StopsByRead stop) }
-{
-    match stop {
-        Stop::Refused(refusal) => ended(list, refusal),
-        Stop::Most => Ok(Surveyed::Refused(Refusals {
-            list,
-            extent: Extent::Most,
-        })),
-    }
-}
-
-/// What is found where a refusal ended the reading.
-fn ended(mut list: Vec<Refusal>, refusal: Refusal) -> Result<Surveyed, NoMemory>
-    ensures list { IfOk result (EndsWith list.items refusal) }
-    ensures other { OnOk result (refusal.fault ≢ Fault.NoMemory) }
-{
-    if refusal.fault == Fault::NoMemory {
+    let Some(next) = taken.checked_add(count as u64) else {
         return Err(NoMemory);
+    };
+    match take_piece(survey, &piece[..count], next) {
+        Ok(()) => Ok(Some(next)),
+        Err(NoMemory) => Err(NoMemory),
     }
-    list.push(refusal)?;
-    Ok(Surveyed::Refused(Refusals {
+}
+
+/// Has a survey read a piece, behind which it has read so many bytes. It stands by itself since the prover knows of a parameter, and of no part
+/// of one, that it holds bytes.
+fn take_piece(survey: &mut Survey<'_>, piece: &[u8], next: u64) -> Result<(), NoMemory>
+    requires { TakesPiece survey.old piece.now next }
+    ensures taken { OnOk result (HasTakenPiece survey.old piece.now survey.new) }
+    ensures same { OnOk result (AsksTheSame survey.old survey.new) }
+{
+    match survey.feed(piece) {
+        Ok(()) => Ok(()),
+        Err(NoMemory) => Err(NoMemory),
+    }
+}
+
+/// What is handed on of what was found.
+fn hand_on(alloc: Global, found: Found) -> Result<LocatedSurvey, NoMemory>
+    ensures { IfOk result (λ located. HandsOn found located.found) }
+{
+    let Found {
         list,
-        extent: Extent::Part,
-    }))
+        references,
+        extent,
+        accepted,
+        spots,
+    } = found;
+    if let Some(accepted) = accepted {
+        return Ok(LocatedSurvey {
+            found: Surveyed::Accepted(accepted),
+            spots,
+        });
+    }
+    match refusals_of(alloc, &list, &references, extent) {
+        Ok(refusals) => Ok(LocatedSurvey {
+            found: Surveyed::Refused(refusals),
+            spots,
+        }),
+        Err(NoMemory) => Err(NoMemory),
+    }
+}
+
+/// The refusals of statements, and behind them those of references.
+fn refusals_of(
+    alloc: Global,
+    list: &[Listed],
+    references: &[Refusal],
+    extent: Extent,
+) -> Result<Refusals, NoMemory>
+    ensures list { IfOk result (λ refusals. refusals.list.items ≡ map refusal_of list.now ++ references.now) }
+    ensures begins { IfOk result (λ refusals. refusals.begins.items ≡ map (λ (refusal : Listed). refusal.begins) list.now) }
+    ensures extent { IfOk result (λ refusals. refusals.extent ≡ extent) }
+{
+    let mut all = match without_begins(alloc, list) {
+        Ok(all) => all,
+        Err(NoMemory) => return Err(NoMemory),
+    };
+    let Ok(()) = all.extend_from_slice(references) else {
+        return Err(NoMemory);
+    };
+    match begins_of(alloc, list) {
+        Ok(begins) => Ok(Refusals {
+            list: all,
+            begins,
+            extent,
+        }),
+        Err(NoMemory) => Err(NoMemory),
+    }
+}
+
+/// The refusals of statements, without where these begin.
+fn without_begins(alloc: Global, list: &[Listed]) -> Result<Vec<Refusal>, NoMemory>
+    ensures { IfOk result (λ refusals. refusals.items ≡ map refusal_of list.now) }
+{
+    let mut refusals = Vec::new(alloc);
+    for listed in list {
+        let listed: &Listed = listed;
+        refusals.push(Refusal {
+            fault: listed.fault,
+            at: listed.at,
+        })?;
+    }
+    Ok(refusals)
+}
+
+/// Where the statements begin that are refused.
+fn begins_of(alloc: Global, list: &[Listed]) -> Result<Vec<u64>, NoMemory>
+    ensures { IfOk result (λ begins. begins.items ≡ map (λ (refusal : Listed). refusal.begins) list.now) }
+{
+    let mut begins = Vec::new(alloc);
+    for listed in list {
+        let listed: &Listed = listed;
+        begins.push(listed.begins)?;
+    }
+    Ok(begins)
 }

@@ -1,4 +1,4 @@
-ghost use Rattle.std.specs.Prelude.{◌≡◌, ◌≤◌, ◌<◌, ◌^◌, [], IfErr, IfOk, None, OnOk, Some, Err};
+ghost use Rattle.std.specs.Prelude.{◌≡◌, ◌≤◌, ◌<◌, ◌^◌, IfErr, IfOk, None, OnOk, Some, Err};
 ghost use Rattle.p21_spec_basics.specs.Limits.{Limits as MeantLimits};
 ghost use Rattle.p21_spec_laws.specs.Stored.{with_lines};
 ghost use Rattle.p21_spec_schema.specs.Schema.{Schema as Meant};
@@ -10,18 +10,16 @@ ghost use Rattle.p21_stream.specs.Bounds.{IsBounded, KeepsLines, StaysKept};
 ghost use Rattle.p21_stream.specs.Histories.{CountGives, FeedChecks, FeedGives, FeedNeedsNoMemory, FeedPlaces, FinishGives, HasPlaceOf, HoldsFor, RefusesAgain, RefusesAtEnd, WholeGives};
 ghost use Rattle.p21_stream.specs.Inside.{held_in, held_of};
 ghost use Rattle.p21_stream.specs.Ending.{CountsEnd, EndGives, EndsServed, EndsWhole, IsBetweenPieces};
-ghost use Rattle.p21_shorter_instances.specs.ExternalSet.{AreExternalSets};
-ghost use Rattle.p21_shorter_instances.specs.Steps.{IsPlanOf};
+ghost use Rattle.p21_shorter_instances.specs.Taker.{IsTakerOf};
 
 use crate::counting::Counted;
 use crate::held::Held;
-use crate::keeper::Stop;
 use crate::walk::{Walk, refused};
 use p21_express_graph::Place as AttributePlace;
 use p21_schema::Schema;
 use p21_stream_kept::Kept;
 use p21_stream_output::Accepted;
-use p21_stream_sieve::{Indices, Spots, attribute_of, elements_of, inside, place_of};
+use p21_stream_sieve::{Indices, attribute_of, elements_of, inside, place_of};
 use p21_stream_statements::{Expected, Fault, Place, Places, Refusal, StatementReader};
 use p21_values::{Limits, Name};
 use std::alloc::Global;
@@ -30,7 +28,7 @@ use std::alloc::Global;
 #[derive(Drop)]
 pub(crate) struct Progress {
     alloc: Global,
-    pub walk: Walk<Kept>,
+    pub walk: Walk,
     // The refusal that was answered, and is answered again.
     pub refused: Option<Refusal>,
     // Where it stands in its statement, where that is known.
@@ -45,12 +43,11 @@ impl Progress {
         ensures kept { result.walk.kept ≡ kept }
         ensures refused { result.refused ≡ None }
         ensures counted { limits.file_source < 2 ^ 64 }
-        ensures plan { (s : Meant) → IsPlanOf s result.walk.plan }
-        ensures sets { result.walk.sets ≡ [] }
+        ensures taker { (s : Meant) → IsTakerOf s result.walk.taker }
     {
         Progress {
             alloc,
-            walk: Walk::new(alloc, limits, kept, Spots::new(alloc, false)),
+            walk: Walk::new(alloc, limits, kept),
             refused: None,
             noted: None,
         }
@@ -68,8 +65,7 @@ impl Progress {
         piece: &[u8],
     ) -> Result<(), Refusal>
         requires bounded { IsBounded (held_in schema.now limits self.old) }
-        requires plan { IsPlanOf schema.now self.old.walk.plan }
-        requires sets { AreExternalSets schema.now self.old.walk.sets }
+        requires taker { IsTakerOf schema.now self.old.walk.taker }
         ensures gives { FeedGives (held_in schema.now limits self.old) piece.now result (held_in schema.now limits self.new) }
         ensures checks { FeedChecks (held_in schema.now limits self.old) piece.now result }
         ensures no_memory { FeedNeedsNoMemory (held_in schema.now limits self.old) piece.now result }
@@ -79,29 +75,25 @@ impl Progress {
         ensures place { FeedPlaces (held_in schema.now limits self.old) piece.now result (held_in schema.now limits self.new) }
         ensures bounded { IsBounded (held_in schema.now limits self.new) }
         ensures lines { StaysKept self.old.refused self.old.walk.kept self.new.refused self.new.walk.kept }
-        ensures plan { IsPlanOf schema.now self.new.walk.plan }
-        ensures sets { AreExternalSets schema.now self.new.walk.sets }
+        ensures taker { IsTakerOf schema.now self.new.walk.taker }
     {
         if let Some(refusal) = self.refused {
             return Err(refusal);
         }
         match self.walk.read(schema, limits, piece) {
             Ok(()) => Ok(()),
-            Err(stop) => match stop {
-                Stop::Refused(refusal) => {
-                    self.noted = inside(
-                        self.alloc,
-                        &self.walk.source,
-                        refusal.fault,
-                        refusal.at,
-                        self.walk.workspace.trail.steps(),
-                    );
-                    self.walk.kept = Kept::new(self.alloc);
-                    self.refused = Some(refusal);
-                    self.answered()
-                }
-                Stop::Most => unreachable!(),
-            },
+            Err(refusal) => {
+                self.noted = inside(
+                    self.alloc,
+                    &self.walk.source,
+                    refusal.fault,
+                    refusal.at,
+                    self.walk.workspace.trail.steps(),
+                );
+                self.walk.kept = Kept::new(self.alloc);
+                self.refused = Some(refusal);
+                self.answered()
+            }
         }
     }
 
@@ -180,7 +172,8 @@ impl Progress {
         requires lines { KeepsLines with_lines self.refused self.walk.kept }
         ensures gives { (limits : MeantLimits) → FinishGives (held_in schema.now limits self) result }
         ensures again { (limits : MeantLimits) → RefusesAtEnd (held_in schema.now limits self) result }
-        ensures kind { (limits : MeantLimits) → IsBounded (held_in schema.now limits self) → IfErr result (λ refusal. IsOfBytes refusal.fault) }
+        ensures kind { (limits : MeantLimits) → IsBounded (held_in schema.now limits self)
+            → IfErr result (λ refusal. IsOfBytes refusal.fault) }
     {
         let Progress { walk, refused, .. } = self;
         if let Some(refusal) = refused {
@@ -203,7 +196,8 @@ impl Progress {
     pub(crate) fn count(self, schema: &Schema) -> Result<Counted, Refusal>
         requires { (limits : MeantLimits) × IsBounded (held_in schema.now limits self) }
         ensures gives { (limits : MeantLimits) → CountGives (held_in schema.now limits self) result }
-        ensures kind { (limits : MeantLimits) → IsBounded (held_in schema.now limits self) → IfErr result (λ refusal. IsOfBytes refusal.fault) }
+        ensures kind { (limits : MeantLimits) → IsBounded (held_in schema.now limits self)
+            → IfErr result (λ refusal. IsOfBytes refusal.fault) }
     {
         let Progress { walk, refused, .. } = self;
         if let Some(refusal) = refused {
@@ -227,7 +221,8 @@ impl Progress {
         requires { (limits : MeantLimits) × IsBounded (held_in schema.now limits self) }
         ensures gives { (limits : MeantLimits) → WholeGives (held_in schema.now limits self) result }
         ensures lines { IfOk result (λ kept. (self.refused ≡ None) × (kept.lines ≡ self.walk.kept.lines)) }
-        ensures kind { (limits : MeantLimits) → IsBounded (held_in schema.now limits self) → IfErr result (λ refusal. IsOfBytes refusal.fault) }
+        ensures kind { (limits : MeantLimits) → IsBounded (held_in schema.now limits self)
+            → IfErr result (λ refusal. IsOfBytes refusal.fault) }
     {
         let Progress { walk, refused, .. } = self;
         if let Some(refusal) = refused {

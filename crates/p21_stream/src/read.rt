@@ -110,7 +110,8 @@ pub(crate) fn feed_all<R: Read>(
     requires most { most ≡ (limits_of session.old).file_source }
     ensures ok { OnOk result (IsFedWhole (R.remaining reader.old.inner) (R.remaining reader.new.inner) session.new) }
     ensures err { IfErr result (λ refusal.
-        RefusesRead (schema_of session.old) (limits_of session.old) (R.remaining reader.old.inner) (R.remaining reader.new.inner) refusal.fault) }
+        RefusesRead (schema_of session.old) (limits_of session.old) (R.remaining reader.old.inner) (R.remaining reader.new.inner)
+        refusal.fault) }
     ensures consumed { ConsumesAtMost (limits_of session.old) (R.remaining reader.old.inner) (R.remaining reader.new.inner) }
 
     ensures schema { KeepsSchema session.old session.new }
@@ -142,7 +143,8 @@ fn feed_piece<R: Read>(
 ) -> Result<u64, Refusal>
     requires room { 0 < length piece.old }
     ensures ok { IfOk result (FeedsMore (R.remaining reader.old.inner) (R.remaining reader.new.inner) session.old session.new) }
-    ensures err { IfErr result (λ refusal. RefusesFedBytes (R.remaining reader.old.inner) (R.remaining reader.new.inner) session.old refusal.fault) }
+    ensures err { IfErr result (λ refusal. RefusesFedBytes (R.remaining reader.old.inner) (R.remaining reader.new.inner) session.old
+        refusal.fault) }
     ensures consumed { TakesAtMost (most + 1) (R.remaining reader.old.inner) (R.remaining reader.new.inner) }
 
     ensures schema { KeepsSchema session.old session.new }

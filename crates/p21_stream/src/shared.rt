@@ -56,13 +56,14 @@ impl Model for SharedSession {
     ghost use Rattle.p21_spec_laws.specs.Stored.{with_lines};
     ghost use Rattle.p21_stream.specs.Bounds.{IsBounded, KeepsLines};
     ghost use Rattle.p21_stream.specs.Inside.{held_in};
-    ghost use Rattle.p21_shorter_instances.specs.ExternalSet.{AreExternalSets};
-    ghost use Rattle.p21_shorter_instances.specs.Steps.{IsPlanOf};
+    ghost use Rattle.p21_shorter_instances.specs.Taker.{IsTakerOf};
     ghost use Rattle.std.specs.Arc.{arc_value};
 
     ghost view = { λ a. held_in (arc_value a.schema) a.limits a.progress };
 
-    ghost invariant = { λ a. IsBounded (held_in (arc_value a.schema) a.limits a.progress) × IsPlanOf (arc_value a.schema) a.progress.walk.plan × AreExternalSets (arc_value a.schema) a.progress.walk.sets × KeepsLines with_lines a.progress.refused a.progress.walk.kept };
+    ghost invariant = { λ a. IsBounded (held_in (arc_value a.schema) a.limits a.progress)
+        × IsTakerOf (arc_value a.schema) a.progress.walk.taker
+        × KeepsLines with_lines a.progress.refused a.progress.walk.kept };
 }
 
 impl SharedSession {

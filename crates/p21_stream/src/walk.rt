@@ -1,75 +1,66 @@
-//! A file that is read piece by piece, whatever is kept of its statements.
+//! A file that is read piece by piece.
 //!
 //! `Walk::read` is proved by what the rest of a piece gives: what the rest gives, the piece gives (`IsRest` in
 //! `proofs/Walking`). Its loop over `advance` counts its rounds, since a token that waited is given without a further
 //! byte: each round gives a token or more, and a file has no more tokens than bytes, which 64 bits count. `advance`
-//! first has `pass_instances` take whole instances straight from their bytes, each by `pass`. They give as much as
-//! their tokens would (`HasPassed` in `proofs/PassedInstances`), and where there is none nothing changes (`PassGives`
-//! in `specs/Walk`); then `step` takes one token. What is found of such an instance (`IsFoundIn`) is what
-//! `Keeper::take_found` asks for.
-ghost use Rattle.std.specs.Prelude.{◌≡◌, ◌<◌, ◌^◌, [], IfErr, OnOk, None};
+//! first has `take_instances` (`src/taking`) take whole instances straight from their bytes, each by `take_instance`. They give as
+//! much as their tokens would (`AreTaken` in `proofs/TakenInstances`), and where there is none nothing changes
+//! (`TakeGives` in `specs/Walk`); then `step` takes one token. What is found of such an instance (`IsInstance` of
+//! p21_shorter_instances) is what `Kept::take_found` asks for.
+ghost use Rattle.std.specs.Prelude.{◌≡◌, ◌<◌, ◌^◌, IfErr};
+ghost use Rattle.p21_grammar.specs.Statements.{statement_of};
+ghost use Rattle.p21_shorter_instances.specs.Taker.{IsTakerOf};
 ghost use Rattle.p21_spec_schema.specs.Schema.{Schema as Meant};
-ghost use Rattle.p21_stream_statements.specs.Source.{IsOfBytes};
+ghost use Rattle.p21_stream.specs.Bounds.{StaysWithin};
+ghost use Rattle.p21_stream.specs.Walk.{EndsNoToken, IsUnderWay, NeedsNoMemory, PlacesByte, ReadGives, StepGives, TakesWithinPiece};
+ghost use Rattle.p21_stream_kept.specs.Steps as steps;
+ghost use Rattle.p21_stream_kept.specs.Steps.{StepKeepsBound};
+ghost use Rattle.p21_stream_kept.specs.Taking.{Follows};
+ghost use Rattle.p21_stream_statements.specs.Source.{IsOfBytes, IsOfStatement};
 ghost use Rattle.p21_stream_statements.specs.StatementReader.{IsLive, limits_of, nothing_read};
-ghost use Rattle.p21_stream.specs.Walk.{EndsNoToken, IsUnderWay, NeedsNoMemory, ReadGives, ReadPlaces, ReadStops, StaysOpen, StepGives, StepPlaces, StepStops, StopNeedsNoMemory, StopsByBytes, StopsWhere, TakesWithinPiece};
-ghost use Rattle.p21_shorter_instances.specs.ExternalSet.{AreExternalSets};
-ghost use Rattle.p21_shorter_instances.specs.Steps.{IsPlanOf};
 
-use crate::keeper::{Keeper, Stop};
-use crate::noting::note_listed;
 use p21_grammar::Event;
 use p21_schema::Schema;
-use p21_shorter_instances::{Plan, Sets, Taken};
-use p21_stream_kept::Workspace;
-use p21_stream_sieve::Spots;
+use p21_shorter_instances::Taker;
+use p21_stream_kept::{Kept, Workspace};
 use p21_stream_statements::{At, Fault, Refusal, Source, StatementReader};
 use p21_values::{Limits, Name};
 use std::alloc::Global;
 
 /// How far a file is read, and what is kept of it.
 #[derive(Drop)]
-pub(crate) struct Walk<K> {
+pub(crate) struct Walk {
     // The statement reader, and what is kept of the statements that it gave.
     pub statements: StatementReader,
-    pub kept: K,
-    // The line and the references of an instance that is taken straight from its bytes.
-    pub taken: Taken,
-    // What instances that are taken so need of the schema.
-    pub plan: Plan,
-    // The sets of instances of external mapping that are taken so.
-    pub sets: Sets,
+    pub kept: Kept,
+    // What takes instances straight from their bytes.
+    pub taker: Taker,
     // Where instances are checked that are taken by their tokens.
     pub workspace: Workspace,
     // The number of the open statement, counted from 1.
     pub statement: u64,
     // The bytes of the open statement that stand in front of the next piece, or those of the refused one.
     pub source: Source,
-    // Where the refusals stand that are listed, where that is asked for.
-    pub spots: Spots,
 }
 
-impl<K: Keeper> Walk<K> {
-    /// A walk that has read nothing, with what keeps the statements and the places of refusals. It takes no memory.
-    pub(crate) fn new(alloc: Global, limits: Limits, kept: K, spots: Spots) -> Walk<K>
+impl Walk {
+    /// A walk that has read nothing, with what keeps the statements. It takes no memory.
+    pub(crate) fn new(alloc: Global, limits: Limits, kept: Kept) -> Walk
         ensures live { IsLive result.statements nothing_read }
         ensures limits { limits_of result.statements ≡ (limits.record_source, limits.file_source) }
         ensures counted { limits.file_source < 2 ^ 64 }
         ensures kept { result.kept ≡ kept }
-        ensures plan { (s : Meant) → IsPlanOf s result.plan }
-        ensures sets { result.sets ≡ [] }
+        ensures taker { (s : Meant) → IsTakerOf s result.taker }
     {
         // Looked at, so that the proof knows that it is a number of 64 bits.
         let _most = limits.file_source();
         Walk {
             statements: StatementReader::new(alloc, limits),
             kept,
-            taken: Taken::new(alloc),
-            plan: Plan::new(alloc),
-            sets: Sets::new(alloc),
+            taker: Taker::new(alloc),
             workspace: Workspace::new(alloc),
             statement: 1,
             source: Source::new(alloc),
-            spots,
         }
     }
 
@@ -77,55 +68,41 @@ impl<K: Keeper> Walk<K> {
     ///
     /// # Errors
     ///
-    /// The refusal of its first byte, token or statement that ends the reading; or that as much is kept as was asked for.
-    pub(crate) fn read(&mut self, schema: &Schema, limits: Limits, piece: &[u8]) -> Result<(), Stop>
-        requires way { IsUnderWay (K.keeps schema.now limits) limits self.old.statements self.old.kept piece.now }
-        requires plan { IsPlanOf schema.now self.old.plan }
-        requires sets { AreExternalSets schema.now self.old.sets }
-        ensures gives { ReadGives schema.now limits (K.keeps schema.now limits) (K.left schema.now limits) self.old.statements self.old.kept piece.now result self.new.statements self.new.kept }
-        ensures no_memory { StopNeedsNoMemory (K.keeps schema.now limits) limits self.old.statements self.old.kept piece.now result }
-        ensures kind { IfErr result StopsByBytes }
-        ensures place { ReadPlaces (K.keeps schema.now limits) limits self.old.statements self.old.kept piece.now result self.new.statements }
-        ensures stops { ReadStops (K.keeps schema.now limits) limits self.old.statements self.old.kept piece.now result self.new.statements self.new.kept }
-        ensures open { OnOk result (K.is_full self.new.kept → ⊥) }
-        ensures full { IfErr result (StopsWhere (K.is_full self.new.kept)) }
-        ensures stays { K.stays limits self.old.kept self.new.kept }
+    /// The refusal of its first byte, token or statement that is refused.
+    pub(crate) fn read(
+        &mut self,
+        schema: &Schema,
+        limits: Limits,
+        piece: &[u8],
+    ) -> Result<(), Refusal>
+        requires way { IsUnderWay schema.now limits self.old.statements self.old.kept piece.now }
+        requires taker { IsTakerOf schema.now self.old.taker }
+        ensures gives { ReadGives schema.now limits self.old.statements self.old.kept piece.now result self.new.statements self.new.kept }
+        ensures no_memory { IfErr result (NeedsNoMemory schema.now limits self.old.statements self.old.kept piece.now) }
+        ensures kind { IfErr result (λ refusal. IsOfBytes refusal.fault) }
+        ensures place { IfErr result (PlacesByte schema.now limits self.old.statements self.old.kept piece.now self.new.statements) }
+        ensures stays { StaysWithin limits self.old.kept self.new.kept }
         ensures limits { limits_of self.new.statements ≡ limits_of self.old.statements }
-        ensures plan { IsPlanOf schema.now self.new.plan }
-        ensures sets { AreExternalSets schema.now self.new.sets }
+        ensures taker { IsTakerOf schema.now self.new.taker }
     {
         let mut rest = piece;
-        // The bytes of the piece that aren't taken for the place of a refusal.
-        let mut untaken = piece;
         // Each round takes a token or more, and a file has no more tokens than bytes.
         let mut rounds: u64 = 0;
         loop {
-            if self.kept.has_enough() {
-                return Err(Stop::Most);
-            }
             let taken = match self.advance(schema, limits, rest) {
                 Ok(taken) => taken,
                 Err(refusal) => {
-                    self.source.take(untaken, self.statements.places());
-                    return Err(Stop::Refused(refusal));
+                    self.source.take(piece, self.statements.places());
+                    return Err(refusal);
                 }
             };
             let Some(count) = taken else {
                 let is_open = self.statements.pending() > 0;
-                self.source.pass(untaken, self.statements.places(), is_open);
+                self.source.pass(piece, self.statements.places(), is_open);
                 return Ok(());
             };
             rest = &rest[count..];
             rounds += 1;
-            untaken = note_listed(
-                &mut self.spots,
-                &mut self.source,
-                &self.kept,
-                &self.statements,
-                &self.workspace.trail,
-                untaken,
-                rest,
-            );
         }
     }
 
@@ -141,28 +118,23 @@ impl<K: Keeper> Walk<K> {
         limits: Limits,
         piece: &[u8],
     ) -> Result<Option<usize>, Refusal>
-        requires way { IsUnderWay (K.keeps schema.now limits) limits self.old.statements self.old.kept piece.now }
-        requires more { K.is_full self.old.kept → ⊥ }
-        requires plan { IsPlanOf schema.now self.old.plan }
-        requires sets { AreExternalSets schema.now self.old.sets }
+        requires way { IsUnderWay schema.now limits self.old.statements self.old.kept piece.now }
+        requires taker { IsTakerOf schema.now self.old.taker }
         ensures takes { TakesWithinPiece piece.now result }
-        ensures gives { StepGives schema.now limits (K.keeps schema.now limits) (K.left schema.now limits) self.old.statements self.old.kept piece.now result self.new.statements self.new.kept }
-        ensures no_memory { NeedsNoMemory (K.keeps schema.now limits) limits self.old.statements self.old.kept piece.now result }
-        ensures no_token { EndsNoToken (K.keeps schema.now limits) limits self.old.statements self.old.kept piece.now result }
+        ensures gives { StepGives schema.now limits self.old.statements self.old.kept piece.now result self.new.statements self.new.kept }
+        ensures no_memory { IfErr result (NeedsNoMemory schema.now limits self.old.statements self.old.kept piece.now) }
+        ensures no_token { EndsNoToken schema.now limits self.old.statements self.old.kept piece.now result }
         ensures kind { IfErr result (λ refusal. IsOfBytes refusal.fault) }
-        ensures place { StepPlaces (K.keeps schema.now limits) limits self.old.statements self.old.kept piece.now result self.new.statements }
-        ensures stops { StepStops (K.keeps schema.now limits) limits self.old.statements self.old.kept piece.now result self.new.statements self.new.kept }
-        ensures open { StaysOpen (K.is_full self.new.kept) result }
-        ensures stays { K.stays limits self.old.kept self.new.kept }
+        ensures place { IfErr result (PlacesByte schema.now limits self.old.statements self.old.kept piece.now self.new.statements) }
+        ensures stays { StaysWithin limits self.old.kept self.new.kept }
         ensures limits { limits_of self.new.statements ≡ limits_of self.old.statements }
-        ensures plan { IsPlanOf schema.now self.new.plan }
-        ensures sets { AreExternalSets schema.now self.new.sets }
+        ensures taker { IsTakerOf schema.now self.new.taker }
     {
-        let passed = match self.pass_instances(schema, limits, piece) {
-            Ok(passed) => passed,
+        let taken = match self.take_instances(schema, limits, piece) {
+            Ok(taken) => taken,
             Err(refusal) => return Err(refusal),
         };
-        if let Some(count) = passed {
+        if let Some(count) = taken {
             return Ok(Some(count));
         }
         self.step(schema, limits, piece)
@@ -180,20 +152,16 @@ impl<K: Keeper> Walk<K> {
         limits: Limits,
         piece: &[u8],
     ) -> Result<Option<usize>, Refusal>
-        requires way { IsUnderWay (K.keeps schema.now limits) limits self.old.statements self.old.kept piece.now }
-        requires more { K.is_full self.old.kept → ⊥ }
+        requires way { IsUnderWay schema.now limits self.old.statements self.old.kept piece.now }
         ensures takes { TakesWithinPiece piece.now result }
-        ensures gives { StepGives schema.now limits (K.keeps schema.now limits) (K.left schema.now limits) self.old.statements self.old.kept piece.now result self.new.statements self.new.kept }
-        ensures no_memory { NeedsNoMemory (K.keeps schema.now limits) limits self.old.statements self.old.kept piece.now result }
-        ensures no_token { EndsNoToken (K.keeps schema.now limits) limits self.old.statements self.old.kept piece.now result }
+        ensures gives { StepGives schema.now limits self.old.statements self.old.kept piece.now result self.new.statements self.new.kept }
+        ensures no_memory { IfErr result (NeedsNoMemory schema.now limits self.old.statements self.old.kept piece.now) }
+        ensures no_token { EndsNoToken schema.now limits self.old.statements self.old.kept piece.now result }
         ensures kind { IfErr result (λ refusal. IsOfBytes refusal.fault) }
-        ensures place { StepPlaces (K.keeps schema.now limits) limits self.old.statements self.old.kept piece.now result self.new.statements }
-        ensures stops { StepStops (K.keeps schema.now limits) limits self.old.statements self.old.kept piece.now result self.new.statements self.new.kept }
-        ensures open { StaysOpen (K.is_full self.new.kept) result }
-        ensures stays { K.stays limits self.old.kept self.new.kept }
+        ensures place { IfErr result (PlacesByte schema.now limits self.old.statements self.old.kept piece.now self.new.statements) }
+        ensures stays { StaysWithin limits self.old.kept self.new.kept }
         ensures limits { limits_of self.new.statements ≡ limits_of self.old.statements }
-        ensures sets { self.new.sets ≡ self.old.sets }
-        ensures plan { self.new.plan ≡ self.old.plan }
+        ensures taker { self.new.taker ≡ self.old.taker }
     {
         let answer = match self.statements.step(piece) {
             Ok(answer) => answer,
@@ -205,13 +173,38 @@ impl<K: Keeper> Walk<K> {
         let Some(event) = event else {
             return Ok(Some(count));
         };
+        schema.well_formed();
         let name = name_of(&event);
-        match self.kept.take(schema, limits, event, &mut self.workspace) {
+        match take_statement(&mut self.kept, schema, limits, event, &mut self.workspace) {
             Ok(()) => {
                 self.statement = self.statement.saturating_add(1);
                 Ok(Some(count))
             }
             Err(fault) => Err(refused(fault, name, self.statement)),
+        }
+    }
+}
+
+/// Takes a statement. The record of an instance is checked in a workspace, which keeps no long line.
+fn take_statement(
+    kept: &mut Kept,
+    schema: &Schema,
+    limits: Limits,
+    event: Event,
+    workspace: &mut Workspace,
+) -> Result<(), Fault>
+    requires { Follows schema.now limits kept.old (statement_of event) }
+    ensures gives { steps.StepGives schema.now limits kept.old (statement_of event) result kept.new }
+    ensures kind { IfErr result (λ fault. IsOfStatement fault) }
+    ensures bound { StepKeepsBound limits kept.old kept.new }
+    ensures lines { kept.new.lines ≡ kept.old.lines }
+{
+    match event {
+        Event::Section(line) => kept.take_line(limits, line),
+        Event::Named(part) => kept.take_heading(schema, limits, part),
+        Event::Header(part) => kept.take_header(schema, limits, &part),
+        Event::Instance(name, record) => {
+            kept.take_instance(schema, limits, name, record, workspace)
         }
     }
 }

@@ -123,7 +123,7 @@ fn lists(alloc: Global, schema: &Schema, limits: Limits, file: &[u8], lines: &[&
     let mut reader = Watched::new(file);
     match survey(alloc, schema, limits, u64::MAX, &mut reader) {
         Ok(Surveyed::Refused(refusals)) => {
-            refusals.extent == Extent::Part && are_lines(alloc, &refusals.list, lines)
+            matches!(refusals.extent, Extent::ReadTo(_)) && are_lines(alloc, &refusals.list, lines)
         }
         _ => false,
     }

@@ -4,4 +4,5 @@ use Rattle.p21_stream.specs.Held.{SessionHeld}
 use Rattle.p21_stream.proofs.any_session.AnySession.feed.Goals as goal
 
 pub returns-clause-lines : goal.returns-clause-lines
-returns-clause-lines c = subst (λ (h : SessionHeld). StaysKept h.refused h.kept c.feed.new.self.refused c.feed.new.self.walk.kept) c.self.view_is c.feed.ensures.lines
+returns-clause-lines c = subst (λ (h : SessionHeld). StaysKept h.refused h.kept c.feed.new.self.refused c.feed.new.self.walk.kept)
+    c.self.view_is c.feed.ensures.lines

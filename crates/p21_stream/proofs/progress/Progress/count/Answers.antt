@@ -7,7 +7,8 @@ pub returns-in-Some-clause-gives : goal.returns-in-Some-clause-gives
 returns-in-Some-clause-gives c = λ limits. ends-again (held_in c.args.schema.now limits c.args.self) c.in-Some.refusal c.in-Some.is
 
 pub returns-clause-gives : goal.returns-clause-gives
-returns-clause-gives c = λ limits. counts c.args.schema.now limits c.args.self.walk.statements c.args.self.walk.kept c.args.self.refused c.in_default.is c.count_end.result c.count_end.ensures.gives
+returns-clause-gives c = λ limits. counts c.args.schema.now limits c.args.self.walk.statements c.args.self.walk.kept c.args.self.refused
+    c.in_default.is c.count_end.result c.count_end.ensures.gives
 
 pub returns-in-Some-clause-kind : goal.returns-in-Some-clause-kind
 returns-in-Some-clause-kind c = λ limits bounded. bounded.of_bytes c.in-Some.refusal c.in-Some.is

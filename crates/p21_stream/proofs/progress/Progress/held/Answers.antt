@@ -9,4 +9,6 @@ pub returns-clause-held : goal.returns-clause-held
 returns-clause-held c s limits =
     let inside : SessionHeld = held_in s limits c.args.self.now in
     holds inside c.pending.result c.depth.result c.size.result c.references.result
-    (subst (λ n. (reading : statements.StatementHistory) → statements.IsLive inside.statements reading → statements.HasOpenStatement reading c.pending.result n) (sym c.depth.ensures.depth) c.pending.ensures.pending) c.size.ensures c.references.ensures
+    (subst (λ n. (reading : statements.StatementHistory) → statements.IsLive inside.statements reading
+    → statements.HasOpenStatement reading c.pending.result n) (sym c.depth.ensures.depth) c.pending.ensures.pending) c.size.ensures
+    c.references.ensures

@@ -10,7 +10,8 @@ pub returns-in-Some-clause-gives : goal.returns-in-Some-clause-gives
 returns-in-Some-clause-gives c = λ limits. ends-again (held_in c.args.schema.now limits c.args.self) c.in-Some.refusal c.in-Some.is
 
 pub returns-clause-gives : goal.returns-clause-gives
-returns-clause-gives c = λ limits. wholes c.args.schema.now limits c.args.self.walk.statements c.args.self.walk.kept c.args.self.refused c.in_default.is c.whole_end.result c.whole_end.ensures.gives
+returns-clause-gives c = λ limits. wholes c.args.schema.now limits c.args.self.walk.statements c.args.self.walk.kept c.args.self.refused
+    c.in_default.is c.whole_end.result c.whole_end.ensures.gives
 
 pub returns-in-Some-clause-kind : goal.returns-in-Some-clause-kind
 returns-in-Some-clause-kind c = λ limits bounded. bounded.of_bytes c.in-Some.refusal c.in-Some.is
@@ -19,7 +20,9 @@ pub returns-clause-kind : goal.returns-clause-kind
 returns-clause-kind c = λ limits bounded. c.whole_end.ensures.kind
 
 pub returns-clause-lines : goal.returns-clause-lines
-returns-clause-lines c = IfOk-weaker c.whole_end.result (λ (k : Kept). k.lines ≡ c.args.self.walk.kept.lines) (λ (k : Kept). (c.args.self.refused ≡ None) × (k.lines ≡ c.args.self.walk.kept.lines)) (λ k same. (c.in_default.is, same)) c.whole_end.ensures.lines
+returns-clause-lines c = IfOk-weaker c.whole_end.result (λ (k : Kept). k.lines ≡ c.args.self.walk.kept.lines)
+    (λ (k : Kept). (c.args.self.refused ≡ None) × (k.lines ≡ c.args.self.walk.kept.lines)) (λ k same. (c.in_default.is, same))
+    c.whole_end.ensures.lines
 
 pub whole_end-requires : goal.whole_end-requires
 whole_end-requires c =

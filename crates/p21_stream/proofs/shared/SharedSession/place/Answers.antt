@@ -5,4 +5,5 @@ use Rattle.p21_stream.specs.Histories.{HasPlaceOf}
 use Rattle.p21_stream.proofs.shared.SharedSession.place.Goals as goal
 
 pub returns : goal.returns
-returns c = subst (λ (h : SessionHeld). HasPlaceOf h c.place.result) c.self.view_is (c.place.ensures (arc_value c.self.inside.schema) c.self.inside.limits)
+returns c = subst (λ (h : SessionHeld). HasPlaceOf h c.place.result) c.self.view_is
+    (c.place.ensures (arc_value c.self.inside.schema) c.self.inside.limits)
