@@ -1,6 +1,5 @@
 -- Rows behind others.
-use Rattle.std.specs.Prelude.{◌≡◌, ◌≢◌, ℕ, List, [], ◌∷◌, ◌++◌, refl}
-use Rattle.std.specs.List.{flat_map, AllByRecursion as Each}
+use Rattle.std.specs.Prelude.{◌≡◌, ◌≢◌, ℕ, List, [], ◌∷◌, ◌++◌}
 use Rattle.std.proofs.Common.{ap, ap₂, sym, subst, ◌∙◌}
 use Rattle.std.proofs.lemmas.Grind.{flat_map-append}
 use Rattle.std.proofs.lemmas.List.{append-nil, append_assoc}
@@ -42,31 +41,45 @@ module _ (form : RowForm) (s : Schema) (real : ℕ → ℕ) where
   none-added IsTold old is = record { rows = []; are_lines = tt; new_is = sym (append-nil old); is_told = is }
 
   -- a row, by its beginning and its rest
-  pub one-added : (subject : Subject) (old text new : List ℕ) → text ≡ old ++ front form s real subject → AddsRest text new → AddsRows form s real (TellsAlone (told subject)) old new
+  pub one-added : (subject : Subject) (old text new : List ℕ) → text ≡ old ++ front form s real subject → AddsRest text new
+      → AddsRows form s real (TellsAlone (told subject)) old new
   one-added subject old text new is adds =
       let row : Row = record { subject = subject; rest = adds.rest } in record {
         rows = row ∷ [];
         are_lines = (adds.holds_none, tt);
-        new_is = adds.new_is ∙ ap (λ (t : List ℕ). t ++ (adds.rest ++ (10 ∷ []))) is ∙ append_assoc old (front form s real subject) (adds.rest ++ (10 ∷ []))
+        new_is = adds.new_is ∙ ap (λ (t : List ℕ). t ++ (adds.rest ++ (10 ∷ []))) is
+            ∙ append_assoc old (front form s real subject) (adds.rest ++ (10 ∷ []))
             ∙ ap (λ (t : List ℕ). old ++ t) (sym (append-nil (row_line form s real row)));
         is_told = append-nil (told subject);
       }
 
-  pub weaker-added : (IsTold IsSaid : List Difference → Type 0) (old new : List ℕ) → ((list : List Difference) → IsTold list → IsSaid list) → AddsRows form s real IsTold old new → AddsRows form s real IsSaid old new
-  weaker-added IsTold IsSaid old new to adds = record { rows = adds.rows; are_lines = adds.are_lines; new_is = adds.new_is; is_told = to (all_told adds.rows) adds.is_told }
+  pub weaker-added : (IsTold IsSaid : List Difference → Type 0) (old new : List ℕ) → ((list : List Difference) → IsTold list → IsSaid list)
+      → AddsRows form s real IsTold old new → AddsRows form s real IsSaid old new
+  weaker-added IsTold IsSaid old new to adds = record {
+    rows = adds.rows;
+    are_lines = adds.are_lines;
+    new_is = adds.new_is;
+    is_told =
+        to (all_told adds.rows) adds.is_told;
+  }
 
   -- rows and more rows
-  pub more-added : (IsTold IsMore IsAll : List Difference → Type 0) (old text new : List ℕ) → ((list more : List Difference) → IsTold list → IsMore more → IsAll (list ++ more))
+  pub more-added : (IsTold IsMore IsAll : List Difference → Type 0) (old text new : List ℕ)
+      → ((list more : List Difference) → IsTold list → IsMore more → IsAll (list ++ more))
       → AddsRows form s real IsTold old text → AddsRows form s real IsMore text new → AddsRows form s real IsAll old new
   more-added IsTold IsMore IsAll old text new to adds more = record {
     rows = adds.rows ++ more.rows;
     are_lines = Each-append (λ (row : Row). HoldsNoFeed row.rest) adds.rows more.rows adds.are_lines more.are_lines;
-    new_is = more.new_is ∙ ap (λ (t : List ℕ). t ++ rows_text form s real more.rows) adds.new_is ∙ append_assoc old (rows_text form s real adds.rows) (rows_text form s real more.rows)
+    new_is = more.new_is ∙ ap (λ (t : List ℕ). t ++ rows_text form s real more.rows) adds.new_is
+        ∙ append_assoc old (rows_text form s real adds.rows) (rows_text form s real more.rows)
         ∙ ap (λ (t : List ℕ). old ++ t) (sym (flat_map-append (row_line form s real) adds.rows more.rows));
-    is_told = subst IsAll (sym (flat_map-append (λ (row : Row). told row.subject) adds.rows more.rows)) (to (all_told adds.rows) (all_told more.rows) adds.is_told more.is_told);
+    is_told = subst IsAll (sym (flat_map-append (λ (row : Row). told row.subject) adds.rows more.rows))
+        (to (all_told adds.rows) (all_told more.rows) adds.is_told more.is_told);
   }
 
   -- rows that tell nothing, and more of them
-  pub none-more : (old text new : List ℕ) → AddsRows form s real TellsNone old text → AddsRows form s real TellsNone text new → AddsRows form s real TellsNone old new
+  pub none-more : (old text new : List ℕ) → AddsRows form s real TellsNone old text → AddsRows form s real TellsNone text new
+      → AddsRows form s real TellsNone old new
   none-more old text new adds more =
-      more-added TellsNone TellsNone TellsNone old text new (λ list others none none_. ap₂ (λ (xs ys : List Difference). xs ++ ys) none none_) adds more
+      more-added TellsNone TellsNone TellsNone old text new
+      (λ list others none none_. ap₂ (λ (xs ys : List Difference). xs ++ ys) none none_) adds more

@@ -1,7 +1,7 @@
 -- Values that differ, in meanings that are the same as others.
 use Rattle.std.specs.Prelude.{◌≡◌, ℕ, zero, suc, List, Some, Contains, refl}
 use Rattle.std.specs.List.{zip}
-use Rattle.std.proofs.Common.{ap, sym, subst}
+use Rattle.std.proofs.Common.{subst}
 use Rattle.p21_spec_basics.proofs.Members.{some_is, zip-along}
 use Rattle.p21_spec_differences.specs.Difference.{HasOtherValue}
 use Rattle.p21_spec_file.proofs.Sameness.{Same-symmetric}
@@ -49,7 +49,8 @@ other-along x y u w same same_ place (v, t, has, has_, differ) =
       second.w,
       first.has,
       second.has,
-      λ alike. differ (Same-transitive first.w v t first.same (Same-transitive second.w first.w t alike (Same-symmetric t second.w second.same))),
+      λ alike. differ (Same-transitive first.w v t first.same
+          (Same-transitive second.w first.w t alike (Same-symmetric t second.w second.same))),
     )
 
 pub other-back : (x y u w : Typed) → SameTyped x u → SameTyped y w → (place : Place) → HasOtherValue u w place → HasOtherValue x y place

@@ -1,5 +1,5 @@
 -- The attributes at which the values of two instances differ, told one by one.
-use Rattle.std.specs.Prelude.{◌≡◌, ◌≢◌, ◌↔◌, ◌⊎◌, ℕ, List, [], ◌∷◌, ◌++◌, Option, Some, None, Contains, map, refl}
+use Rattle.std.specs.Prelude.{◌≡◌, ◌≢◌, ◌↔◌, ◌⊎◌, ℕ, List, [], ◌∷◌, ◌++◌, Some, None, Contains}
 use Rattle.std.specs.List.{zip}
 use Rattle.std.proofs.Common.{ap, sym, subst, ◌∙◌, inl, inr}
 use Rattle.p21_difference_rows.proofs.Adding.{more-added, none-added, weaker-added}
@@ -13,7 +13,6 @@ use Rattle.p21_model.specs.Rows.{Row}
 use Rattle.p21_spec_basics.proofs.Members.{Contains-none, Contains-first, Contains-later, Contains-cases}
 use Rattle.p21_spec_differences.specs.Difference.{Difference, HasOtherValue, value_changed}
 use Rattle.p21_spec_exchange.specs.CanonicalText.{param_text}
-use Rattle.p21_spec_exchange.specs.Parameter.{Param}
 use Rattle.p21_spec_exchange.specs.Record.{Record}
 use Rattle.p21_spec_file.specs.CanonicalTexts.{IsInstanceText}
 use Rattle.p21_spec_file.specs.Meaning.{Typed}
@@ -56,7 +55,8 @@ IsOtherOf name rows others d = (place : Place) × (d ≡ value_changed name plac
 
 module _ (row other : Row) (rows others : List Row) where
   -- behind rows of equal texts
-  other-later : (place : Place) → param_text row.1 ≡ param_text other.1 → HaveOtherAt (row ∷ rows) (other ∷ others) place → HaveOtherAt rows others place
+  other-later : (place : Place) → param_text row.1 ≡ param_text other.1 → HaveOtherAt (row ∷ rows) (other ∷ others) place
+      → HaveOtherAt rows others place
   other-later place same (p, q, among, differ) = elim (Contains-cases (row, other) (zip rows others) ((place, p), (place, q)) among) [
     | inl is ↦
         let first : row.1 ≡ p = ap (λ (i : Row × Row). i.0.1) is in
@@ -80,10 +80,12 @@ module _ (row other : Row) (rows others : List Row) where
     | inr later ↦ inr (p, q, later, differ)
   ]
 
-none-other : (rows others : List Row) (new : OtherValues) → HandsOutOther rows others None new → (place : Place) → HaveOtherAt rows others place → ⊥
+none-other : (rows others : List Row) (new : OtherValues) → HandsOutOther rows others None new → (place : Place)
+    → HaveOtherAt rows others place → ⊥
 none-other [] others new handed place (p, q, among, differ) = Contains-none ((place, p), (place, q)) among
 none-other (row ∷ rows) [] new handed place (p, q, among, differ) = Contains-none ((place, p), (place, q)) among
-none-other (row ∷ rows) (other ∷ others) new (inl handed) place have = none-other rows others new handed.1 place (other-later row other rows others place handed.0 have)
+none-other (row ∷ rows) (other ∷ others) new (inl handed) place have =
+    none-other rows others new handed.1 place (other-later row other rows others place handed.0 have)
 none-other (row ∷ rows) (other ∷ others) new (inr handed) place have = absurd handed.1
 
 -- ---- the next of them
@@ -95,10 +97,12 @@ record IsStep (name : ℕ) (rows others : List Row) (found : OtherValue) (new : 
   beside : HaveOnePlaces left left_
   told : (d : Difference) → ((value_changed name (place_of found.place) ≡ d) ⊎ IsOtherOf name left left_ d) ↔ IsOtherOf name rows others d
 
-places-later : (row other : Row) (rows others : List Row) → HaveOnePlaces (row ∷ rows) (other ∷ others) → (row.0 ≡ other.0) × HaveOnePlaces rows others
+places-later : (row other : Row) (rows others : List Row) → HaveOnePlaces (row ∷ rows) (other ∷ others)
+    → (row.0 ≡ other.0) × HaveOnePlaces rows others
 places-later row other rows others beside = (cc, cc)
 
-step-made : (name : ℕ) (rows others : List Row) (found : OtherValue) (new : OtherValues) → HaveOnePlaces rows others → HandsOutOther rows others (Some found) new → IsStep name rows others found new
+step-made : (name : ℕ) (rows others : List Row) (found : OtherValue) (new : OtherValues) → HaveOnePlaces rows others
+    → HandsOutOther rows others (Some found) new → IsStep name rows others found new
 step-made name [] others found new beside handed = absurd handed
 step-made name (row ∷ rows) [] found new beside handed = absurd handed
 step-made name (row ∷ rows) (other ∷ others) found new beside (inl handed) =
@@ -123,7 +127,8 @@ step-made name (row ∷ rows) (other ∷ others) found new beside (inr (differ, 
       told = λ d. (there d, back d);
     }
   where
-    there : (d : Difference) → (value_changed name (place_of found.place) ≡ d) ⊎ IsOtherOf name rows others d → IsOtherOf name (row ∷ rows) (other ∷ others) d
+    there : (d : Difference) → (value_changed name (place_of found.place) ≡ d) ⊎ IsOtherOf name rows others d
+        → IsOtherOf name (row ∷ rows) (other ∷ others) d
     there d (inl is) = (
       row.0,
       sym is ∙ ap (value_changed name) place_is,
@@ -131,7 +136,8 @@ step-made name (row ∷ rows) (other ∷ others) found new beside (inr (differ, 
     )
     there d (inr (place, same, have)) = (place, same, other-before row other rows others place have)
 
-    back : (d : Difference) → IsOtherOf name (row ∷ rows) (other ∷ others) d → (value_changed name (place_of found.place) ≡ d) ⊎ IsOtherOf name rows others d
+    back : (d : Difference) → IsOtherOf name (row ∷ rows) (other ∷ others) d → (value_changed name (place_of found.place) ≡ d)
+        ⊎ IsOtherOf name rows others d
     back d (place, same, have) = elim (other-cases row other rows others place have) [
       | inl is ↦ inl (ap (value_changed name) (place_is ∙ is) ∙ sym same)
       | inr more ↦ inr (place, same, more)
@@ -140,7 +146,8 @@ step-made name (row ∷ rows) (other ∷ others) found new beside (inr (differ, 
 -- ---- so far
 
 -- these attributes are left, and the others are told
-pub record IsHalfway (form : RowForm) (s : Schema) (real : ℕ → ℕ) (name : ℕ) (x y : Typed) (values : OtherValues) (old new : List ℕ) : Type 0 where
+pub record IsHalfway (form : RowForm) (s : Schema) (real : ℕ → ℕ) (name : ℕ) (x y : Typed) (values : OtherValues) (old new : List ℕ) : Type
+    0 where
   pub rows : List Row
   pub others : List Row
   pub differ : (place : Place) → HaveOtherAt rows others place ↔ HasOtherValue x y place
@@ -148,16 +155,19 @@ pub record IsHalfway (form : RowForm) (s : Schema) (real : ℕ → ℕ) (name : 
   pub left_ : List Row
   pub tells : TellsBoth values left left_
   pub beside : HaveOnePlaces left left_
-  pub adds : AddsRows form s real (λ (list : List Difference). (d : Difference) → (Contains list d ⊎ IsOtherOf name left left_ d) ↔ IsOtherOf name rows others d) old new
+  pub adds : AddsRows form s real (λ (list : List Difference). (d : Difference) → (Contains list d ⊎ IsOtherOf name left left_ d)
+      ↔ IsOtherOf name rows others d) old new
 
 module _ (form : RowForm) (s : Schema) (real : ℕ → ℕ) (name : ℕ) (x y : Typed) where
   module _ (rows others left left_ : List Row) where
     abbrev AreTold : List Difference → Type 0
     AreTold list = (d : Difference) → (Contains list d ⊎ IsOtherOf name left left_ d) ↔ IsOtherOf name rows others d
 
-  pub values-more : (values values_ : OtherValues) (found : OtherValue) (old text new : List ℕ) → IsHalfway form s real name x y values old text
+  pub values-more : (values values_ : OtherValues) (found : OtherValue) (old text new : List ℕ)
+      → IsHalfway form s real name x y values old text
       → ((left left_ : List Row) → TellsBoth values left left_ → HandsOutOther left left_ (Some found) values_)
-      → AddsRows form s real (TellsAlone (value_changed name (place_of found.place) ∷ [])) text new → IsHalfway form s real name x y values_ old new
+      → AddsRows form s real (TellsAlone (value_changed name (place_of found.place) ∷ [])) text new
+      → IsHalfway form s real name x y values_ old new
   values-more values values_ found old text new h hands adds =
       let step = step-made name h.left h.left_ found values_ h.beside (hands h.left h.left_ h.tells) in
       let v = value_changed name (place_of found.place) in
@@ -169,27 +179,34 @@ module _ (form : RowForm) (s : Schema) (real : ℕ → ℕ) (name : ℕ) (x y : 
         left_ = step.left_;
         tells = step.tells;
         beside = step.beside;
-        adds = more-added form s real (AreTold h.rows h.others h.left h.left_) (TellsAlone (v ∷ [])) (AreTold h.rows h.others step.left step.left_) old text new
-            (λ list more told is. let All : List Difference → Type 0 = λ m. AreTold h.rows h.others step.left step.left_ (list ++ m) in subst All (sym is) (λ d. (there step list told d, back step list told d)))
+        adds = more-added form s real (AreTold h.rows h.others h.left h.left_) (TellsAlone (v ∷ []))
+            (AreTold h.rows h.others step.left step.left_) old text new
+            (λ list more told is. let All : List Difference → Type 0 = λ m. AreTold h.rows h.others step.left step.left_ (list ++ m) in
+            subst All (sym is) (λ d. (there step list told d, back step list told d)))
             h.adds adds;
       }
     where
-      there : (step : IsStep name h.left h.left_ found values_) (list : List Difference) → AreTold h.rows h.others h.left h.left_ list → (d : Difference)
-          → Contains (list ++ (value_changed name (place_of found.place) ∷ [])) d ⊎ IsOtherOf name step.left step.left_ d → IsOtherOf name h.rows h.others d
+      there : (step : IsStep name h.left h.left_ found values_) (list : List Difference) → AreTold h.rows h.others h.left h.left_ list
+          → (d : Difference)
+          → Contains (list ++ (value_changed name (place_of found.place) ∷ [])) d ⊎ IsOtherOf name step.left step.left_ d
+          → IsOtherOf name h.rows h.others d
       there step list told d (inl among) = elim (member-of list (value_changed name (place_of found.place) ∷ []) d among) [
         | inl front ↦ (told d).0 (inl front)
         | inr back ↦ (told d).0 (inr ((step.told d).0 (inl (member-alone (value_changed name (place_of found.place)) d back))))
       ]
       there step list told d (inr left) = (told d).0 (inr ((step.told d).0 (inr left)))
 
-      back : (step : IsStep name h.left h.left_ found values_) (list : List Difference) → AreTold h.rows h.others h.left h.left_ list → (d : Difference)
-          → IsOtherOf name h.rows h.others d → Contains (list ++ (value_changed name (place_of found.place) ∷ [])) d ⊎ IsOtherOf name step.left step.left_ d
+      back : (step : IsStep name h.left h.left_ found values_) (list : List Difference) → AreTold h.rows h.others h.left h.left_ list
+          → (d : Difference)
+          → IsOtherOf name h.rows h.others d → Contains (list ++ (value_changed name (place_of found.place) ∷ [])) d
+          ⊎ IsOtherOf name step.left step.left_ d
       back step list told d is = elim ((told d).1 is) [
         | inl front ↦ inl (member-front list (value_changed name (place_of found.place) ∷ []) d front)
         | inr left ↦ elim ((step.told d).1 left) [
           | inl same ↦
               let P : Difference → Type 0 = λ e. Contains (list ++ (value_changed name (place_of found.place) ∷ [])) e in
-              inl (subst P same (member-back list (value_changed name (place_of found.place) ∷ []) (value_changed name (place_of found.place)) (Contains-first (value_changed name (place_of found.place)) [])))
+              inl (subst P same (member-back list (value_changed name (place_of found.place) ∷ [])
+              (value_changed name (place_of found.place)) (Contains-first (value_changed name (place_of found.place)) [])))
           | inr more ↦ inr more
         ]
       ]
@@ -198,18 +215,22 @@ module _ (form : RowForm) (s : Schema) (real : ℕ → ℕ) (name : ℕ) (x y : 
       → ((left left_ : List Row) → TellsBoth values left left_ → HandsOutOther left left_ None values_)
       → AddsRows form s real (TellsValues x y name) old new
   values-ended values values_ old new h hands =
-      weaker-added form s real (AreTold h.rows h.others h.left h.left_) (TellsValues x y name) old new (λ list told d. (there list told d, back list told d)) h.adds
+      weaker-added form s real (AreTold h.rows h.others h.left h.left_) (TellsValues x y name) old new
+      (λ list told d. (there list told d, back list told d)) h.adds
     where
-      there : (list : List Difference) → AreTold h.rows h.others h.left h.left_ list → (d : Difference) → Contains list d → (place : Place) × (d ≡ value_changed name place) × HasOtherValue x y place
+      there : (list : List Difference) → AreTold h.rows h.others h.left h.left_ list → (d : Difference) → Contains list d
+          → (place : Place) × (d ≡ value_changed name place) × HasOtherValue x y place
       there list told d among = let (place, is, have) = (told d).0 (inl among) in (place, is, (h.differ place).0 have)
 
-      back : (list : List Difference) → AreTold h.rows h.others h.left h.left_ list → (d : Difference) → (place : Place) × (d ≡ value_changed name place) × HasOtherValue x y place → Contains list d
+      back : (list : List Difference) → AreTold h.rows h.others h.left h.left_ list → (d : Difference)
+          → (place : Place) × (d ≡ value_changed name place) × HasOtherValue x y place → Contains list d
       back list told d (place, is, other) = elim ((told d).1 (place, is, (h.differ place).1 other)) [
         | inl among ↦ among
         | inr (at, same, have) ↦ absurd (none-other h.left h.left_ values_ (hands h.left h.left_ h.tells) at have)
       ]
 
-pub values-begun : (form : RowForm) (s : Schema) (real : ℕ → ℕ) (name m : ℕ) (r q : Record) (line text : List ℕ) (first : IsInstanceText s name r line) (second : IsInstanceText s m q text) (values : OtherValues) (old : List ℕ)
+pub values-begun : (form : RowForm) (s : Schema) (real : ℕ → ℕ) (name m : ℕ) (r q : Record) (line text : List ℕ)
+    (first : IsInstanceText s name r line) (second : IsInstanceText s m q text) (values : OtherValues) (old : List ℕ)
     → TellsDifferences first second values → IsHalfway form s real name first.canonical_meaning second.canonical_meaning values old old
 values-begun form s real name m r q line text first second values old tells = record {
   rows = tells.rows;

@@ -4,3 +4,4 @@ pub mod Along
 pub mod Beside
 pub mod Walk
 pub mod Listing
+mod PairRows

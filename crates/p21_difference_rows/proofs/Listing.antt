@@ -1,9 +1,9 @@
 -- The rows about a name, and the whole list.
-use Rattle.std.specs.Prelude.{◌≡◌, ◌≢◌, ◌↔◌, ℕ, List, [], ◌∷◌, ◌++◌, refl}
+use Rattle.std.specs.Prelude.{◌≡◌, ℕ, List, [], ◌∷◌, ◌++◌, refl}
 use Rattle.std.proofs.Common.{ap, sym, subst, ◌∙◌}
 use Rattle.std.proofs.lemmas.List.{append_assoc}
 use Rattle.p21_difference_rows.proofs.Adding.{more-added, weaker-added}
-use Rattle.p21_difference_rows.proofs.Walk.{IsMeant, came-told, meant, set-told, sets-are, values-meant, values-told, went-told}
+use Rattle.p21_difference_rows.proofs.Walk.{IsMeant, came-told, set-told, sets-are, values-meant, values-told, went-told}
 use Rattle.p21_difference_rows.specs.Fronts.{end_front}
 use Rattle.p21_difference_rows.specs.Listed.{IsListOfOthers, TellsInstances, rows_text}
 use Rattle.p21_difference_rows.specs.Steps.{AddsRest, AddsRows, TellsAlone, TellsNone, TellsOf, TellsValues}
@@ -11,13 +11,10 @@ use Rattle.p21_difference_rows.specs.declared.row.RowForm.{RowForm}
 use Rattle.p21_differences.proofs.Naming.{sets-tell}
 use Rattle.p21_differences.specs.Changes.{changed_name}
 use Rattle.p21_differences.specs.declared.change.Change.{Change}
-use Rattle.p21_model.specs.Kept.{IsKeptLine}
 use Rattle.p21_spec_differences.specs.Difference.{AreMeant, Difference, Differs, instance_came, instance_went, set_changed}
 use Rattle.p21_spec_file.specs.File.{FileMeaning}
 use Rattle.p21_spec_file.specs.Meaning.{Typed}
 use Rattle.p21_spec_schema.specs.Schema.{Schema}
-use Rattle.p21_spec_schema.specs.WellFormed.{IsWellFormed}
-use Rattle.p21_stream_store.specs.StoredInstance.{StoredInstance}
 
 -- ---- a name
 
@@ -44,27 +41,35 @@ module _ (form : RowForm) (s : Schema) (real : ℕ → ℕ) (a b : FileMeaning) 
   module _ (line text : List ℕ) (first : IsMeant s a name line) (second : IsMeant s b name text) where
     pub set-listed : Differs a b (set_changed name) → AddsAlone (set_changed name) → AddsRows form s real IsTold old new
     set-listed (x, y, at, differ) adds =
-        alone-listed (set_changed name) (set-told a b name s line text first second (λ same. differ ((sets-are a b name s line text first second name x y refl at).1 same))) adds
+        alone-listed (set_changed name) (set-told a b name s line text first second
+        (λ same. differ ((sets-are a b name s line text first second name x y refl at).1 same))) adds
 
     -- the canonical records of both lines have one set
-    pub one-set : (x y : Typed) → AreMeant a b name x y → x.entities ≡ y.entities → first.is_line.stated.canonical_meaning.entities ≡ second.is_line.stated.canonical_meaning.entities
-    one-set x y at set = (sets-tell s name name line text first.x second.x first.is_line second.is_line).0 ((sets-are a b name s line text first second name x y refl at).0 set)
+    pub one-set : (x y : Typed) → AreMeant a b name x y → x.entities ≡ y.entities
+        → first.is_line.stated.canonical_meaning.entities ≡ second.is_line.stated.canonical_meaning.entities
+    one-set x y at set = (sets-tell s name name line text first.x second.x first.is_line second.is_line).0
+        ((sets-are a b name s line text first second name x y refl at).0 set)
 
     pub values-listed : (x y : Typed) → AreMeant a b name x y → x.entities ≡ y.entities
-        → AddsRows form s real (TellsValues first.is_line.stated.canonical_meaning second.is_line.stated.canonical_meaning name) old new → AddsRows form s real IsTold old new
+        → AddsRows form s real (TellsValues first.is_line.stated.canonical_meaning second.is_line.stated.canonical_meaning name) old new
+        → AddsRows form s real IsTold old new
     values-listed x y at set adds =
-        weaker-added form s real (TellsValues first.is_line.stated.canonical_meaning second.is_line.stated.canonical_meaning name) IsTold old new
-        (λ list told. values-told a b name s line text first second ((sets-are a b name s line text first second name x y refl at).0 set) list
+        weaker-added form s real (TellsValues first.is_line.stated.canonical_meaning second.is_line.stated.canonical_meaning name) IsTold
+        old new
+        (λ list told. values-told a b name s line text first second ((sets-are a b name s line text first second name x y refl at).0 set)
+        list
         (values-meant s name line text first.x second.x first.is_line second.is_line list told)) adds
 
 -- ---- the list
 
 module _ (form : RowForm) (s : Schema) (real : ℕ → ℕ) (a b : FileMeaning) where
-  pub list-made : (outlines instances text : List ℕ) → AddsRows form s real TellsNone [] outlines → AddsRows form s real (TellsInstances a b) outlines instances → AddsRest (instances ++ end_front form) text
+  pub list-made : (outlines instances text : List ℕ) → AddsRows form s real TellsNone [] outlines
+      → AddsRows form s real (TellsInstances a b) outlines instances → AddsRest (instances ++ end_front form) text
       → IsListOfOthers form s real a b text
   list-made outlines instances text first second end =
       let Is : List Difference → Type 0 = TellsInstances a b in
-      let all : AddsRows form s real Is [] instances = more-added form s real TellsNone Is Is [] outlines instances (λ list more none told. subst (λ (l : List Difference). Is (l ++ more)) (sym none) told) first second in record {
+      let all : AddsRows form s real Is [] instances = more-added form s real TellsNone Is Is [] outlines instances
+      (λ list more none told. subst (λ (l : List Difference). Is (l ++ more)) (sym none) told) first second in record {
         rows = all.rows;
         are_lines = all.are_lines;
         end = end.rest;

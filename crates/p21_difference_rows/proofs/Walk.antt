@@ -1,5 +1,5 @@
 -- The differences of instances, told name by name.
-use Rattle.std.specs.Prelude.{◌≡◌, ◌≢◌, ◌↔◌, ◌⊎◌, ◌<◌, ◌≤◌, ◌+◌, ◌^◌, ℕ, List, [], ◌∷◌, ◌++◌, Option, Some, None, Contains, refl}
+use Rattle.std.specs.Prelude.{◌≡◌, ◌≢◌, ◌↔◌, ◌⊎◌, ◌<◌, ◌≤◌, ◌+◌, ◌^◌, ℕ, List, [], ◌∷◌, ◌++◌, Some, None, Contains, refl}
 use Rattle.std.specs.List.{AllByRecursion as Each}
 use Rattle.std.proofs.Common.{arith, ap, sym, subst, ◌∙◌, inl, inr}
 use Rattle.p21_difference_rows.proofs.Along.{other-along, other-back}
@@ -7,24 +7,23 @@ use Rattle.p21_difference_rows.proofs.Beside.{member-alone, member-back, member-
 use Rattle.p21_difference_rows.specs.Listed.{IsOfInstance, TellsInstances}
 use Rattle.p21_difference_rows.specs.Steps.{TellsOf, TellsValues, name_of}
 use Rattle.p21_differences.proofs.Naming.{lines-tell}
-use Rattle.p21_differences.specs.Changes.{FindsChange, IsChange, MeanSame, changed_name}
+use Rattle.p21_differences.specs.Changes.{FindsChange, MeanSame, changed_name}
 use Rattle.p21_differences.specs.Lines.{AreLinesOf, IsLineOf}
 use Rattle.p21_differences.specs.declared.change.Change.{Change}
 use Rattle.p21_model.specs.Kept.{IsKeptLine}
 use Rattle.p21_spec_basics.proofs.Members.{Contains-first, Contains-mapped, Contains-none, Contains-unmapped}
 use Rattle.p21_spec_basics.proofs.Shuffles.{NoneTwice}
 use Rattle.p21_spec_differences.proofs.Values.{entities-once, none-other}
-use Rattle.p21_spec_differences.specs.Difference.{AreMeant, Difference, Differs, HasOtherValue, instance_came, instance_went, set_changed, value_changed}
+use Rattle.p21_spec_differences.specs.Difference.{AreMeant, Difference, Differs, instance_came, instance_went, set_changed, value_changed}
 use Rattle.p21_spec_exchange.specs.Statement.{instance, statement_tokens}
 use Rattle.p21_spec_exchange.specs.Token.{IsSpelled}
-use Rattle.p21_spec_file.proofs.SameFiles.{SameTyped-symmetric}
 use Rattle.p21_spec_file.specs.File.{FileMeaning}
 use Rattle.p21_spec_file.specs.Meaning.{Typed}
 use Rattle.p21_spec_file.specs.SameFile.{SameTyped}
 use Rattle.p21_spec_laws.proofs.CanonicalLaid.{laid-each_spelled}
 use Rattle.p21_spec_laws.proofs.InstanceTexts.{canonical-written}
 use Rattle.p21_spec_numbering.specs.Renamed.{names}
-use Rattle.p21_spec_schema.specs.Schema.{Place, Schema}
+use Rattle.p21_spec_schema.specs.Schema.{Schema}
 use Rattle.p21_spec_schema.specs.WellFormed.{IsWellFormed}
 use Rattle.p21_stream_store.specs.StoredInstance.{StoredInstance, instance_names}
 
@@ -43,7 +42,8 @@ pub record IsMeant (s : Schema) (m : FileMeaning) (name : ℕ) (line : List ℕ)
 module _ (s : Schema) (formed : IsWellFormed s) (m : FileMeaning) (kept : List StoredInstance) (are : AreLinesOf s m kept) where
   pub meant : (name : ℕ) (line : List ℕ) → IsKeptLine kept name line → IsMeant s m name line
   meant name line is =
-      let named : Contains (instance_names kept) name = Contains-mapped (λ (x : StoredInstance). x.name) kept (record { name = name; membership = is.0; text = line }) is.1 in
+      let named : Contains (instance_names kept) name = Contains-mapped (λ (x : StoredInstance). x.name) kept
+      (record { name = name; membership = is.0; text = line }) is.1 in
       let (i, at, same) = Contains-unmapped (λ (i : ℕ × Typed). i.0) m.instances name ((are.names_are name).1 named) in
       let P : ℕ → Type 0 = λ n. Contains m.instances (n, i.1) in
       let own : Contains m.instances (name, i.1) = subst P same at in
@@ -68,14 +68,21 @@ module _ (s : Schema) (formed : IsWellFormed s) (m : FileMeaning) (kept : List S
       let is_line = are.lines_are name line y is at in
       let stated = is_line.stated in
       subst NoneTwice is_line.same.0
-      (entities-once s stated.kinds stated.canonical_meaning (record { record_ = stated.canonical; means = stated.canonical_means; spelled = canonical-written s name is_line.record_ line stated }))
+      (entities-once s stated.kinds stated.canonical_meaning
+      (record {
+        record_ = stated.canonical;
+        means = stated.canonical_means;
+        spelled =
+            canonical-written s name is_line.record_ line stated;
+      }))
 
   -- no name has more than 64 bits
   pub name-low : (name : ℕ) → Contains (names m) name → name < 2 ^ 64
   name-low name among =
       let (line, is) = line-of name among in
       let stated = (meant name line is).is_line.stated in
-      let spelled : Each IsSpelled (statement_tokens (instance name stated.canonical)) = laid-each_spelled line (statement_tokens (instance name stated.canonical)) stated.laid in
+      let spelled : Each IsSpelled (statement_tokens (instance name stated.canonical)) =
+      laid-each_spelled line (statement_tokens (instance name stated.canonical)) stated.laid in
       spelled.0.1.in_range
 
 -- ---- a name in two files
@@ -94,20 +101,28 @@ module _ (a b : FileMeaning) (name : ℕ) where
   came-told has lacks d = (alone-told (instance_came name) (tt, refl, (has, lacks)) d, back d)
     where
       back : (e : Difference) → IsTold e → Contains (instance_came name ∷ []) e
-      back (instance_came k) (of, is, differs) = let P : ℕ → Type 0 = λ n. Contains (instance_came name ∷ []) (instance_came n) in subst P (sym is) (Contains-first (instance_came name) [])
-      back (instance_went k) (of, is, (has_, lacks_)) = let P : ℕ → Type 0 = λ n. Contains (names b) n in absurd (lacks_ (subst P (sym is) has))
-      back (set_changed k) (of, is, (x, y, at, differ)) = let P : ℕ → Type 0 = λ n. Contains (names a) n in absurd (lacks (subst P is (named-meant a k x at.0)))
-      back (value_changed k place) (of, is, (x, y, at, set, differ)) = let P : ℕ → Type 0 = λ n. Contains (names a) n in absurd (lacks (subst P is (named-meant a k x at.0)))
+      back (instance_came k) (of, is, differs) = let P : ℕ
+          → Type 0 = λ n. Contains (instance_came name ∷ []) (instance_came n) in subst P (sym is) (Contains-first (instance_came name) [])
+      back (instance_went k) (of, is, (has_, lacks_)) = let P : ℕ
+          → Type 0 = λ n. Contains (names b) n in absurd (lacks_ (subst P (sym is) has))
+      back (set_changed k) (of, is, (x, y, at, differ)) = let P : ℕ
+          → Type 0 = λ n. Contains (names a) n in absurd (lacks (subst P is (named-meant a k x at.0)))
+      back (value_changed k place) (of, is, (x, y, at, set, differ)) = let P : ℕ
+          → Type 0 = λ n. Contains (names a) n in absurd (lacks (subst P is (named-meant a k x at.0)))
       back other (of, is, differs) = absurd of
 
   pub went-told : Contains (names a) name → ¬ Contains (names b) name → TellsName (instance_went name ∷ [])
   went-told has lacks d = (alone-told (instance_went name) (tt, refl, (has, lacks)) d, back d)
     where
       back : (e : Difference) → IsTold e → Contains (instance_went name ∷ []) e
-      back (instance_came k) (of, is, (has_, lacks_)) = let P : ℕ → Type 0 = λ n. Contains (names a) n in absurd (lacks_ (subst P (sym is) has))
-      back (instance_went k) (of, is, differs) = let P : ℕ → Type 0 = λ n. Contains (instance_went name ∷ []) (instance_went n) in subst P (sym is) (Contains-first (instance_went name) [])
-      back (set_changed k) (of, is, (x, y, at, differ)) = let P : ℕ → Type 0 = λ n. Contains (names b) n in absurd (lacks (subst P is (named-meant b k y at.1)))
-      back (value_changed k place) (of, is, (x, y, at, set, differ)) = let P : ℕ → Type 0 = λ n. Contains (names b) n in absurd (lacks (subst P is (named-meant b k y at.1)))
+      back (instance_came k) (of, is, (has_, lacks_)) = let P : ℕ
+          → Type 0 = λ n. Contains (names a) n in absurd (lacks_ (subst P (sym is) has))
+      back (instance_went k) (of, is, differs) = let P : ℕ
+          → Type 0 = λ n. Contains (instance_went name ∷ []) (instance_went n) in subst P (sym is) (Contains-first (instance_went name) [])
+      back (set_changed k) (of, is, (x, y, at, differ)) = let P : ℕ
+          → Type 0 = λ n. Contains (names b) n in absurd (lacks (subst P is (named-meant b k y at.1)))
+      back (value_changed k place) (of, is, (x, y, at, set, differ)) = let P : ℕ
+          → Type 0 = λ n. Contains (names b) n in absurd (lacks (subst P is (named-meant b k y at.1)))
       back other (of, is, differs) = absurd of
 
   -- both files have it
@@ -119,7 +134,8 @@ module _ (a b : FileMeaning) (name : ℕ) where
     one-second k y is at = let P : ℕ → Type 0 = λ n. Contains b.instances (n, y) in second.one y (subst P is at)
 
     -- the sets of others are those
-    pub sets-are : (k : ℕ) (x y : Typed) → k ≡ name → AreMeant a b k x y → (x.entities ≡ y.entities) ↔ (first.x.entities ≡ second.x.entities)
+    pub sets-are : (k : ℕ) (x y : Typed) → k ≡ name → AreMeant a b k x y → (x.entities ≡ y.entities)
+        ↔ (first.x.entities ≡ second.x.entities)
     sets-are k x y is at =
         let own = (one-first k x is at.0).0 in
         let own_ = (one-second k y is at.1).0 in
@@ -136,11 +152,13 @@ module _ (a b : FileMeaning) (name : ℕ) where
         back : (e : Difference) → IsTold e → Contains (set_changed name ∷ []) e
         back (instance_came k) (of, is, (has_, lacks_)) = absurd (lacks_ (neither-lacks k is).0)
         back (instance_went k) (of, is, (has_, lacks_)) = absurd (lacks_ (neither-lacks k is).1)
-        back (set_changed k) (of, is, differs) = let P : ℕ → Type 0 = λ n. Contains (set_changed name ∷ []) (set_changed n) in subst P (sym is) (Contains-first (set_changed name) [])
+        back (set_changed k) (of, is, differs) = let P : ℕ
+            → Type 0 = λ n. Contains (set_changed name ∷ []) (set_changed n) in subst P (sym is) (Contains-first (set_changed name) [])
         back (value_changed k place) (of, is, (x, y, at, set, other)) = absurd (differ ((sets-are k x y is at).0 set))
         back other (of, is, differs) = absurd of
 
-    pub values-told : first.x.entities ≡ second.x.entities → (list : List Difference) → TellsValues first.x second.x name list → TellsName list
+    pub values-told : first.x.entities ≡ second.x.entities → (list : List Difference) → TellsValues first.x second.x name list
+        → TellsName list
     values-told same list tells d = (there d, back d)
       where
         there : (e : Difference) → Contains list e → IsTold e
@@ -153,27 +171,40 @@ module _ (a b : FileMeaning) (name : ℕ) where
         back (instance_went k) (of, is, (has_, lacks_)) = absurd (lacks_ (neither-lacks k is).1)
         back (set_changed k) (of, is, (x, y, at, differ)) = absurd (differ ((sets-are k x y is at).1 same))
         back (value_changed k place) (of, is, (x, y, at, set, other)) =
-            (tells (value_changed k place)).1
-            (place, ap (λ (n : ℕ). value_changed n place) is, other-back first.x second.x x y (one-first k x is at.0) (one-second k y is at.1) place other)
+            (tells (value_changed k place)).1 (
+              place,
+              ap (λ (n : ℕ). value_changed n place) is,
+              other-back first.x second.x x y (one-first k x is at.0)
+                  (one-second k y is at.1) place other,
+            )
         back other (of, is, differs) = absurd of
 
 -- the canonical meanings of two lines are those of the names
-pub values-meant : (s : Schema) (n : ℕ) (line text : List ℕ) (x y : Typed) (first : IsLineOf s n line x) (second : IsLineOf s n text y) (list : List Difference)
+pub values-meant : (s : Schema) (n : ℕ) (line text : List ℕ) (x y : Typed) (first : IsLineOf s n line x) (second : IsLineOf s n text y)
+    (list : List Difference)
     → TellsValues first.stated.canonical_meaning second.stated.canonical_meaning n list → TellsValues x y n list
 values-meant s n line text x y first second list tells d = (
-  λ among. let (place, is, other) = (tells d).0 among in (place, is, other-along first.stated.canonical_meaning second.stated.canonical_meaning x y first.same second.same place other),
-  λ (place, is, other). (tells d).1 (place, is, other-back first.stated.canonical_meaning second.stated.canonical_meaning x y first.same second.same place other),
+  λ among. let (place, is, other) = (tells d).0 among in
+      (place, is, other-along first.stated.canonical_meaning second.stated.canonical_meaning x y first.same second.same place other),
+  λ (place, is, other). (tells d).1 (
+    place,
+    is,
+    other-back first.stated.canonical_meaning second.stated.canonical_meaning x y first.same
+        second.same place other,
+  ),
 )
 
 -- ---- name by name
 
-module _ (s : Schema) (formed : IsWellFormed s) (a b : FileMeaning) (kept others : List StoredInstance) (are : AreLinesOf s a kept) (are_ : AreLinesOf s b others) where
+module _ (s : Schema) (formed : IsWellFormed s) (a b : FileMeaning) (kept others : List StoredInstance) (are : AreLinesOf s a kept)
+    (are_ : AreLinesOf s b others) where
   -- of a name of which both files say the same nothing differs
   same-none : (d : Difference) → MeanSame a b (name_of d) → IsOfInstance d → ¬ Differs a b d
   same-none (instance_came k) same of (has, lacks) = lacks (same.both.1 has)
   same-none (instance_went k) same of (has, lacks) = lacks (same.both.0 has)
   same-none (set_changed k) same of (x, y, at, differ) = differ (same.same x y at.0 at.1).0
-  same-none (value_changed k place) same of (x, y, at, set, differ) = none-other x y (set-once s formed b others are_ k y at.1) (same.same x y at.0 at.1) place differ
+  same-none (value_changed k place) same of (x, y, at, set, differ) =
+      none-other x y (set-once s formed b others are_ k y at.1) (same.same x y at.0 at.1) place differ
   same-none other same of differs = absurd of
 
   either : (x y : ℕ) → (x < y) ⊎ (y ≤ x)
@@ -182,8 +213,10 @@ module _ (s : Schema) (formed : IsWellFormed s) (a b : FileMeaning) (kept others
   pub none-told : (least : ℕ) → least ≡ 0 → TellsOf (λ (n : ℕ). n < least) a b []
   none-told least is d = (λ among. absurd (Contains-none d among), λ (of, low, differs). absurd (omega (arith, low, is)))
 
-  pub next-told : (least next : ℕ) (found : Change) (list more : List Difference) → FindsChange a b least (Some found) → next ≡ changed_name found + 1
-      → TellsOf (λ (n : ℕ). n < least) a b list → TellsOf (λ (n : ℕ). n ≡ changed_name found) a b more → TellsOf (λ (n : ℕ). n < next) a b (list ++ more)
+  pub next-told : (least next : ℕ) (found : Change) (list more : List Difference) → FindsChange a b least (Some found)
+      → next ≡ changed_name found + 1
+      → TellsOf (λ (n : ℕ). n < least) a b list → TellsOf (λ (n : ℕ). n ≡ changed_name found) a b more
+      → TellsOf (λ (n : ℕ). n < next) a b (list ++ more)
   next-told least next found list more (change, from, between) next_is told told_ d = (there, back)
     where
       there : Contains (list ++ more) d → IsOfInstance d × (name_of d < next) × Differs a b d
@@ -201,7 +234,8 @@ module _ (s : Schema) (formed : IsWellFormed s) (a b : FileMeaning) (kept others
         ]
       ]
 
-  pub all-told : (least : ℕ) (list : List Difference) → FindsChange a b least None → TellsOf (λ (n : ℕ). n < least) a b list → TellsInstances a b list
+  pub all-told : (least : ℕ) (list : List Difference) → FindsChange a b least None → TellsOf (λ (n : ℕ). n < least) a b list
+      → TellsInstances a b list
   all-told least list none told d = (there, back)
     where
       there : Contains list d → IsOfInstance d × Differs a b d
@@ -221,7 +255,8 @@ module _ (s : Schema) (formed : IsWellFormed s) (a b : FileMeaning) (kept others
   differs-low (value_changed k place) of (x, y, at, set, differ) = name-low s formed a kept are k (named-meant a k x at.0)
   differs-low other of differs = absurd of
 
-  pub last-told : (least : ℕ) (found : Change) (list more : List Difference) → FindsChange a b least (Some found) → ¬ (changed_name found + 1 < 2 ^ 64)
+  pub last-told : (least : ℕ) (found : Change) (list more : List Difference) → FindsChange a b least (Some found)
+      → ¬ (changed_name found + 1 < 2 ^ 64)
       → TellsOf (λ (n : ℕ). n < least) a b list → TellsOf (λ (n : ℕ). n ≡ changed_name found) a b more → TellsInstances a b (list ++ more)
   last-told least found list more finds last told told_ d =
       let all = next-told least (changed_name found + 1) found list more finds refl told told_ d in (

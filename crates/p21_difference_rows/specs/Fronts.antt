@@ -40,7 +40,8 @@ named before name behind = before ++ (decimal name ++ behind)
 
 -- a text, the names of an instance in both files, as `17/#5`, or the one that it has in both, and a text
 abbrev pub both_named : List ℕ → ℕ → ℕ → List ℕ → List ℕ
-both_named before real name behind = if nat_eq real name then named before name behind else named before real (codes "/#" ++ (decimal name ++ behind))
+both_named before real name behind = if nat_eq real name then named before name behind else named before real
+    (codes "/#" ++ (decimal name ++ behind))
 
 -- of a line: `came #9 `, `went #7 `, `changed #6 from `, `changed #17/#5 CIRCLE.RADIUS `; `changed header `, `came section `,
 -- `moved #4 from `

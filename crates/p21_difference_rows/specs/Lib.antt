@@ -2,3 +2,4 @@ pub mod RealNames
 pub mod Fronts
 pub mod Listed
 pub mod Steps
+pub mod Pairs

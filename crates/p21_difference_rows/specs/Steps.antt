@@ -48,4 +48,5 @@ TellsOf IsName a b list = (d : Difference) → Contains list d ↔ (IsOfInstance
 
 -- exactly the attributes of this name are told at which the values differ
 abbrev pub TellsValues : Typed → Typed → ℕ → List Difference → Type 0
-TellsValues x y name list = (d : Difference) → Contains list d ↔ ((place : Place) × (d ≡ value_changed name place) × HasOtherValue x y place)
+TellsValues x y name list = (d : Difference) → Contains list d
+    ↔ ((place : Place) × (d ≡ value_changed name place) × HasOtherValue x y place)

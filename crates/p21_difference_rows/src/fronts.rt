@@ -20,7 +20,8 @@ pub(crate) fn push_front(
     text: &mut Vec<u8>,
 ) -> Result<(), NoMemory>
     requires { IsOfSchema style.now.schema.now subject.now }
-    ensures { OnOk result (text.new.items ≡ text.old.items ++ front style.now.form style.now.schema.now (real_name style.now.names) subject.now) }
+    ensures { OnOk result (text.new.items ≡ text.old.items
+        ++ front style.now.form style.now.schema.now (real_name style.now.names) subject.now) }
 {
     match style.form {
         RowForm::Text => push_line_front(style, subject, text),
@@ -171,7 +172,8 @@ fn push_attribute(
     text: &mut Vec<u8>,
 ) -> Result<(), NoMemory>
     requires { IsPlace schema.now (place_of place) }
-    ensures { OnOk result (text.new.items ≡ text.old.items ++ (entity_name schema.now (place_of place).entity ++ (between.now ++ (attribute_name schema.now (place_of place) ++ behind.now)))) }
+    ensures { OnOk result (text.new.items ≡ text.old.items
+        ++ (entity_name schema.now (place_of place).entity ++ (between.now ++ (attribute_name schema.now (place_of place) ++ behind.now)))) }
 {
     push(schema.entity_name(place.entity), text)?;
     push(between, text)?;

@@ -48,7 +48,8 @@ fn change_from<'a>(
     second: &'a Accepted,
     least: u64,
 ) -> Option<Change<'a>>
-    ensures found { (a b : FileMeaning) → AreLinesOf schema.now a first.now.kept → AreLinesOf schema.now b second.now.kept → FindsChange a b least result }
+    ensures found { (a b : FileMeaning) → AreLinesOf schema.now a first.now.kept → AreLinesOf schema.now b second.now.kept
+        → FindsChange a b least result }
     ensures of_files { IfSome result (λ change. IsOfFiles first.now.kept second.now.kept change) }
 {
     let files = TwoFiles {
@@ -61,7 +62,8 @@ fn change_from<'a>(
 
 /// The number behind the name that a change is about, if it has 64 bits and lies above this one.
 fn name_behind(change: &Change<'_>, least: u64) -> Option<u64>
-    ensures { MatchOption result (least ≤ changed_name change.now → ¬ (changed_name change.now + 1 < 2 ^ 64)) (λ next. (next ≡ changed_name change.now + 1) × (least < next)) }
+    ensures { MatchOption result (least ≤ changed_name change.now → ¬ (changed_name change.now + 1 < 2 ^ 64))
+        (λ next. (next ≡ changed_name change.now + 1) × (least < next)) }
 {
     let name = name_of(change);
     if name < least {
@@ -84,7 +86,8 @@ fn name_of(change: &Change<'_>) -> u64
 
 /// Puts the rows about a name.
 fn list_change(style: &Style<'_>, change: &Change<'_>, rows: &mut Rows) -> Result<(), NoMemory>
-    ensures { (a b : FileMeaning) (kept others : List StoredInstance) → AreLinesOf style.now.schema.now a kept → AreLinesOf style.now.schema.now b others →
+    ensures { (a b : FileMeaning) (kept others : List StoredInstance) → AreLinesOf style.now.schema.now a kept
+        → AreLinesOf style.now.schema.now b others →
         IsChange a b change.now → IsOfFiles kept others change.now →
         OnOk result (AddsRows style.now.form style.now.schema.now (real_name style.now.names) (TellsOf (λ (name : ℕ). name ≡ changed_name change.now) a b) rows.old.text.items rows.new.text.items) }
 {

@@ -5,6 +5,8 @@
 //! beginning, the values before and after with the index of the element that differs, is tested, and so are the rows about header
 //! sections, data sections and the sections of instances; but a row holds no line feed, so none can pass for two.
 //!
+//! `pair_rows` writes a row for each name that both files have, for a first file that stands under the names of partners.
+//!
 //! `instances` walks the names of both files, `values` the attributes of two instances, and `outlines` all else. `proofs/Walk` says
 //! what is listed so far, name by name, and `proofs/Values` does so attribute by attribute.
 #![tactic(auto)]
@@ -16,6 +18,7 @@ mod list;
 mod names;
 mod narrowing;
 mod outlines;
+mod pairs;
 mod pushing;
 mod references;
 mod row;
@@ -24,4 +27,5 @@ mod texts;
 mod values;
 
 pub use list::{DifferenceList, list_differences};
+pub use pairs::pair_rows;
 pub use row::{Happening, RowForm, Subject};

@@ -42,7 +42,8 @@ pub fn list_differences(
     files: TwoFiles<'_>,
 ) -> Result<DifferenceList, NoMemory>
     ensures same { IfOk result (λ found. IsTrue found.is_same ↔ (output_text files.entry.first.now ≡ output_text files.entry.second.now)) }
-    ensures list { (a b : FileMeaning) → AreLinesOf files.entry.schema.now a files.entry.first.now.kept → AreLinesOf files.entry.schema.now b files.entry.second.now.kept →
+    ensures list { (a b : FileMeaning) → AreLinesOf files.entry.schema.now a files.entry.first.now.kept
+        → AreLinesOf files.entry.schema.now b files.entry.second.now.kept →
         IfOk result (λ found. IsList form files.entry.schema.now (real_name names.entry) a b found.is_same found.text.items) }
 {
     let is_same = have_one_text(files.first, files.second);
@@ -81,7 +82,8 @@ fn text_of_others(
     names: Option<&BTreeMap<u64, u64>>,
     files: TwoFiles<'_>,
 ) -> Result<Vec<u8>, NoMemory>
-    ensures { (a b : FileMeaning) → AreLinesOf files.entry.schema.now a files.entry.first.now.kept → AreLinesOf files.entry.schema.now b files.entry.second.now.kept →
+    ensures { (a b : FileMeaning) → AreLinesOf files.entry.schema.now a files.entry.first.now.kept
+        → AreLinesOf files.entry.schema.now b files.entry.second.now.kept →
         IfOk result (λ text. IsListOfOthers form files.entry.schema.now (real_name names.entry) a b text.items) }
 {
     let style = Style {

@@ -21,7 +21,8 @@ pub(crate) fn list_outlines(
     after: &Accepted,
     rows: &mut Rows,
 ) -> Result<(), NoMemory>
-    ensures { OnOk result (AddsRows style.now.form style.now.schema.now (real_name style.now.names) TellsNone rows.old.text.items rows.new.text.items) }
+    ensures { OnOk result (AddsRows style.now.form style.now.schema.now (real_name style.now.names) TellsNone rows.old.text.items
+        rows.new.text.items) }
 {
     let first = Outline::new(style.alloc, before)?;
     let second = Outline::new(style.alloc, after)?;
@@ -40,7 +41,8 @@ fn list_headers(
     second: &Outline,
     rows: &mut Rows,
 ) -> Result<(), NoMemory>
-    ensures { OnOk result (AddsRows style.now.form style.now.schema.now (real_name style.now.names) TellsNone rows.old.text.items rows.new.text.items) }
+    ensures { OnOk result (AddsRows style.now.form style.now.schema.now (real_name style.now.names) TellsNone rows.old.text.items
+        rows.new.text.items) }
 {
     let mut changes = first.record_changes(second);
     for _ in 0..u64::MAX {
@@ -54,7 +56,8 @@ fn list_headers(
 
 /// Puts rows for what changed about a header record.
 fn list_record(style: &Style<'_>, change: RecordChange<'_>, rows: &mut Rows) -> Result<(), NoMemory>
-    ensures { OnOk result (AddsRows style.now.form style.now.schema.now (real_name style.now.names) TellsNone rows.old.text.items rows.new.text.items) }
+    ensures { OnOk result (AddsRows style.now.form style.now.schema.now (real_name style.now.names) TellsNone rows.old.text.items
+        rows.new.text.items) }
 {
     let mut rest = Vec::new(style.alloc);
     match change {
@@ -106,7 +109,8 @@ fn list_parameters(
     other: &[u8],
     rows: &mut Rows,
 ) -> Result<(), NoMemory>
-    ensures { OnOk result (AddsRows style.now.form style.now.schema.now (real_name style.now.names) TellsNone rows.old.text.items rows.new.text.items) }
+    ensures { OnOk result (AddsRows style.now.form style.now.schema.now (real_name style.now.names) TellsNone rows.old.text.items
+        rows.new.text.items) }
 {
     let mut parameters = OtherParameters::new(line, other);
     for _ in 0..u64::MAX {
@@ -156,7 +160,8 @@ fn list_sections(
     second: &Outline,
     rows: &mut Rows,
 ) -> Result<(), NoMemory>
-    ensures { OnOk result (AddsRows style.now.form style.now.schema.now (real_name style.now.names) TellsNone rows.old.text.items rows.new.text.items) }
+    ensures { OnOk result (AddsRows style.now.form style.now.schema.now (real_name style.now.names) TellsNone rows.old.text.items
+        rows.new.text.items) }
 {
     let mut changes = first.section_changes(second);
     for _ in 0..u64::MAX {
@@ -181,7 +186,8 @@ fn list_moved<'a>(
     second: &'a Accepted,
     rows: &mut Rows,
 ) -> Result<(), NoMemory>
-    ensures { OnOk result (AddsRows style.now.form style.now.schema.now (real_name style.now.names) TellsNone rows.old.text.items rows.new.text.items) }
+    ensures { OnOk result (AddsRows style.now.form style.now.schema.now (real_name style.now.names) TellsNone rows.old.text.items
+        rows.new.text.items) }
 {
     let mut least = 0;
     for _ in 0..u64::MAX {

@@ -41,7 +41,8 @@ pub(crate) fn put(
     rows: &mut Rows,
 ) -> Result<(), NoMemory>
     requires { IsOfSchema style.now.schema.now subject.now }
-    ensures { OnOk result (AddsRows style.now.form style.now.schema.now (real_name style.now.names) (TellsAlone (told subject.now)) rows.old.text.items rows.new.text.items) }
+    ensures { OnOk result (AddsRows style.now.form style.now.schema.now (real_name style.now.names) (TellsAlone (told subject.now))
+        rows.old.text.items rows.new.text.items) }
 {
     count(happening_of(subject), rows);
     push_front(style, subject, &mut rows.text)?;

@@ -48,7 +48,8 @@ sum-within {X} f (x ∷ xs) ys none onto =
 
 -- ---- lines at their headings
 
-joined-none_twice : {X : Type 0} (xs ys : List X) → NoneTwice xs → NoneTwice ys → ((x : X) → Contains xs x → ¬ Contains ys x) → NoneTwice (xs ++ ys)
+joined-none_twice : {X : Type 0} (xs ys : List X) → NoneTwice xs → NoneTwice ys → ((x : X) → Contains xs x → ¬ Contains ys x)
+    → NoneTwice (xs ++ ys)
 joined-none_twice [] ys none none_ apart = none_
 joined-none_twice (x ∷ xs) ys none none_ apart = (
   λ among. elim (Contains-append_cases xs ys x among) [
@@ -79,7 +80,9 @@ placed-heading bs p among =
 placed-none_twice : (bs : List Block) → NoneTwice (block_headings bs) → Each AreLinesRising bs → NoneTwice (flat_map lines_with_heading bs)
 placed-none_twice [] none rise = tt
 placed-none_twice (b ∷ bs) none rise =
-    joined-none_twice (lines_with_heading b) (flat_map lines_with_heading bs) (placed-once b.heading b.lines (rises-none_twice nat_cmp nat_cmp_total (λ (l : Line). l.0) b.lines (rises-mapped nat_cmp (λ (l : Line). l.0) b.lines rise.0)))
+    joined-none_twice (lines_with_heading b) (flat_map lines_with_heading bs)
+    (placed-once b.heading b.lines (rises-none_twice nat_cmp nat_cmp_total (λ (l : Line). l.0) b.lines
+    (rises-mapped nat_cmp (λ (l : Line). l.0) b.lines rise.0)))
     (placed-none_twice bs none.1 rise.1)
     (λ p at among. none.0 (
     let (l, at_l, is) = Contains-unmapped (λ (x : Line). (b.heading, x)) b.lines p at in
@@ -104,7 +107,8 @@ own-lines h (l ∷ ls) =
     let rest = own-lines h ls in
     omega (arith, long, own, rest)
 
-blocks-size : (bs : List Block) → length (flat_map block_bytes bs) ≡ sum_by heading_size (block_headings bs) + sum_by placed_size (flat_map lines_with_heading bs)
+blocks-size : (bs : List Block) → length (flat_map block_bytes bs) ≡ sum_by heading_size (block_headings bs) + sum_by placed_size
+    (flat_map lines_with_heading bs)
 unfolding heading_size
 blocks-size [] = refl
 blocks-size (b ∷ bs) =
@@ -127,7 +131,8 @@ head_at headings number = elim (slice_get headings number) [ Some h ↦ h | None
 placed : List Heading → StoredEntry → Heading × Line
 placed headings x = (head_at headings x.section, (x.name, x.text))
 
-placed-names : (headings : List Heading) (stored : List StoredEntry) → map (λ (p : Heading × Line). p.1.0) (map (placed headings) stored) ≡ map (λ (x : StoredEntry). x.name) stored
+placed-names : (headings : List Heading) (stored : List StoredEntry)
+    → map (λ (p : Heading × Line). p.1.0) (map (placed headings) stored) ≡ map (λ (x : StoredEntry). x.name) stored
 unfolding placed
 placed-names headings [] = refl
 placed-names headings (x ∷ xs) = ap (λ (ns : List ℕ). x.name ∷ ns) (placed-names headings xs)
@@ -137,7 +142,8 @@ keyed-once key [] none = tt
 keyed-once key (x ∷ xs) none = (λ among. none.0 (Contains-mapped key xs x among), keyed-once key xs none.1)
 
 -- a line has one byte more than its text
-placed-sizes : (headings : List Heading) (stored : List StoredEntry) → sum_by placed_size (map (placed headings) stored) ≡ sum_by (λ (x : StoredEntry). length x.text + 1) stored
+placed-sizes : (headings : List Heading) (stored : List StoredEntry)
+    → sum_by placed_size (map (placed headings) stored) ≡ sum_by (λ (x : StoredEntry). length x.text + 1) stored
 unfolding placed placed_size
 placed-sizes headings [] = refl
 placed-sizes headings (x ∷ xs) =
@@ -147,7 +153,8 @@ placed-sizes headings (x ∷ xs) =
     let rest = placed-sizes headings xs in
     omega (arith, one, two, long, rest)
 
-heads-sizes : (headings : List Heading) (parts : List NamedSection) → AllZip HasHeading headings parts → sum_by heading_size headings ≡ sections_size parts
+heads-sizes : (headings : List Heading) (parts : List NamedSection) → AllZip HasHeading headings parts
+    → sum_by heading_size headings ≡ sections_size parts
 unfolding heading_size
 heads-sizes [] [] all = refl
 heads-sizes [] (p ∷ ps) all = absurd all
@@ -161,7 +168,8 @@ heads-sizes (h ∷ hs) (p ∷ ps) all =
     omega (arith, one, two, long, own, rest)
 
 -- as many headings, which are those of a file, are so too
-are-headings : (hs gs : List Heading) → AreHeadings gs → length hs ≡ length gs → ((h : Heading) → Contains hs h → Contains gs h) → AreHeadings hs
+are-headings : (hs gs : List Heading) → AreHeadings gs → length hs ≡ length gs → ((h : Heading) → Contains hs h → Contains gs h)
+    → AreHeadings hs
 are-headings hs [] are size onto = absurd are
 are-headings [] (g ∷ gs) are size onto = absurd (omega (arith, size))
 are-headings (h ∷ []) (unnamed ∷ []) are size onto = elim (Contains-cases unnamed [] h (onto h (Contains-first h []))) [
@@ -170,7 +178,8 @@ are-headings (h ∷ []) (unnamed ∷ []) are size onto = elim (Contains-cases un
 ]
 are-headings (h ∷ next ∷ more) (unnamed ∷ []) are size onto = absurd (omega (arith, size))
 are-headings hs (unnamed ∷ next ∷ more) are size onto = absurd are
-are-headings (h ∷ hs) (named name schema ∷ more) are size onto = first h (all h (Contains-first h hs)) (Each-of_members IsNamed hs (λ x among. all x (Contains-later h hs x among)))
+are-headings (h ∷ hs) (named name schema ∷ more) are size onto =
+    first h (all h (Contains-first h hs)) (Each-of_members IsNamed hs (λ x among. all x (Contains-later h hs x among)))
   where
     all : (x : Heading) → Contains (h ∷ hs) x → IsNamed x
     all x among = Each-member IsNamed (named name schema ∷ more) x (tt, are) (onto x among)
@@ -179,8 +188,10 @@ are-headings (h ∷ hs) (named name schema ∷ more) are size onto = first h (al
     first unnamed is each = absurd is
     first (named own text) is each = each
 
-module _ (kept : Kept) (once : NoneTwice (map (λ (x : StoredEntry). x.name) kept.stored)) (heads_once : NoneTwice kept.headings) (are_headings : AreHeadings kept.headings)
-    (of_sections : (x : StoredEntry) → Contains kept.stored x → x.section < length kept.headings) (blocks : List Block) (are : AreBlocksOf kept blocks) where
+module _ (kept : Kept) (once : NoneTwice (map (λ (x : StoredEntry). x.name) kept.stored)) (heads_once : NoneTwice kept.headings)
+    (are_headings : AreHeadings kept.headings)
+    (of_sections : (x : StoredEntry) → Contains kept.stored x → x.section < length kept.headings) (blocks : List Block)
+    (are : AreBlocksOf kept blocks) where
   block-of : (b : Block) → Contains blocks b → (number : ℕ) × IsBlockAt kept number b
   block-of b at = Each-member (λ (y : Block). (number : ℕ) × IsBlockAt kept number y) blocks b are.each_block at
 
@@ -201,7 +212,8 @@ module _ (kept : Kept) (once : NoneTwice (map (λ (x : StoredEntry). x.name) kep
 
   -- one block begins as each section
   blocks-once : NoneTwice (block_headings blocks)
-  blocks-once = headings-none_twice (block_headings blocks) (are-headings (block_headings blocks) kept.headings are_headings as-many heads-to) are.sections_rise
+  blocks-once = headings-none_twice (block_headings blocks)
+      (are-headings (block_headings blocks) kept.headings are_headings as-many heads-to) are.sections_rise
     where
       as-many : length (block_headings blocks) ≡ length kept.headings
       as-many = mapped-long blocks ∙ are.as_many
@@ -239,7 +251,8 @@ module _ (kept : Kept) (once : NoneTwice (map (λ (x : StoredEntry). x.name) kep
       let by_heading : Heading → Heading × Line = λ k. (k, (x.name, x.text)) in
       let P : Heading × Line → Type 0 = λ q. Contains (flat_map lines_with_heading blocks) q in
       subst P (sym (ap by_heading head) ∙ is)
-      (Contains-flat_map lines_with_heading blocks b (b.heading, (x.name, x.text)) at_b (Contains-mapped (λ (y : Line). (b.heading, y)) b.lines (x.name, x.text) (own.1.0 x at_x refl)))
+      (Contains-flat_map lines_with_heading blocks b (b.heading, (x.name, x.text)) at_b
+      (Contains-mapped (λ (y : Line). (b.heading, y)) b.lines (x.name, x.text) (own.1.0 x at_x refl)))
     where
       has-at : (hs : List Heading) (k : ℕ) → k < length hs → (h : Heading) × (slice_get hs k ≡ Some h)
       has-at [] k low = absurd (omega (arith, low))
@@ -247,19 +260,24 @@ module _ (kept : Kept) (once : NoneTwice (map (λ (x : StoredEntry). x.name) kep
       has-at (h ∷ hs) (suc k) low = has-at hs k (omega (arith, low))
 
   pub text-sized : (parts : List NamedSection) → AllZip HasHeading kept.headings parts
-      → length (text_with_header kept.header blocks) ≡ (48 + length kept.header) + (sections_size parts + sum_by (λ (x : StoredEntry). length x.text + 1) kept.stored)
+      → length (text_with_header kept.header blocks) ≡ (48 + length kept.header) + (sections_size parts + sum_by
+      (λ (x : StoredEntry). length x.text + 1) kept.stored)
   text-sized parts begins =
       let heads = sum-within heading_size (block_headings blocks) kept.headings blocks-once heads-to in
       let heads_ = sum-within heading_size kept.headings (block_headings blocks) heads_once heads-from in
       let rows : List (Heading × Line) = map (placed kept.headings) kept.stored in
-      let rows_once : NoneTwice rows = keyed-once (λ (p : Heading × Line). p.1.0) rows (subst NoneTwice (sym (placed-names kept.headings kept.stored)) once) in
-      let lines = sum-within placed_size (flat_map lines_with_heading blocks) rows (placed-none_twice blocks blocks-once are.lines_rise) lines-to in
+      let rows_once : NoneTwice rows = keyed-once (λ (p : Heading × Line). p.1.0) rows
+      (subst NoneTwice (sym (placed-names kept.headings kept.stored)) once) in
+      let lines = sum-within placed_size (flat_map lines_with_heading blocks) rows (placed-none_twice blocks blocks-once are.lines_rise)
+      lines-to in
       let lines_ = sum-within placed_size rows (flat_map lines_with_heading blocks) rows_once lines-from in
       let body = blocks-size blocks in
       let own = heads-sizes kept.headings parts begins in
       let texts = placed-sizes kept.headings kept.stored in
-      let one = length-append (line (section begin)) (line (section header_start) ++ (kept.header ++ (line (section section_end) ++ (flat_map block_bytes blocks ++ line (section finish))))) in
-      let two = length-append (line (section header_start)) (kept.header ++ (line (section section_end) ++ (flat_map block_bytes blocks ++ line (section finish)))) in
+      let one = length-append (line (section begin)) (line (section header_start)
+      ++ (kept.header ++ (line (section section_end) ++ (flat_map block_bytes blocks ++ line (section finish))))) in
+      let two = length-append (line (section header_start))
+      (kept.header ++ (line (section section_end) ++ (flat_map block_bytes blocks ++ line (section finish)))) in
       let three = length-append kept.header (line (section section_end) ++ (flat_map block_bytes blocks ++ line (section finish))) in
       let four = length-append (line (section section_end)) (flat_map block_bytes blocks ++ line (section finish)) in
       let five = length-append (flat_map block_bytes blocks) (line (section finish)) in
@@ -277,11 +295,13 @@ lines-sized (l ∷ ls) =
     omega (arith, one, two, rest)
 
 -- each line within a limit is
-pub line-within : (most : ℕ) (lines : List NumberedLine) (k : ℕ) (one : NumberedLine) → k < length lines → one ≡ get_or lines k one → Each (λ (l : Line). length l.1 ≤ most) (held_lines lines) → length one.text.items ≤ most
+pub line-within : (most : ℕ) (lines : List NumberedLine) (k : ℕ) (one : NumberedLine) → k < length lines → one ≡ get_or lines k one
+    → Each (λ (l : Line). length l.1 ≤ most) (held_lines lines) → length one.text.items ≤ most
 line-within most [] k one low at each = absurd (omega (arith, low))
 line-within most (x ∷ xs) zero one low at each = let P : NumberedLine → Type 0 = λ z. length z.text.items ≤ most in subst P (sym at) each.0
 line-within most (x ∷ xs) (suc k) one low at each = line-within most xs k one (omega (arith, low)) at each.1
 
 -- the line at a position
-pub line-at : (lines : List NumberedLine) (k : ℕ) (one : NumberedLine) → k < length lines → one ≡ get_or lines k one → held_line one ≡ get_or (held_lines lines) k (held_line one)
+pub line-at : (lines : List NumberedLine) (k : ℕ) (one : NumberedLine) → k < length lines → one ≡ get_or lines k one
+    → held_line one ≡ get_or (held_lines lines) k (held_line one)
 line-at lines k one low at = ap held_line at ∙ sym (get_or-map held_line lines k one (held_line one) low)

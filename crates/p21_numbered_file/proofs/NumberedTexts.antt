@@ -49,10 +49,13 @@ use Rattle.p21_numbered.proofs.Numbering.{kept-only_renamed, kept-renamed, numbe
 use Rattle.p21_numbered.specs.Kept.{IsEntryUnder, IsKeptUnder}
 use Rattle.p21_numbered.specs.Lines.{AreNumbered, AreOfFile, IsLineUnder}
 use Rattle.p21_numbered.specs.NumberedLaws.{AreWritten}
+use Rattle.p21_stream_output.specs.Ending.{line_of}
 use Rattle.p21_stream_output.specs.Output.{IsNamed, Output, output_text}
+use Rattle.p21_stream_store.specs.StoredInstance.{StoredInstance}
 use Rattle.p21_numbered_file.specs.Assembly.{IsPutTogether, IsReady, entry_row, entry_rows, line_names, put_together}
 use Rattle.p21_numbered_file.specs.Headings.{AreTextsOf, heading_in, headings_in, label_in}
 use Rattle.p21_numbered_file.specs.Instances.{instance_in, texts_at}
+use Rattle.p21_numbered_file.specs.Pairing.{AreLinesOfRenamed, IsLineOfRenamed}
 use Rattle.p21_numbered_file.specs.Numbering.{HasNone, IsTooLong, IsWithin, unnumbered_of}
 use Rattle.p21_numbered_file.specs.declared.numbering.Unnumbered.{Unnumbered}
 use Rattle.p21_numbered_file.specs.Reading.{IsPlaced, IsReadOf, meant_of}
@@ -77,39 +80,53 @@ mapped-once f (n ∷ ns) injective none = (
 )
 
 -- rows of numbers and lines, beside what has these numbers
-row-of : (R : Instance → Line → Type 0) (f : ReadInstance → Instance) (is : List ReadInstance) (ls : List Line) → AllZip R (map f is) ls → (e : StoredEntry) → Contains (entry_rows (map (λ (i : ReadInstance). i.section) is) ls) e
+row-of : (R : Instance → Line → Type 0) (f : ReadInstance → Instance) (is : List ReadInstance) (ls : List Line) → AllZip R (map f is) ls
+    → (e : StoredEntry) → Contains (entry_rows (map (λ (i : ReadInstance). i.section) is) ls) e
     → (i : ReadInstance) × (l : Line) × Contains is i × R (f i) l × (entry_row (i.section, l) ≡ e)
 row-of R f [] [] zipped e among = absurd (Contains-none e among)
 row-of R f [] (l ∷ ls) zipped e among = absurd zipped
 row-of R f (i ∷ is) [] zipped e among = absurd zipped
-row-of R f (i ∷ is) (l ∷ ls) zipped e among = elim (Contains-cases (entry_row (i.section, l)) (entry_rows (map (λ (j : ReadInstance). j.section) is) ls) e among) [
-  | inl same ↦ (i, l, Contains-first i is, zipped.0, same)
-  | inr far ↦ (let (j, m, at, holds, same) = row-of R f is ls zipped.1 e far in (j, m, Contains-later i is j at, holds, same))
-]
+row-of R f (i ∷ is) (l ∷ ls) zipped e among = elim (Contains-cases (entry_row (i.section, l))
+    (entry_rows (map (λ (j : ReadInstance). j.section) is) ls) e among) [
+      | inl same ↦ (i, l, Contains-first i is, zipped.0, same)
+      | inr far ↦ (let (j, m, at, holds, same) = row-of R f is ls zipped.1 e far in (j, m, Contains-later i is j at, holds, same))
+    ]
 
-row-for : (R : Instance → Line → Type 0) (f : ReadInstance → Instance) (is : List ReadInstance) (ls : List Line) → AllZip R (map f is) ls → (i : ReadInstance) → Contains is i
+row-for : (R : Instance → Line → Type 0) (f : ReadInstance → Instance) (is : List ReadInstance) (ls : List Line) → AllZip R (map f is) ls
+    → (i : ReadInstance) → Contains is i
     → (l : Line) × R (f i) l × Contains (entry_rows (map (λ (j : ReadInstance). j.section) is) ls) (entry_row (i.section, l))
 row-for R f [] [] zipped i among = absurd (Contains-none i among)
 row-for R f [] (l ∷ ls) zipped i among = absurd zipped
 row-for R f (j ∷ is) [] zipped i among = absurd zipped
 row-for R f (j ∷ is) (l ∷ ls) zipped i among = elim (Contains-cases j is i among) [
   | inl same ↦ (
-      let P : ReadInstance → Type 0 = λ k. R (f k) l × Contains (entry_rows (map (λ (x : ReadInstance). x.section) (j ∷ is)) (l ∷ ls)) (entry_row (k.section, l)) in
-      let both = subst P same (zipped.0, Contains-first (entry_row (j.section, l)) (entry_rows (map (λ (x : ReadInstance). x.section) is) ls)) in
+      let P : ReadInstance → Type 0 = λ k. R (f k) l × Contains (entry_rows (map (λ (x : ReadInstance). x.section) (j ∷ is)) (l ∷ ls))
+      (entry_row (k.section, l)) in
+      let both = subst P same (
+        zipped.0,
+        Contains-first (entry_row (j.section, l))
+            (entry_rows (map (λ (x : ReadInstance). x.section) is) ls),
+      ) in
       (l, both.0, both.1))
   | inr far ↦ (
-      let (m, holds, at) = row-for R f is ls zipped.1 i far in
-      (m, holds, Contains-later (entry_row (j.section, l)) (entry_rows (map (λ (x : ReadInstance). x.section) is) ls) (entry_row (i.section, m)) at))
+      let (m, holds, at) = row-for R f is ls zipped.1 i far in (
+        m,
+        holds,
+        Contains-later (entry_row (j.section, l)) (entry_rows (map (λ (x : ReadInstance). x.section) is) ls)
+            (entry_row (i.section, m)) at,
+      ))
 ]
 
 -- the texts of the section at a position
-pub texts-found : (texts : List (Vec (Bor (List ℕ)))) (k : ℕ) (row : Vec (Bor (List ℕ))) → k < length texts → row ≡ get_or texts k row → texts_at texts k ≡ lent_rows row.items
+pub texts-found : (texts : List (Vec (Bor (List ℕ)))) (k : ℕ) (row : Vec (Bor (List ℕ))) → k < length texts → row ≡ get_or texts k row
+    → texts_at texts k ≡ lent_rows row.items
 texts-found [] k row low at = absurd (omega (arith, low))
 texts-found (t ∷ ts) zero row low at = ap (λ (r : Vec (Bor (List ℕ))). lent_rows r.items) (sym at)
 texts-found (t ∷ ts) (suc k) row low at = texts-found ts k row (omega (arith, low)) at
 
 -- one instance more
-pub named-more : (texts : List (Vec (Bor (List ℕ)))) (all : List Instance) (old new : List Code) (left rest : List ReadInstance) (one : ReadInstance) (made : Code) → left ≡ one ∷ rest → new ≡ old ++ made ∷ [] → file_instance made ≡ instance_in texts one
+pub named-more : (texts : List (Vec (Bor (List ℕ)))) (all : List Instance) (old new : List Code) (left rest : List ReadInstance)
+    (one : ReadInstance) (made : Code) → left ≡ one ∷ rest → new ≡ old ++ made ∷ [] → file_instance made ≡ instance_in texts one
     → file_instances old ++ map (instance_in texts) left ≡ all → file_instances new ++ map (instance_in texts) rest ≡ all
 named-more texts all old new left rest one made left_is new_is same so_far =
     ap (λ (xs : List Code). file_instances xs ++ map (instance_in texts) rest) new_is
@@ -130,21 +147,25 @@ line-named s n x text is =
 -- and its name can be written
 name-low : (s : Schema) (n : ℕ) (x : Typed) (text : List ℕ) → IsCanonicalStatement s n x text → n < 2 ^ 64
 name-low s n x text is =
-    let spelled : Each IsSpelled (statement_tokens (instance n is.canonical)) = laid-each_spelled text (statement_tokens (instance n is.canonical)) is.laid in
+    let spelled : Each IsSpelled (statement_tokens (instance n is.canonical)) =
+    laid-each_spelled text (statement_tokens (instance n is.canonical)) is.laid in
     spelled.0.1.in_range
 
 -- ---- an accepted text
 
 -- what it means within the limits
-pub meant-within : (s : Schema) → IsWellFormed s → (limits : Limits) (text : List ℕ) (m : FileMeaning) → Reads s text m → IsAccepted s limits text → Means s limits text m
+pub meant-within : (s : Schema) → IsWellFormed s → (limits : Limits) (text : List ℕ) (m : FileMeaning) → Reads s text m
+    → IsAccepted s limits text → Means s limits text m
 meant-within s formed limits text m reads accepted =
     let one : accepted.0 ≡ m = one-meaning s formed text accepted.0 m accepted.1.reads reads in
     let P : FileMeaning → Type 0 = λ n. Means s limits text n in
     subst P one accepted.1
 
 -- where its instances have no order it has no numbered file
-pub none-ordered : (s : Schema) (limits : Limits) (text : List ℕ) (m : FileMeaning) (fault : Unordered) (result : Unnumbered) → Means s limits text m → Orders (ranking_of s) m (Err fault) → result ≡ unnumbered_of fault → HasNone s limits text result
-none-ordered s limits text m fault result means orders is = let P : Unnumbered → Type 0 = λ r. HasNone s limits text r in subst P (sym is) (own fault orders)
+pub none-ordered : (s : Schema) (limits : Limits) (text : List ℕ) (m : FileMeaning) (fault : Unordered) (result : Unnumbered)
+    → Means s limits text m → Orders (ranking_of s) m (Err fault) → result ≡ unnumbered_of fault → HasNone s limits text result
+none-ordered s limits text m fault result means orders is = let P : Unnumbered
+    → Type 0 = λ r. HasNone s limits text r in subst P (sym is) (own fault orders)
   where
     own : (f : Unordered) → Orders (ranking_of s) m (Err f) → HasNone s limits text (unnumbered_of f)
     own (unordered.Alike j k) alike = record { meaning = m; means = means; alike = alike }
@@ -152,20 +173,23 @@ none-ordered s limits text m fault result means orders is = let P : Unnumbered �
 
 -- ---- the instances of a text
 
-texts-at : (sections : List (Option Part)) (all : List (Vec (Bor (List ℕ)))) → AreTextsOf sections all → (k : ℕ) (h : Heading) → slice_get (headings_in sections) k ≡ Some h → texts_at all k ≡ heading_label (Some h)
+texts-at : (sections : List (Option Part)) (all : List (Vec (Bor (List ℕ)))) → AreTextsOf sections all → (k : ℕ) (h : Heading)
+    → slice_get (headings_in sections) k ≡ Some h → texts_at all k ≡ heading_label (Some h)
 texts-at [] all are k h at = cc
 texts-at (x ∷ xs) [] are k h at = absurd are
 texts-at (x ∷ xs) (t ∷ ts) are zero h at = are.0 ∙ ap (λ (o : Option Heading). heading_label o) at
 texts-at (x ∷ xs) (t ∷ ts) are (suc k) h at = texts-at xs ts are.1 k h at
 
-module _ (s : Schema) (formed : IsWellFormed s) (text : List ℕ) (read : ReadFile) (is : IsReadOf s text read) (texts : List (Vec (Bor (List ℕ)))) (are : AreTextsOf read.sections.items texts) where
+module _ (s : Schema) (formed : IsWellFormed s) (text : List ℕ) (read : ReadFile) (is : IsReadOf s text read)
+    (texts : List (Vec (Bor (List ℕ)))) (are : AreTextsOf read.sections.items texts) where
   pub sections-low : Each (λ (i : ReadInstance). i.section < length texts) read.instances.items
   sections-low = Each-of_members (λ (i : ReadInstance). i.section < length texts) read.instances.items (λ i among.
       let own = Each-member (IsPlaced s is.meaning) read.instances.items i is.placed among in
       let low = slice_get_within is.meaning.sections i.section own.heading own.section_is in
       let many = ap (λ (hs : List Heading). length hs) is.headings_are in
       let long = length-map read.sections.items heading_in in
-      let size = AllZip-long (λ (section : Option Part) (row : Vec (Bor (List ℕ))). lent_rows row.items ≡ label_in section) read.sections.items texts are in
+      let size = AllZip-long (λ (section : Option Part) (row : Vec (Bor (List ℕ))). lent_rows row.items ≡ label_in section)
+      read.sections.items texts are in
       omega (arith, low, many, long, size))
 
   whole_ : IsWhole is.meaning
@@ -195,7 +219,8 @@ module _ (s : Schema) (formed : IsWellFormed s) (text : List ℕ) (read : ReadFi
       let P : List ℕ → Type 0 = λ ns. Shuffled (names_of (map (instance_in texts) read.instances.items)) ns in
       record {
         names_are = subst P all-names (Shuffled-reflexive (names_of (map (instance_in texts) read.instances.items)));
-        each = λ k low. each-index (IsInstanceOf is.meaning) (map (instance_in texts) read.instances.items) k no_instance (Each-of_members (IsInstanceOf is.meaning) (map (instance_in texts) read.instances.items) member) low;
+        each = λ k low. each-index (IsInstanceOf is.meaning) (map (instance_in texts) read.instances.items) k no_instance
+            (Each-of_members (IsInstanceOf is.meaning) (map (instance_in texts) read.instances.items) member) low;
       }
     where
       member : (j : Instance) → Contains (map (instance_in texts) read.instances.items) j → IsInstanceOf is.meaning j
@@ -214,8 +239,10 @@ module _ (s : Schema) (formed : IsWellFormed s) (text : List ℕ) (read : ReadFi
 
   -- ---- their lines
 
-  module _ (f : ℕ → ℕ) (once : IsInjectiveOn (names is.meaning) f) (lines : List Line) (under : AllZip (IsLineUnder s f) (map (instance_in texts) read.instances.items) lines) where
-    named-lines : (xs : List Instance) (ls : List Line) → AllZip (IsLineUnder s f) xs ls → (line_names ls ≡ map f (names_of xs)) × Each (λ (l : Line). IsNamed l.0 l.1) ls
+  module _ (f : ℕ → ℕ) (once : IsInjectiveOn (names is.meaning) f) (lines : List Line)
+      (under : AllZip (IsLineUnder s f) (map (instance_in texts) read.instances.items) lines) where
+    named-lines : (xs : List Instance) (ls : List Line) → AllZip (IsLineUnder s f) xs ls
+        → (line_names ls ≡ map f (names_of xs)) × Each (λ (l : Line). IsNamed l.0 l.1) ls
     named-lines [] [] zipped = (refl, tt)
     named-lines [] (l ∷ ls) zipped = absurd zipped
     named-lines (x ∷ xs) [] zipped = absurd zipped
@@ -231,15 +258,18 @@ module _ (s : Schema) (formed : IsWellFormed s) (text : List ℕ) (read : ReadFi
         let own = named-lines (map (instance_in texts) read.instances.items) lines under in
         let P : List Heading → Type 0 = λ hs. AreHeadings hs in
         let D : List Heading → Type 0 = λ hs. IsDistinct bytes_eq (section_names hs) in
-        let same : headings is.reads.structure.sections ≡ headings_in read.sections.items = sym is.reads.sections_are ∙ sym is.headings_are in
+        let same : headings is.reads.structure.sections ≡ headings_in read.sections.items = sym is.reads.sections_are
+        ∙ sym is.headings_are in
         let N : List ℕ → Type 0 = λ ns. NoneTwice ns in
         let one = length-map read.instances.items (λ (i : ReadInstance). i.section) in
         let two = length-map read.instances.items (instance_in texts) in
         let three = AllZip-long (IsLineUnder s f) (map (instance_in texts) read.instances.items) lines under in
         record {
           as_many = omega (arith, one, two, three);
-          of_sections = Each-of_members (λ (k : ℕ). k < length read.sections.items) (map (λ (i : ReadInstance). i.section) read.instances.items) low;
-          once = subst N (sym (own.0 ∙ ap (map f) all-names)) (mapped-once f (names is.meaning) once (distinct-none_twice (names is.meaning) whole_.names_differ));
+          of_sections = Each-of_members (λ (k : ℕ). k < length read.sections.items)
+              (map (λ (i : ReadInstance). i.section) read.instances.items) low;
+          once = subst N (sym (own.0 ∙ ap (map f) all-names))
+              (mapped-once f (names is.meaning) once (distinct-none_twice (names is.meaning) whole_.names_differ));
           named = own.1;
           headings = subst P same is.reads.in_grammar.is_file.headings_are;
           sections_once = subst D same is.reads.section_names_differ;
@@ -255,14 +285,19 @@ module _ (s : Schema) (formed : IsWellFormed s) (text : List ℕ) (read : ReadFi
             omega (arith, same, within, many, long)
 
     -- what is put together is what is kept of the file with the new names
-    module _ (stored : List StoredEntry) (rows : IsPermutation (entry_rows (map (λ (i : ReadInstance). i.section) read.instances.items) lines) stored) where
-      entry-is : (i : ReadInstance) → Contains read.instances.items i → (l : Line) → IsLineUnder s f (instance_in texts i) l → (h : Heading) → Contains is.meaning.instance_sections (i.name, h)
+    module _ (stored : List StoredEntry) (rows : IsPermutation
+        (entry_rows (map (λ (i : ReadInstance). i.section) read.instances.items) lines) stored) where
+      entry-is : (i : ReadInstance) → Contains read.instances.items i → (l : Line) → IsLineUnder s f (instance_in texts i) l → (h : Heading)
+          → Contains is.meaning.instance_sections (i.name, h)
           → IsEntryUnder s f (headings_in read.sections.items) i.name (typed_view i.typed) h (entry_row (i.section, l))
       entry-is i among l line h at =
           let own = Each-member (IsPlaced s is.meaning) read.instances.items i is.placed among in
           let D : List ℕ → Type 0 = λ ns. NoneTwice ns in
-          let by_name : NoneTwice (map (λ (p : ℕ × Heading). p.0) is.meaning.instance_sections) = subst D (sym whole_.in_sections) (distinct-none_twice (names is.meaning) whole_.names_differ) in
-          let one : own.heading ≡ h = ap (λ (p : ℕ × Heading). p.1) (one-keyed (λ (p : ℕ × Heading). p.0) is.meaning.instance_sections by_name (i.name, own.heading) (i.name, h) own.in_section at refl) in
+          let by_name : NoneTwice (map (λ (p : ℕ × Heading). p.0) is.meaning.instance_sections) =
+          subst D (sym whole_.in_sections) (distinct-none_twice (names is.meaning) whole_.names_differ) in
+          let one : own.heading ≡ h = ap (λ (p : ℕ × Heading). p.1)
+          (one-keyed (λ (p : ℕ × Heading). p.0) is.meaning.instance_sections by_name (i.name, own.heading) (i.name, h) own.in_section at
+          refl) in
           let H : List Heading → Type 0 = λ hs. slice_get hs i.section ≡ Some own.heading in
           record {
             name_is = line.0;
@@ -282,10 +317,12 @@ module _ (s : Schema) (formed : IsWellFormed s) (text : List ℕ) (read : ReadFi
             let (l, line, row) = row-for (IsLineUnder s f) (instance_in texts) read.instances.items lines under i at_i in
             let H : ℕ → Type 0 = λ k. Contains is.meaning.instance_sections (k, h) in
             let own = entry-is i at_i l line h (subst H (sym name) at_h) in
-            let E : ℕ → Type 0 = λ k. IsEntryUnder s f (headings_in read.sections.items) k (typed_view i.typed) h (entry_row (i.section, l)) in
+            let E : ℕ → Type 0 = λ k. IsEntryUnder s f (headings_in read.sections.items) k (typed_view i.typed) h
+            (entry_row (i.section, l)) in
             let F : Typed → Type 0 = λ y. IsEntryUnder s f (headings_in read.sections.items) n y h (entry_row (i.section, l)) in (
               entry_row (i.section, l),
-              Contains-permutation (entry_rows (map (λ (j : ReadInstance). j.section) read.instances.items) lines) stored (entry_row (i.section, l)) rows row,
+              Contains-permutation (entry_rows (map (λ (j : ReadInstance). j.section) read.instances.items) lines) stored
+                  (entry_row (i.section, l)) rows row,
               subst F typed_ (subst E name own),
             );
         back = λ e at.
@@ -294,7 +331,8 @@ module _ (s : Schema) (formed : IsWellFormed s) (text : List ℕ) (read : ReadFi
             (Contains-permutation stored (entry_rows (map (λ (j : ReadInstance). j.section) read.instances.items) lines) e turned at) in
             let own = Each-member (IsPlaced s is.meaning) read.instances.items i is.placed at_i in
             let M : List (ℕ × Typed) → Type 0 = λ xs. Contains xs (meant_of i) in
-            let E : StoredEntry → Type 0 = λ x. IsEntryUnder s f (headings_in read.sections.items) i.name (typed_view i.typed) own.heading x in (
+            let E : StoredEntry → Type 0 = λ x. IsEntryUnder s f (headings_in read.sections.items) i.name (typed_view i.typed) own.heading
+            x in (
               i.name,
               typed_view i.typed,
               own.heading,
@@ -307,9 +345,11 @@ module _ (s : Schema) (formed : IsWellFormed s) (text : List ℕ) (read : ReadFi
       stored-short : (most : ℕ) → Each (λ (l : Line). length l.1 ≤ most) lines → Each (λ (x : StoredEntry). length x.text ≤ most) stored
       stored-short most short = Each-of_members (λ (x : StoredEntry). length x.text ≤ most) stored (λ e at.
           let turned = IsPermutation-sym (entry_rows (map (λ (j : ReadInstance). j.section) read.instances.items) lines) stored rows in
-          text-short (map (λ (j : ReadInstance). j.section) read.instances.items) lines e short (Contains-permutation stored (entry_rows (map (λ (j : ReadInstance). j.section) read.instances.items) lines) e turned at))
+          text-short (map (λ (j : ReadInstance). j.section) read.instances.items) lines e short
+          (Contains-permutation stored (entry_rows (map (λ (j : ReadInstance). j.section) read.instances.items) lines) e turned at))
         where
-          text-short : (ps : List ℕ) (ls : List Line) (e : StoredEntry) → Each (λ (l : Line). length l.1 ≤ most) ls → Contains (entry_rows ps ls) e → length e.text ≤ most
+          text-short : (ps : List ℕ) (ls : List Line) (e : StoredEntry) → Each (λ (l : Line). length l.1 ≤ most) ls
+              → Contains (entry_rows ps ls) e → length e.text ≤ most
           text-short [] ls e each among = absurd (Contains-none e among)
           text-short (p ∷ ps) [] e each among = absurd (Contains-none e among)
           text-short (p ∷ ps) (l ∷ ls) e each among = elim (Contains-cases (entry_row (p, l)) (entry_rows ps ls) e among) [
@@ -318,9 +358,12 @@ module _ (s : Schema) (formed : IsWellFormed s) (text : List ℕ) (read : ReadFi
           ]
 
       lines-short : (most : ℕ) → Each (λ (x : StoredEntry). length x.text ≤ most) stored → Each (λ (l : Line). length l.1 ≤ most) lines
-      lines-short most short = own (map (λ (j : ReadInstance). j.section) read.instances.items) lines ready-under.as_many (λ e at. Each-member (λ (x : StoredEntry). length x.text ≤ most) stored e short (Contains-permutation (entry_rows (map (λ (j : ReadInstance). j.section) read.instances.items) lines) stored e rows at))
+      lines-short most short = own (map (λ (j : ReadInstance). j.section) read.instances.items) lines ready-under.as_many
+          (λ e at. Each-member (λ (x : StoredEntry). length x.text ≤ most) stored e short
+          (Contains-permutation (entry_rows (map (λ (j : ReadInstance). j.section) read.instances.items) lines) stored e rows at))
         where
-          own : (ps : List ℕ) (ls : List Line) → length ps ≡ length ls → ((e : StoredEntry) → Contains (entry_rows ps ls) e → length e.text ≤ most) → Each (λ (l : Line). length l.1 ≤ most) ls
+          own : (ps : List ℕ) (ls : List Line) → length ps ≡ length ls
+              → ((e : StoredEntry) → Contains (entry_rows ps ls) e → length e.text ≤ most) → Each (λ (l : Line). length l.1 ≤ most) ls
           own ps [] same each = tt
           own [] (l ∷ ls) same each = cc
           own (p ∷ ps) (l ∷ ls) same each = (
@@ -331,7 +374,8 @@ module _ (s : Schema) (formed : IsWellFormed s) (text : List ℕ) (read : ReadFi
     -- ---- the file
 
     module _ (limits : Limits) (accepted : IsAccepted s limits text) (output : Output)
-        (put : IsPutTogether read.header.items read.sections.items (map (λ (i : ReadInstance). i.section) read.instances.items) lines output) where
+        (put : IsPutTogether read.header.items read.sections.items (map (λ (i : ReadInstance). i.section) read.instances.items) lines
+        output) where
       means_ : Means s limits text is.meaning
       means_ = meant-within s formed limits text is.meaning is.reads accepted
 
@@ -339,7 +383,8 @@ module _ (s : Schema) (formed : IsWellFormed s) (text : List ℕ) (read : ReadFi
       written : AreWritten is.meaning f
       written n among =
           let M : List ℕ → Type 0 = λ ns. Contains ns n in
-          let (i, at, same) = Contains-unmapped (λ (j : Instance). j.name) (map (instance_in texts) read.instances.items) n (subst M (sym all-names) among) in
+          let (i, at, same) = Contains-unmapped (λ (j : Instance). j.name) (map (instance_in texts) read.instances.items) n
+          (subst M (sym all-names) among) in
           let (l, at_l, line) = AllZip-member (IsLineUnder s f) (map (instance_in texts) read.instances.items) lines i under at in
           let P : ℕ → Type 0 = λ k. f k < 2 ^ 64 in
           subst P same (name-low s (f i.name) (renamed_typed f i.typed) l.1 line.1)
@@ -350,13 +395,51 @@ module _ (s : Schema) (formed : IsWellFormed s) (text : List ℕ) (read : ReadFi
           let P : List ℕ → Type 0 = λ bytes. length bytes ≤ limits.file_canonical in
           let N : List ℕ → Type 0 = λ bytes. IsCanonicalOf s limits (renamed f is.meaning) bytes in
           subst N (sym put.text_is)
-          (kept-renamed s formed limits text is.meaning means_ f once written (put_together read.header.items read.sections.items put.stored) (kept-under put.stored put.are_rows) put.blocks put.are_blocks
+          (kept-renamed s formed limits text is.meaning means_ f once written
+          (put_together read.header.items read.sections.items put.stored) (kept-under put.stored put.are_rows) put.blocks put.are_blocks
           (subst P put.text_is short) (stored-short put.stored put.are_rows limits.record_canonical short_lines))
 
+      -- its lines are those of the instances with the new names
+      pub lines-renamed : AreLinesOfRenamed s f is.meaning output.kept
+      lines-renamed = record { onto = onto; back = back }
+        where
+          onto : (i : ℕ × Typed) → Contains is.meaning.instances i
+              → (line : StoredInstance) × Contains output.kept line × IsLineOfRenamed s f i line
+          onto i at =
+              let N : List ℕ → Type 0 = λ ns. Contains ns i.0 in
+              let (placed, at_placed, same) = Contains-unmapped (λ (p : ℕ × Heading). p.0) is.meaning.instance_sections i.0
+              (subst N (sym whole_.in_sections) (Contains-mapped (λ (p : ℕ × Typed). p.0) is.meaning.instances i at)) in
+              let H : ℕ → Type 0 = λ k. Contains is.meaning.instance_sections (k, placed.1) in
+              let (e, at_e, entry) = (kept-under put.stored put.are_rows).onto i.0 i.1 placed.1 at (subst H same at_placed) in
+              let L : List Line → Type 0 = λ ls. Contains ls (e.name, e.text) in
+              let (line, at_line, is_line) = Contains-unmapped line_of output.kept (e.name, e.text)
+              (subst L (sym put.lines_are) (Contains-mapped (λ (x : StoredEntry). (x.name, x.text)) put.stored e at_e)) in
+              let S : List ℕ → Type 0 = λ t. IsCanonicalStatement s (f i.0) (renamed_typed f i.1) t in (
+                line,
+                at_line,
+                (ap (λ (l : Line). l.0) is_line ∙ entry.name_is, subst S (sym (ap (λ (l : Line). l.1) is_line)) entry.line_is),
+              )
+
+          back : (line : StoredInstance) → Contains output.kept line
+              → (i : ℕ × Typed) × Contains is.meaning.instances i × IsLineOfRenamed s f i line
+          back line at =
+              let L : List Line → Type 0 = λ ls. Contains ls (line_of line) in
+              let (e, at_e, is_line) = Contains-unmapped (λ (x : StoredEntry). (x.name, x.text)) put.stored (line_of line)
+              (subst L put.lines_are (Contains-mapped line_of output.kept line at)) in
+              let (n, x, h, at_n, at_h, entry) = (kept-under put.stored put.are_rows).back e at_e in
+              let S : List ℕ → Type 0 = λ t. IsCanonicalStatement s (f n) (renamed_typed f x) t in (
+                (n, x),
+                at_n,
+                (sym (ap (λ (l : Line). l.0) is_line) ∙ entry.name_is, subst S (ap (λ (l : Line). l.1) is_line) entry.line_is),
+              )
+
       -- where it isn't within the limits there is none
-      pub none-renamed : ¬ IsWithin limits (output_text output) lines → (bytes : List ℕ) → ¬ IsCanonicalOf s limits (renamed f is.meaning) bytes
+      pub none-renamed : ¬ IsWithin limits (output_text output) lines → (bytes : List ℕ)
+          → ¬ IsCanonicalOf s limits (renamed f is.meaning) bytes
       none-renamed long bytes found =
-          let (same, short) = kept-only_renamed s formed limits text is.meaning means_ f once written (put_together read.header.items read.sections.items put.stored) (kept-under put.stored put.are_rows) put.blocks put.are_blocks bytes found in
+          let (same, short) = kept-only_renamed s formed limits text is.meaning means_ f once written
+          (put_together read.header.items read.sections.items put.stored) (kept-under put.stored put.are_rows) put.blocks put.are_blocks
+          bytes found in
           let P : List ℕ → Type 0 = λ xs. length xs ≤ limits.file_canonical in
           long (subst P (same ∙ sym put.text_is) found.file_within, lines-short put.stored put.are_rows limits.record_canonical short)
 
@@ -364,13 +447,15 @@ module _ (s : Schema) (formed : IsWellFormed s) (text : List ℕ) (read : ReadFi
 
   module _ (lines : List Line) (numbered : AreNumbered s is.meaning (map (instance_in texts) read.instances.items) lines) where
     numbers-once : IsInjectiveOn (names is.meaning) (number_in numbered.order)
-    numbers-once j k among among_ one = number-injective numbered.order j k ((numbered.aligned.is_order.all j).0 among) ((numbered.aligned.is_order.all k).0 among_) one
+    numbers-once j k among among_ one = number-injective numbered.order j k ((numbered.aligned.is_order.all j).0 among)
+        ((numbered.aligned.is_order.all k).0 among_) one
 
     pub is-ready : IsReady read.sections.items (map (λ (i : ReadInstance). i.section) read.instances.items) lines
     is-ready = ready-under (number_in numbered.order) numbers-once lines numbered.lines_are
 
     module _ (limits : Limits) (accepted : IsAccepted s limits text) (output : Output)
-        (put : IsPutTogether read.header.items read.sections.items (map (λ (i : ReadInstance). i.section) read.instances.items) lines output) where
+        (put : IsPutTogether read.header.items read.sections.items (map (λ (i : ReadInstance). i.section) read.instances.items) lines
+        output) where
       means_of : Means s limits text is.meaning
       means_of = meant-within s formed limits text is.meaning is.reads accepted
 
@@ -390,6 +475,8 @@ module _ (s : Schema) (formed : IsWellFormed s) (text : List ℕ) (read : ReadFi
         meaning = is.meaning;
         means = means_of;
         decided = numbered.decided;
-        none = λ bytes found. none-renamed (number_in numbered.order) numbers-once lines numbered.lines_are limits accepted output put long bytes
-            (numbered-is s formed limits text is.meaning means_of (ranking_of s) numbered.decided numbered.order numbered.aligned bytes found);
+        none = λ bytes found. none-renamed (number_in numbered.order) numbers-once lines numbered.lines_are limits accepted output put long
+            bytes
+            (numbered-is s formed limits text is.meaning means_of (ranking_of s) numbered.decided numbered.order numbered.aligned bytes
+            found);
       }

@@ -28,7 +28,7 @@ use Rattle.p21_numbering.proofs.Decisions.{got}
 use Rattle.p21_numbering.specs.Instances.{AreInstancesOf, Instance, names_of}
 use Rattle.p21_numbered.specs.Lines.{IsLineUnder}
 use Rattle.p21_stream_output.specs.Output.{Output, output_text}
-use Rattle.p21_numbered_file.proofs.NumberedTexts.{all-names, is-renamed, meant-within, none-renamed}
+use Rattle.p21_numbered_file.proofs.NumberedTexts.{all-names, is-renamed, lines-renamed, meant-within, none-renamed}
 use Rattle.p21_numbered_file.specs.Assembly.{IsPutTogether}
 use Rattle.p21_numbered_file.specs.Headings.{AreTextsOf}
 use Rattle.p21_numbered_file.specs.Instances.{instance_in}
@@ -47,13 +47,15 @@ split_last m n low = grind arith
 abbrev pub BackBelow : BTreeMap ℕ ℕ → (ℕ → ℕ) → List ℕ → ℕ → Type 0
 BackBelow old f ns k = IsInjectiveOn ns f → (j : ℕ) → j < k → get nat_cmp old (f (get_or ns j 0)) ≡ Some (get_or ns j 0)
 
-pub back-more : (before after : BTreeMap ℕ ℕ) (f : ℕ → ℕ) (ns : List ℕ) (k : ℕ) → k < length ns → Updates nat_cmp before after (f (get_or ns k 0)) (Some (get_or ns k 0)) → BackBelow before f ns k → BackBelow after f ns (k + 1)
+pub back-more : (before after : BTreeMap ℕ ℕ) (f : ℕ → ℕ) (ns : List ℕ) (k : ℕ) → k < length ns
+    → Updates nat_cmp before after (f (get_or ns k 0)) (Some (get_or ns k 0)) → BackBelow before f ns k → BackBelow after f ns (k + 1)
 back-more before after f ns k low updates so_far apart j below = elim (split_last j k below) [
   | inr last ↦ ap (λ i. get nat_cmp after (f (get_or ns i 0))) last ∙ updates.1 ∙ ap (λ i. Some (get_or ns i 0)) (sym last)
   | inl early ↦
       elim (cases_eq (f (get_or ns j 0)) (f (get_or ns k 0))) [
         | inl same ↦
-            let one : get_or ns j 0 ≡ get_or ns k 0 = apart (get_or ns j 0) (get_or ns k 0) (Contains-get_or ns j 0 (omega (arith, early, low))) (Contains-get_or ns k 0 low) same in
+            let one : get_or ns j 0 ≡ get_or ns k 0 = apart (get_or ns j 0) (get_or ns k 0)
+            (Contains-get_or ns j 0 (omega (arith, early, low))) (Contains-get_or ns k 0 low) same in
             ap (λ n. get nat_cmp after (f n)) one ∙ updates.1 ∙ ap (λ n. Some n) (sym one)
         | inr differ ↦ updates.2 (f (get_or ns j 0)) (is_at-other (f (get_or ns k 0)) (f (get_or ns j 0)) differ) ∙ so_far apart j early
       ]
@@ -67,7 +69,8 @@ back-all old f ns k long back apart n among =
     subst P same (back apart j (omega (arith, low, long)))
 
 -- names that differ in the file differ among its instances
-pub differ-among : (m : FileMeaning) (all : List Instance) (f : ℕ → ℕ) → AreInstancesOf m all → IsInjectiveOn (names m) f → IsInjectiveOn (names_of all) f
+pub differ-among : (m : FileMeaning) (all : List Instance) (f : ℕ → ℕ) → AreInstancesOf m all → IsInjectiveOn (names m) f
+    → IsInjectiveOn (names_of all) f
 differ-among m all f are apart j k among among_ same = apart j k (there j among) (there k among_) same
   where
     there : (n : ℕ) → Contains (names_of all) n → Contains (names m) n
@@ -75,10 +78,13 @@ differ-among m all f are apart j k among among_ same = apart j k (there j among)
 
 -- ---- the file
 
-module _ (s : Schema) (formed : IsWellFormed s) (limits : Limits) (one two : List ℕ) (read other : ReadFile) (is : IsReadOf s one read) (is_ : IsReadOf s two other) (accepted : IsAccepted s limits one) (accepted_ : IsAccepted s limits two)
-    (texts : List (Vec (Bor (List ℕ)))) (are : AreTextsOf read.sections.items texts) (f : ℕ → ℕ) (pairing : IsPairing (ranking_of s) is.meaning is_.meaning f)
+module _ (s : Schema) (formed : IsWellFormed s) (limits : Limits) (one two : List ℕ) (read other : ReadFile) (is : IsReadOf s one read)
+    (is_ : IsReadOf s two other) (accepted : IsAccepted s limits one) (accepted_ : IsAccepted s limits two)
+    (texts : List (Vec (Bor (List ℕ)))) (are : AreTextsOf read.sections.items texts) (f : ℕ → ℕ)
+    (pairing : IsPairing (ranking_of s) is.meaning is_.meaning f)
     (lines : List Line) (under : AllZip (IsLineUnder s f) (map (instance_in texts) read.instances.items) lines) (output : Output)
-    (put : IsPutTogether read.header.items read.sections.items (map (λ (i : ReadInstance). i.section) read.instances.items) lines output) where
+    (put : IsPutTogether read.header.items read.sections.items (map (λ (i : ReadInstance). i.section) read.instances.items) lines
+    output) where
   are-paired : ArePairedBy s limits one two f
   are-paired = record {
     first = is.meaning;
@@ -95,7 +101,9 @@ module _ (s : Schema) (formed : IsWellFormed s) (limits : Limits) (one two : Lis
   proper_ = meanings-are_proper s formed two is_.meaning is_.reads
 
   -- canonical files are equal exactly if they mean the same
-  equal-if_nothing : IsCanonicalOf s limits (renamed f is.meaning) (output_text output) → IsCanonicalOf s limits is_.meaning two → (output_text output ≡ two → NothingDiffers f is.meaning is_.meaning) × (NothingDiffers f is.meaning is_.meaning → output_text output ≡ two)
+  equal-if_nothing : IsCanonicalOf s limits (renamed f is.meaning) (output_text output) → IsCanonicalOf s limits is_.meaning two
+      → (output_text output ≡ two → NothingDiffers f is.meaning is_.meaning)
+      × (NothingDiffers f is.meaning is_.meaning → output_text output ≡ two)
   equal-if_nothing c d =
       let a : FileMeaning = renamed f is.meaning in
       let tell = bytes-tell s formed (output_text output) two c.canonical d.canonical in (
@@ -103,11 +111,13 @@ module _ (s : Schema) (formed : IsWellFormed s) (limits : Limits) (one two : Lis
             (SameFileMeaning-transitive a c.canonical.meaning is_.meaning (SameFileMeaning-symmetric c.canonical.meaning a c.same)
             (SameFileMeaning-transitive c.canonical.meaning d.canonical.meaning is_.meaning (tell.1 equal) d.same)),
         λ nothing. tell.0 (SameFileMeaning-transitive c.canonical.meaning a d.canonical.meaning c.same
-            (SameFileMeaning-transitive a is_.meaning d.canonical.meaning (same-if_none f is.meaning is_.meaning proper proper_ pairing.injective nothing).0
+            (SameFileMeaning-transitive a is_.meaning d.canonical.meaning
+            (same-if_none f is.meaning is_.meaning proper proper_ pairing.injective nothing).0
             (SameFileMeaning-symmetric d.canonical.meaning is_.meaning d.same))),
       )
 
-  pub is-paired : (old : BTreeMap ℕ ℕ) → GivesBack old f (names_of (map (instance_in texts) read.instances.items)) → IsWithin limits (output_text output) lines → IsPairedFile s limits one two output old
+  pub is-paired : (old : BTreeMap ℕ ℕ) → GivesBack old f (names_of (map (instance_in texts) read.instances.items))
+      → IsWithin limits (output_text output) lines → IsPairedFile s limits one two output old
   unfolding are-paired
   is-paired old back within =
       let canonical = is-renamed s formed one read is texts are f pairing.injective lines under limits accepted output put within in
@@ -116,6 +126,7 @@ module _ (s : Schema) (formed : IsWellFormed s) (limits : Limits) (one two : Lis
         new = f;
         paired = are-paired;
         canonical = canonical;
+        lines = lines-renamed s formed one read is texts are f pairing.injective lines under limits accepted output put;
         gives_back = subst G (all-names s formed one read is texts are) back pairing.injective;
         equal = equal-if_nothing canonical;
       }

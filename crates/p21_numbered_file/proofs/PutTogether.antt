@@ -46,17 +46,20 @@ none-above many section high among =
       | inr far ↦ (let low = range-below (from + 1) n k far in omega (arith, low))
     ]
 
-pub membership-more : (k number : ℕ) (old new : List Membership) → old ≡ section_memberships k → Interns old (section_membership k) number new → new ≡ section_memberships (k + 1)
+pub membership-more : (k number : ℕ) (old new : List Membership) → old ≡ section_memberships k
+    → Interns old (section_membership k) number new → new ≡ section_memberships (k + 1)
 membership-more k number old new so_far (at, inl same) =
     let P : List Membership → Type 0 = λ ms. Contains ms (section_membership k) in
     absurd (none-above k k (omega arith) (subst P (same ∙ so_far) (Contains-found new number (section_membership k) at)))
 membership-more k number old new so_far (at, inr (more, other)) =
-    more ∙ ap (λ (ms : List Membership). ms ++ section_membership k ∷ []) so_far ∙ sym (map-range_with_len_more section_membership 0 k k (omega arith))
+    more ∙ ap (λ (ms : List Membership). ms ++ section_membership k ∷ []) so_far
+    ∙ sym (map-range_with_len_more section_membership 0 k k (omega arith))
 
 membership-at : (many k : ℕ) → k < many → slice_get (section_memberships many) k ≡ Some (section_membership k)
 membership-at many k low = from 0 many k low ∙ ap (λ (n : ℕ). Some (section_membership n)) (omega arith)
   where
-    from : (first many k : ℕ) → k < many → slice_get (map section_membership (range_with_len first many)) k ≡ Some (section_membership (first + k))
+    from : (first many k : ℕ) → k < many → slice_get (map section_membership (range_with_len first many)) k ≡ Some
+        (section_membership (first + k))
     from first zero k low = absurd (omega (arith, low))
     from first (suc n) zero low = ap (λ (m : ℕ). Some (section_membership m)) (omega arith)
     from first (suc n) (suc k) low = from (first + 1) n k (omega (arith, low)) ∙ ap (λ (m : ℕ). Some (section_membership m)) (omega arith)
@@ -74,20 +77,24 @@ memberships-of_sections many = Each-of_members (λ (x : Membership). x.section <
     let low = below 0 many k x at in
     omega (arith, low))
   where
-    below : (first many k : ℕ) (x : Membership) → slice_get (map section_membership (range_with_len first many)) k ≡ Some x → x.section < first + many
+    below : (first many k : ℕ) (x : Membership) → slice_get (map section_membership (range_with_len first many)) k ≡ Some x
+        → x.section < first + many
     below first zero k x at = cc
-    below first (suc n) zero x at = (let same : section_membership first ≡ x = cc in let own : first ≡ x.section = ap (λ (m : Membership). m.section) same in omega (arith, own))
+    below first (suc n) zero x at = (let same : section_membership first ≡ x = cc in let own : first ≡ x.section =
+        ap (λ (m : Membership). m.section) same in omega (arith, own))
     below first (suc n) (suc k) x at = let low = below (first + 1) n k x at in omega (arith, low)
 
 -- ---- lines one by one
 
-zip-more : {X Y : Type 0} (xs : List X) (ys : List Y) (k : ℕ) (d : X) (e : Y) → k < length xs → k < length ys → zip (take (k + 1) xs) (take (k + 1) ys) ≡ zip (take k xs) (take k ys) ++ (get_or xs k d, get_or ys k e) ∷ []
+zip-more : {X Y : Type 0} (xs : List X) (ys : List Y) (k : ℕ) (d : X) (e : Y) → k < length xs → k < length ys
+    → zip (take (k + 1) xs) (take (k + 1) ys) ≡ zip (take k xs) (take k ys) ++ (get_or xs k d, get_or ys k e) ∷ []
 zip-more [] ys k d e low low_ = absurd (omega (arith, low))
 zip-more (x ∷ xs) [] k d e low low_ = absurd (omega (arith, low_))
 zip-more (x ∷ xs) (y ∷ ys) zero d e low low_ = refl
 zip-more {X} {Y} (x ∷ xs) (y ∷ ys) (suc k) d e low low_ =
     let same : suc k + 1 ≡ suc (k + 1) = omega arith in
-    ap (λ (n : ℕ). zip (take n (x ∷ xs)) (take n (y ∷ ys))) same ∙ ap (λ (ps : List (X × Y)). (x, y) ∷ ps) (zip-more xs ys k d e (omega (arith, low)) (omega (arith, low_)))
+    ap (λ (n : ℕ). zip (take n (x ∷ xs)) (take n (y ∷ ys))) same
+    ∙ ap (λ (ps : List (X × Y)). (x, y) ∷ ps) (zip-more xs ys k d e (omega (arith, low)) (omega (arith, low_)))
 
 -- what stands at a position, whatever is said where nothing does
 pub either-default : (xs : List ℕ) (k d e : ℕ) → k < length xs → get_or xs k d ≡ get_or xs k e
@@ -95,39 +102,51 @@ either-default [] k d e low = absurd (omega (arith, low))
 either-default (x ∷ xs) zero d e low = refl
 either-default (x ∷ xs) (suc k) d e low = either-default xs k d e (omega (arith, low))
 
-row-names : (places : List ℕ) (lines : List Line) → length places ≡ length lines → instance_names (stored_rows places lines) ≡ line_names lines
+row-names : (places : List ℕ) (lines : List Line) → length places ≡ length lines
+    → instance_names (stored_rows places lines) ≡ line_names lines
 row-names [] [] same = refl
 row-names [] (l ∷ ls) same = cc
 row-names (p ∷ ps) [] same = cc
 row-names (p ∷ ps) (l ∷ ls) same = ap (λ (ns : List ℕ). l.0 ∷ ns) (row-names ps ls (omega (arith, same)))
 
 -- one row more
-pub row-more : (places : List ℕ) (lines : List Line) (k p : ℕ) (l : Line) (old new : List StoredInstance) → k < length places → k < length lines → p ≡ get_or places k p → l ≡ get_or lines k l
-    → IsPermutation (stored_rows (take k places) (take k lines)) old → IsPermutation (stored_row (p, l) ∷ old) new → IsPermutation (stored_rows (take (k + 1) places) (take (k + 1) lines)) new
+pub row-more : (places : List ℕ) (lines : List Line) (k p : ℕ) (l : Line) (old new : List StoredInstance) → k < length places
+    → k < length lines → p ≡ get_or places k p → l ≡ get_or lines k l
+    → IsPermutation (stored_rows (take k places) (take k lines)) old → IsPermutation (stored_row (p, l) ∷ old) new
+    → IsPermutation (stored_rows (take (k + 1) places) (take (k + 1) lines)) new
 row-more places lines k p l old new low low_ at at_ so_far pushed =
     let rows : List StoredInstance = stored_rows (take k places) (take k lines) in
     let by_place : ℕ → ℕ × Line = λ n. (n, get_or lines k l) in
     let by_line : Line → ℕ × Line = λ m. (p, m) in
     let pair : (get_or places k p, get_or lines k l) ≡ (p, l) = ap by_place (sym at) ∙ ap by_line (sym at_) in
     let same : stored_rows (take (k + 1) places) (take (k + 1) lines) ≡ rows ++ stored_row (p, l) ∷ [] =
-    ap (map stored_row) (zip-more places lines k p l low low_) ∙ map-append stored_row (zip (take k places) (take k lines)) ((get_or places k p, get_or lines k l) ∷ []) ∙ ap (λ (r : ℕ × Line). rows ++ stored_row r ∷ []) pair in
+    ap (map stored_row) (zip-more places lines k p l low low_)
+    ∙ map-append stored_row (zip (take k places) (take k lines)) ((get_or places k p, get_or lines k l) ∷ [])
+    ∙ ap (λ (r : ℕ × Line). rows ++ stored_row r ∷ []) pair in
     let P : List StoredInstance → Type 0 = λ rs. IsPermutation rs new in
     subst P (sym same) (IsPermutation-push_more rows old new (stored_row (p, l)) so_far pushed)
 
 -- whose name none has before it
-pub row-new : (places : List ℕ) (lines : List Line) (k : ℕ) (l : Line) (old : List StoredInstance) → length places ≡ length lines → k < length lines → l ≡ get_or lines k l → NoneTwice (line_names lines)
+pub row-new : (places : List ℕ) (lines : List Line) (k : ℕ) (l : Line) (old : List StoredInstance) → length places ≡ length lines
+    → k < length lines → l ≡ get_or lines k l → NoneTwice (line_names lines)
     → IsPermutation (stored_rows (take k places) (take k lines)) old → Contains (instance_names old) l.0 → ⊥
 row-new places lines k l old same low at none so_far among =
     let name : StoredInstance → ℕ = λ x. x.name in
     let rows : List StoredInstance = stored_rows (take k places) (take k lines) in
-    let names_ : instance_names rows ≡ line_names (take k lines) = row-names (take k places) (take k lines) (takes-long places lines k same) in
+    let names_ : instance_names rows ≡ line_names (take k lines) =
+    row-names (take k places) (take k lines) (takes-long places lines k same) in
     let turned = IsPermutation-sym (map name rows) (map name old) (IsPermutation-map name rows old so_far) in
     let N : List ℕ → Type 0 = λ ns. Contains ns l.0 in
-    let before : Contains (line_names (take k lines)) l.0 = subst N names_ (Contains-permutation (map name old) (map name rows) l.0 turned among) in
+    let before : Contains (line_names (take k lines)) l.0 =
+    subst N names_ (Contains-permutation (map name old) (map name rows) l.0 turned among) in
     let more : line_names (take (k + 1) lines) ≡ line_names (take k lines) ++ l.0 ∷ [] =
-    ap line_names (take_more lines k l low) ∙ map-append (λ (m : Line). m.0) (take k lines) (get_or lines k l ∷ []) ∙ ap (λ (m : Line). line_names (take k lines) ++ m.0 ∷ []) (sym at) in
-    let split : line_names lines ≡ line_names (take (k + 1) lines) ++ line_names (drop (k + 1) lines) = ap line_names (sym (take-append-drop (k + 1) lines)) ∙ map-append (λ (m : Line). m.0) (take (k + 1) lines) (drop (k + 1) lines) in
-    NoneTwice-again (line_names (take k lines)) l.0 before (subst NoneTwice more (NoneTwice-front (line_names (take (k + 1) lines)) (line_names (drop (k + 1) lines)) (subst NoneTwice split none)))
+    ap line_names (take_more lines k l low) ∙ map-append (λ (m : Line). m.0) (take k lines) (get_or lines k l ∷ [])
+    ∙ ap (λ (m : Line). line_names (take k lines) ++ m.0 ∷ []) (sym at) in
+    let split : line_names lines ≡ line_names (take (k + 1) lines) ++ line_names (drop (k + 1) lines) =
+    ap line_names (sym (take-append-drop (k + 1) lines)) ∙ map-append (λ (m : Line). m.0) (take (k + 1) lines) (drop (k + 1) lines) in
+    NoneTwice-again (line_names (take k lines)) l.0 before
+    (subst NoneTwice more (NoneTwice-front (line_names (take (k + 1) lines)) (line_names (drop (k + 1) lines))
+    (subst NoneTwice split none)))
   where
     takes-long : {X Y : Type 0} (xs : List X) (ys : List Y) (k : ℕ) → length xs ≡ length ys → length (take k xs) ≡ length (take k ys)
     takes-long xs ys zero same = refl
@@ -140,9 +159,11 @@ row-new places lines k l old same low at none so_far among =
 
 -- nothing stands twice in another order
 permuted-once : (xs ys : List ℕ) → IsPermutation xs ys → NoneTwice xs → NoneTwice ys
-permuted-once xs ys permuted none = distinct-none_twice ys (IsDistinct-IsPermutation nat_eq nat_eq-turned xs ys permuted (none_twice-distinct xs none))
+permuted-once xs ys permuted none = distinct-none_twice ys
+    (IsDistinct-IsPermutation nat_eq nat_eq-turned xs ys permuted (none_twice-distinct xs none))
 
-row-at : (places : List ℕ) (lines : List Line) (x : StoredInstance) → Contains (stored_rows places lines) x → Contains places x.membership × Contains lines (x.name, x.text)
+row-at : (places : List ℕ) (lines : List Line) (x : StoredInstance) → Contains (stored_rows places lines) x
+    → Contains places x.membership × Contains lines (x.name, x.text)
 row-at [] lines x among = absurd (Contains-none x among)
 row-at (p ∷ ps) [] x among = absurd (Contains-none x among)
 row-at (p ∷ ps) (l ∷ ls) x among = elim (Contains-cases (stored_row (p, l)) (stored_rows ps ls) x among) [
@@ -152,7 +173,8 @@ row-at (p ∷ ps) (l ∷ ls) x among = elim (Contains-cases (stored_row (p, l)) 
   | inr far ↦ (let rest = row-at ps ls x far in (Contains-later p ps x.membership rest.0, Contains-later l ls (x.name, x.text) rest.1))
 ]
 
-row-sizes : (places : List ℕ) (lines : List Line) → length places ≡ length lines → sum_by (λ (x : StoredEntry). length x.text + 1) (entry_rows places lines) ≡ lines_size lines
+row-sizes : (places : List ℕ) (lines : List Line) → length places ≡ length lines
+    → sum_by (λ (x : StoredEntry). length x.text + 1) (entry_rows places lines) ≡ lines_size lines
 row-sizes [] [] same = refl
 row-sizes [] (l ∷ ls) same = cc
 row-sizes (p ∷ ps) [] same = cc
@@ -162,20 +184,25 @@ row-sizes (p ∷ ps) (l ∷ ls) same =
     let rest = row-sizes ps ls (omega (arith, same)) in
     omega (arith, one, two, rest)
 
-entry-names : (places : List ℕ) (lines : List Line) → length places ≡ length lines → map (λ (x : StoredEntry). x.name) (entry_rows places lines) ≡ line_names lines
+entry-names : (places : List ℕ) (lines : List Line) → length places ≡ length lines
+    → map (λ (x : StoredEntry). x.name) (entry_rows places lines) ≡ line_names lines
 entry-names [] [] same = refl
 entry-names [] (l ∷ ls) same = cc
 entry-names (p ∷ ps) [] same = cc
 entry-names (p ∷ ps) (l ∷ ls) same = ap (λ (ns : List ℕ). l.0 ∷ ns) (entry-names ps ls (omega (arith, same)))
 
-module _ (header : List ℕ) (sections : List (Option Part)) (places : List ℕ) (lines : List Line) (ready : IsReady sections places lines) (parts : List NamedSection) (begins : AllZip HasHeading (headings_in sections) parts)
+module _ (header : List ℕ) (sections : List (Option Part)) (places : List ℕ) (lines : List Line) (ready : IsReady sections places lines)
+    (parts : List NamedSection) (begins : AllZip HasHeading (headings_in sections) parts)
     (instances : List StoredInstance) (rows : IsPermutation (stored_rows places lines) instances) where
   back : (x : StoredInstance) → Contains instances x → Contains (stored_rows places lines) x
-  back x among = Contains-permutation instances (stored_rows places lines) x (IsPermutation-sym (stored_rows places lines) instances rows) among
+  back x among = Contains-permutation instances (stored_rows places lines) x (IsPermutation-sym (stored_rows places lines) instances rows)
+      among
 
   pub have-memberships : HaveMemberships (section_memberships (length sections)) instances
-  have-memberships = Each-of_members (λ (x : StoredInstance). x.membership < length (section_memberships (length sections))) instances (λ x among.
-      let low = Each-member (λ (k : ℕ). k < length sections) places x.membership ready.of_sections (row-at places lines x (back x among)).0 in
+  have-memberships = Each-of_members (λ (x : StoredInstance). x.membership < length (section_memberships (length sections))) instances
+      (λ x among.
+      let low = Each-member (λ (k : ℕ). k < length sections) places x.membership ready.of_sections
+      (row-at places lines x (back x among)).0 in
       let long = memberships-long (length sections) in
       omega (arith, low, long))
 
@@ -196,24 +223,35 @@ module _ (header : List ℕ) (sections : List (Option Part)) (places : List ℕ)
       let P : List StoredEntry → Type 0 = λ es. IsPermutation es (map f instances) in
       subst P (same places lines ready.of_sections) (IsPermutation-map f (stored_rows places lines) instances rows)
     where
-      same : (ps : List ℕ) (ls : List Line) → Each (λ (k : ℕ). k < length sections) ps → map (λ (x : StoredInstance). stored_with (slice_get (section_memberships (length sections)) x.membership) x) (stored_rows ps ls) ≡ entry_rows ps ls
+      same : (ps : List ℕ) (ls : List Line) → Each (λ (k : ℕ). k < length sections) ps
+          → map (λ (x : StoredInstance). stored_with (slice_get (section_memberships (length sections)) x.membership) x)
+          (stored_rows ps ls) ≡ entry_rows ps ls
       same [] ls low = refl
       same (p ∷ ps) [] low = refl
       same (p ∷ ps) (l ∷ ls) low =
-          ap (λ (o : Option Membership). stored_with o (stored_row (p, l)) ∷ map (λ (x : StoredInstance). stored_with (slice_get (section_memberships (length sections)) x.membership) x) (stored_rows ps ls)) (membership-at (length sections) p low.0)
+          ap (λ (o : Option Membership). stored_with o (stored_row (p, l)) ∷ map
+          (λ (x : StoredInstance). stored_with (slice_get (section_memberships (length sections)) x.membership) x) (stored_rows ps ls))
+          (membership-at (length sections) p low.0)
           ∙ ap (λ (es : List StoredEntry). entry_row (p, l) ∷ es) (same ps ls low.1)
 
-  stands : IsKeptIn (put_together header sections (stored_of (section_memberships (length sections)) instances)) header parts (section_memberships (length sections)) instances
+  stands : IsKeptIn (put_together header sections (stored_of (section_memberships (length sections)) instances)) header parts
+      (section_memberships (length sections)) instances
   stands = record { header_is = refl; begins = begins; stored_is = refl }
 
   names-once : NoneTwice (map (λ (x : StoredEntry). x.name) (stored_of (section_memberships (length sections)) instances))
   names-once =
       let name : StoredEntry → ℕ = λ x. x.name in
-      let own : NoneTwice (map name (entry_rows places lines)) = subst NoneTwice (sym (entry-names places lines ready.as_many)) ready.once in
-      permuted-once (map name (entry_rows places lines)) (map name (stored_of (section_memberships (length sections)) instances)) (IsPermutation-map name (entry_rows places lines) (stored_of (section_memberships (length sections)) instances) stored-rows) own
+      let own : NoneTwice (map name (entry_rows places lines)) =
+      subst NoneTwice (sym (entry-names places lines ready.as_many)) ready.once in
+      permuted-once (map name (entry_rows places lines)) (map name (stored_of (section_memberships (length sections)) instances))
+      (IsPermutation-map name (entry_rows places lines) (stored_of (section_memberships (length sections)) instances) stored-rows) own
 
   once : HasNamesOnce (put_together header sections (stored_of (section_memberships (length sections)) instances))
-  once = record { sections = ready.sections_once; instances = none_twice-distinct (map (λ (x : StoredEntry). x.name) (stored_of (section_memberships (length sections)) instances)) names-once }
+  once = record {
+    sections = ready.sections_once;
+    instances =
+        none_twice-distinct (map (λ (x : StoredEntry). x.name) (stored_of (section_memberships (length sections)) instances)) names-once;
+  }
 
   pub has-size : HasSize header parts (section_memberships (length sections)) instances (file_size header parts lines)
   has-size = record {
@@ -221,16 +259,23 @@ module _ (header : List ℕ) (sections : List (Option Part)) (places : List ℕ)
     stands = stands;
     once = once;
     size_is = λ blocks are.
-        let heads_once : NoneTwice (headings_in sections) = headings-differ (headings_in sections) ready.headings (texts-none_twice (section_names (headings_in sections)) ready.sections_once) in
-        let sized = text-sized (put_together header sections (stored_of (section_memberships (length sections)) instances)) names-once heads_once ready.headings low blocks are parts begins in
-        let same = sum_by-IsPermutation (λ (x : StoredEntry). length x.text + 1) (entry_rows places lines) (stored_of (section_memberships (length sections)) instances) stored-rows in
+        let heads_once : NoneTwice (headings_in sections) =
+        headings-differ (headings_in sections) ready.headings
+        (texts-none_twice (section_names (headings_in sections)) ready.sections_once) in
+        let sized = text-sized (put_together header sections (stored_of (section_memberships (length sections)) instances)) names-once
+        heads_once ready.headings low blocks are parts begins in
+        let same = sum_by-IsPermutation (λ (x : StoredEntry). length x.text + 1) (entry_rows places lines)
+        (stored_of (section_memberships (length sections)) instances) stored-rows in
         let sizes = row-sizes places lines ready.as_many in
         sized ∙ (omega (arith, same, sizes));
   }
     where
-      low : (x : StoredEntry) → Contains (stored_of (section_memberships (length sections)) instances) x → x.section < length (headings_in sections)
+      low : (x : StoredEntry) → Contains (stored_of (section_memberships (length sections)) instances) x
+          → x.section < length (headings_in sections)
       low x among =
-          let at = Contains-permutation (stored_of (section_memberships (length sections)) instances) (entry_rows places lines) x (IsPermutation-sym (entry_rows places lines) (stored_of (section_memberships (length sections)) instances) stored-rows) among in
+          let at = Contains-permutation (stored_of (section_memberships (length sections)) instances) (entry_rows places lines) x
+          (IsPermutation-sym (entry_rows places lines) (stored_of (section_memberships (length sections)) instances) stored-rows)
+          among in
           let own = Each-member (λ (k : ℕ). k < length sections) places x.section ready.of_sections (entry-at places lines x at) in
           let long = length-map sections heading_in in
           omega (arith, own, long)
@@ -243,7 +288,16 @@ module _ (header : List ℕ) (sections : List (Option Part)) (places : List ℕ)
             | inr far ↦ Contains-later p ps x.section (entry-at ps ls x far)
           ]
 
-  pub is-put : (output : Output) → ((k : Kept) → IsKeptIn k header parts (section_memberships (length sections)) instances → HasNamesOnce k → IsFileOfKept k output) → IsPutTogether header sections places lines output
+  pub is-put : (output : Output) → ((k : Kept) → IsKeptIn k header parts (section_memberships (length sections)) instances → HasNamesOnce k
+      → IsFileOfKept k output) → IsPutTogether header sections places lines output
   is-put output each =
       let file = each (put_together header sections (stored_of (section_memberships (length sections)) instances)) stands once in
-      record { stored = stored_of (section_memberships (length sections)) instances; are_rows = stored-rows; blocks = file.blocks; are_blocks = file.are_blocks; text_is = file.text_is }
+      record {
+        stored = stored_of (section_memberships (length sections)) instances;
+        are_rows = stored-rows;
+        blocks =
+            file.blocks;
+        are_blocks = file.are_blocks;
+        text_is = file.text_is;
+        lines_are = file.lines_are;
+      }

@@ -30,31 +30,43 @@ module _ (s : Schema) (formed : IsWellFormed s) (limits : Limits) where
   not-told : (P : Type 0) → ¬ P → IsTrue false ↔ P
   not-told P none = (λ yes. absurd (false≢true yes), λ holds. absurd (none holds))
 
-  numbers-tell : (one other a b : List ℕ) → IsNumberedFile s limits (ranking_of s) one a → IsNumberedFile s limits (ranking_of s) other b → (same : Bool) → IsTrue same ↔ (a ≡ b) → TellsTexts s limits one other (Ok same)
+  numbers-tell : (one other a b : List ℕ) → IsNumberedFile s limits (ranking_of s) one a → IsNumberedFile s limits (ranking_of s) other b
+      → (same : Bool) → IsTrue same ↔ (a ≡ b) → TellsTexts s limits one other (Ok same)
   numbers-tell one other a b x y same is m n means means_ =
       let both = both-numbered s formed limits one other m n means means_ a b x y in
       (λ yes. both.1 (is.0 yes), λ alike. is.1 (both.0 alike))
 
-  pub numbers-told : (one other a b : List ℕ) → IsNumberedFile s limits (ranking_of s) one a → IsNumberedFile s limits (ranking_of s) other b → (result : Result Bool Unnumbered)
+  pub numbers-told : (one other a b : List ℕ) → IsNumberedFile s limits (ranking_of s) one a
+      → IsNumberedFile s limits (ranking_of s) other b → (result : Result Bool Unnumbered)
       → IfOk result (λ same. IsTrue same ↔ (a ≡ b)) → IfErr result (λ fault. fault ≡ NoMemory) → TellsTexts s limits one other result
   numbers-told one other a b x y (Ok same) ok err = numbers-tell one other a b x y same ok
-  numbers-told one other a b x y (Err fault) ok err = (let P : Unnumbered → Type 0 = λ f. TellsTexts s limits one other (Err f) in subst P (sym err) tt)
+  numbers-told one other a b x y (Err fault) ok err =
+      (let P : Unnumbered → Type 0 = λ f. TellsTexts s limits one other (Err f) in subst P (sym err) tt)
 
-  pub second-none : (one other a : List ℕ) (fault : Unnumbered) → IsNumberedFile s limits (ranking_of s) one a → HasNone s limits other fault → TellsTexts s limits one other (told_apart fault)
-  second-none one other a (Alike j k) x y = λ m n means means_. not-told (SameButForNames m n) (numbered-and_alike s formed limits one other m n means means_ a j k x y)
-  second-none one other a TooLong x y = λ m n means means_. not-told (SameButForNames m n) (numbered-and_long s formed limits one other m n means means_ a x y)
+  pub second-none : (one other a : List ℕ) (fault : Unnumbered) → IsNumberedFile s limits (ranking_of s) one a
+      → HasNone s limits other fault → TellsTexts s limits one other (told_apart fault)
+  second-none one other a (Alike j k) x y = λ m n means means_. not-told (SameButForNames m n)
+      (numbered-and_alike s formed limits one other m n means means_ a j k x y)
+  second-none one other a TooLong x y = λ m n means means_. not-told (SameButForNames m n)
+      (numbered-and_long s formed limits one other m n means means_ a x y)
   second-none one other a NoMemory x y = tt
 
-  pub first-none : (one other b : List ℕ) (fault : Unnumbered) → HasNone s limits one fault → IsNumberedFile s limits (ranking_of s) other b → TellsTexts s limits one other (told_apart fault)
-  first-none one other b (Alike j k) x y = λ m n means means_. not-told (SameButForNames m n) (alike-and_numbered s formed limits one other m n means means_ b j k x y)
-  first-none one other b TooLong x y = λ m n means means_. not-told (SameButForNames m n) (long-and_numbered s formed limits one other m n means means_ b x y)
+  pub first-none : (one other b : List ℕ) (fault : Unnumbered) → HasNone s limits one fault → IsNumberedFile s limits (ranking_of s) other b
+      → TellsTexts s limits one other (told_apart fault)
+  first-none one other b (Alike j k) x y = λ m n means means_. not-told (SameButForNames m n)
+      (alike-and_numbered s formed limits one other m n means means_ b j k x y)
+  first-none one other b TooLong x y = λ m n means means_. not-told (SameButForNames m n)
+      (long-and_numbered s formed limits one other m n means means_ b x y)
   first-none one other b NoMemory x y = tt
 
-  pub neither-has : (one other : List ℕ) (fault its : Unnumbered) → HasNone s limits one fault → HasNone s limits other its → TellsTexts s limits one other (told_of_none fault its)
+  pub neither-has : (one other : List ℕ) (fault its : Unnumbered) → HasNone s limits one fault → HasNone s limits other its
+      → TellsTexts s limits one other (told_of_none fault its)
   neither-has one other NoMemory its x y = tt
   neither-has one other (Alike j k) (Alike i l) x y = (x, (i, l, y))
-  neither-has one other (Alike j k) TooLong x y = λ m n means means_. not-told (SameButForNames m n) (alike-and_long s formed limits one other m n means means_ j k x y)
+  neither-has one other (Alike j k) TooLong x y = λ m n means means_. not-told (SameButForNames m n)
+      (alike-and_long s formed limits one other m n means means_ j k x y)
   neither-has one other (Alike j k) NoMemory x y = tt
-  neither-has one other TooLong (Alike i l) x y = λ m n means means_. not-told (SameButForNames m n) (long-and_alike s formed limits one other m n means means_ i l x y)
+  neither-has one other TooLong (Alike i l) x y = λ m n means means_. not-told (SameButForNames m n)
+      (long-and_alike s formed limits one other m n means means_ i l x y)
   neither-has one other TooLong TooLong x y = (x, y)
   neither-has one other TooLong NoMemory x y = tt

@@ -6,8 +6,9 @@ use Rattle.p21_spec_basics.proofs.Shuffles.{NoneTwice}
 use Rattle.p21_spec_exchange.specs.DataSection.{AreHeadings, section_names}
 use Rattle.p21_spec_laws.specs.CompleteFile.{Block, Line}
 use Rattle.p21_spec_laws.specs.Keeping.{AreBlocksOf, Kept, text_with_header}
-use Rattle.p21_spec_laws.specs.Stored.{StoredEntry, with_lines}
+use Rattle.p21_spec_laws.specs.Stored.{StoredEntry, lines_of, with_lines}
 use Rattle.p21_grammar_tree.specs.declared.record.Part.{Part}
+use Rattle.p21_stream_output.specs.Ending.{line_of}
 use Rattle.p21_stream_output.specs.Output.{IsNamed, Output, output_text}
 use Rattle.p21_stream_store.specs.Memberships.{Membership}
 use Rattle.p21_stream_store.specs.StoredInstance.{StoredInstance}
@@ -48,12 +49,25 @@ pub record IsReady (sections : List (Option Part)) (places : List ℕ) (lines : 
 -- as a store keeps it
 abbrev pub put_together : List ℕ → List (Option Part) → List StoredEntry → Kept
 put_together header sections stored =
-    record { lines = with_lines; equal = true; header = header; headings = headings_in sections; stored = stored; waiting = []; references = 0; bytes = 0; framing = 0 }
+    record {
+      lines = with_lines;
+      equal = true;
+      header = header;
+      headings = headings_in sections;
+      stored = stored;
+      waiting = [];
+      references =
+          0;
+      bytes = 0;
+      framing = 0;
+    }
 
 -- the file of these, with the lines in whatever order
-pub record IsPutTogether (header : List ℕ) (sections : List (Option Part)) (places : List ℕ) (lines : List Line) (output : Output) : Type 0 where
+pub record IsPutTogether (header : List ℕ) (sections : List (Option Part)) (places : List ℕ) (lines : List Line) (output : Output) : Type
+    0 where
   pub stored : List StoredEntry
   pub are_rows : IsPermutation (entry_rows places lines) stored
   pub blocks : List Block
   pub are_blocks : AreBlocksOf (put_together header sections stored) blocks
   pub text_is : output_text output ≡ text_with_header header blocks
+  pub lines_are : map line_of output.kept ≡ lines_of stored

@@ -11,7 +11,8 @@ use Rattle.p21_numbered_file.specs.declared.numbering.Unnumbered.TheVariants.{Al
 
 -- whether they are the same; or neither has a numbered file, for one reason, which is that of the first. Want of memory says nothing
 abbrev pub TellsTexts : Schema → Limits → List ℕ → List ℕ → Result Bool Unnumbered → Type 0
-TellsTexts s limits one other (Ok same) = (m n : FileMeaning) → Means s limits one m → Means s limits other n → IsTrue same ↔ SameButForNames m n
+TellsTexts s limits one other (Ok same) = (m n : FileMeaning) → Means s limits one m → Means s limits other n → IsTrue same
+    ↔ SameButForNames m n
 TellsTexts s limits one other (Err (Alike j k)) = IsAlike s limits one j k × ((i : ℕ) × (l : ℕ) × IsAlike s limits other i l)
 TellsTexts s limits one other (Err TooLong) = IsTooLong s limits one × IsTooLong s limits other
 TellsTexts s limits one other (Err NoMemory) = Unit {0}

@@ -23,4 +23,5 @@ label_in section = heading_label (Some (heading_in section))
 
 -- these are the texts of each section
 abbrev pub AreTextsOf : List (Option Part) → List (Vec (Bor (List ℕ))) → Type 0
-AreTextsOf sections all = AllZip (λ (section : Option Part) (texts : Vec (Bor (List ℕ))). lent_rows texts.items ≡ label_in section) sections all
+AreTextsOf sections all = AllZip (λ (section : Option Part) (texts : Vec (Bor (List ℕ))). lent_rows texts.items ≡ label_in section) sections
+    all

@@ -5,12 +5,15 @@ use Rattle.std.specs.Prelude.{◌≡◌, ◌↔◌, ℕ, List, Some, Result, Ok,
 use Rattle.p21_spec_basics.specs.Limits.{Limits}
 use Rattle.p21_spec_file.specs.Accepted.{IsAccepted, IsCanonicalOf, Means}
 use Rattle.p21_spec_file.specs.File.{FileMeaning, Reads}
+use Rattle.p21_spec_file.specs.Meaning.{Typed}
 use Rattle.p21_spec_numbering.specs.Laws.{ranking_of}
-use Rattle.p21_spec_numbering.specs.Renamed.{IsInjectiveOn, names, renamed}
+use Rattle.p21_spec_numbering.specs.Renamed.{IsInjectiveOn, names, renamed, renamed_typed}
 use Rattle.p21_spec_pairing.specs.Pairing.{IsPairing, NothingDiffers}
 use Rattle.p21_spec_schema.specs.Schema.{Schema}
+use Rattle.p21_canon.specs.Statement.{IsCanonicalStatement}
 use Rattle.p21_numbering.specs.Instances.{AreInstancesOf, Instance}
 use Rattle.p21_stream_output.specs.Output.{Output, output_text}
+use Rattle.p21_stream_store.specs.StoredInstance.{StoredInstance}
 use Rattle.p21_numbered_file.specs.Reading.{IsReadOf}
 use Rattle.p21_numbered_file.specs.declared.pairing.Paired.{Paired}
 use Rattle.p21_numbered_file.specs.declared.pairing.Unpaired.{Unpaired}
@@ -25,12 +28,23 @@ pub record ArePairedBy (s : Schema) (limits : Limits) (one other : List ℕ) (ne
   pub other_means : Means s limits other second
   pub pairing : IsPairing (ranking_of s) first second new
 
--- the file is the canonical one of what the first text means under new names that pair it with the second; the map gives back the old
--- ones; and where the second text is a canonical file, the two are equal exactly if nothing differs by the pairs
+-- the line is the canonical statement of an instance of this name and meaning under its new name
+abbrev pub IsLineOfRenamed : Schema → (ℕ → ℕ) → ℕ × Typed → StoredInstance → Type 0
+IsLineOfRenamed s f i line = (line.name ≡ f i.0) × IsCanonicalStatement s (f i.0) (renamed_typed f i.1) line.text
+
+-- each instance has such a line, and each line is of an instance
+pub record AreLinesOfRenamed (s : Schema) (f : ℕ → ℕ) (m : FileMeaning) (kept : List StoredInstance) : Type 0 where
+  pub onto : (i : ℕ × Typed) → Contains m.instances i → (line : StoredInstance) × Contains kept line × IsLineOfRenamed s f i line
+  pub back : (line : StoredInstance) → Contains kept line → (i : ℕ × Typed) × Contains m.instances i × IsLineOfRenamed s f i line
+
+-- the file is the canonical one of what the first text means under new names that pair it with the second, and has the lines of its
+-- instances; the map gives back the old names; and where the second text is a canonical file, the two are equal exactly if nothing
+-- differs by the pairs
 pub record IsPairedFile (s : Schema) (limits : Limits) (one other : List ℕ) (file : Output) (old_names : BTreeMap ℕ ℕ) : Type 0 where
   pub new : ℕ → ℕ
   pub paired : ArePairedBy s limits one other new
   pub canonical : IsCanonicalOf s limits (renamed new paired.first) (output_text file)
+  pub lines : AreLinesOfRenamed s new paired.first file.kept
   pub gives_back : (n : ℕ) → Contains (names paired.first) n → get nat_cmp old_names (new n) ≡ Some n
   pub equal : IsCanonicalOf s limits paired.second other
       → (output_text file ≡ other) ↔ NothingDiffers new paired.first paired.second

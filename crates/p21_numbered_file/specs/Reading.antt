@@ -71,7 +71,8 @@ pub record IsReadWhole (s : Schema) (text : List ℕ) (held : Held) (read : Read
 
 -- one token more, or none is left
 abbrev pub Advances : Schema → List ℕ → Held → ReadFile → ℕ → Result (Option ℕ) NoMemory → Held → ReadFile → Type 0
-Advances s text held read from (Ok (Some next)) new after = (rounds : ℕ) → IsUnderWay s text held read from rounds → IsUnderWay s text new after next (rounds + 1)
+Advances s text held read from (Ok (Some next)) new after = (rounds : ℕ) → IsUnderWay s text held read from rounds
+    → IsUnderWay s text new after next (rounds + 1)
 Advances s text held read from (Ok None) new after = (rounds : ℕ) → IsUnderWay s text held read from rounds → IsReadWhole s text new after
 Advances s text held read from (Err fault) new after = Unit {0}
 

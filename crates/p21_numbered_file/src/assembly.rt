@@ -1,5 +1,5 @@
 //! The numbered file, put together.
-ghost use Rattle.std.specs.Prelude.{◌≡◌, ◌<◌, ◌↔◌, length, IfOk, IsPermutation};
+ghost use Rattle.std.specs.Prelude.{◌≡◌, ◌<◌, length, IfOk, IsPermutation};
 ghost use Rattle.p21_spec_basics.proofs.Shuffles.{NoneTwice};
 ghost use Rattle.p21_numbered.specs.Lines.{held_lines};
 ghost use Rattle.p21_numbered_file.specs.Assembly.{IsPutTogether, IsReady, stored_rows, line_names};

@@ -1,12 +1,11 @@
 //! How data sections begin (ISO 10303-21, data sections).
 ghost use Rattle.std.specs.List.{AllZip};
 ghost use Rattle.std.specs.Option.{option_copied};
-ghost use Rattle.std.specs.Prelude.{◌≡◌, [], IfOk, IfSome, IsNone, List, ℕ};
+ghost use Rattle.std.specs.Prelude.{◌≡◌, [], IfOk, IfSome, IsNone, List};
 ghost use Rattle.p21_spec_exchange.specs.CanonicalText.{statement_text};
 ghost use Rattle.p21_spec_exchange.specs.DataSection.{heading_of, named, unnamed};
 ghost use Rattle.p21_spec_exchange.specs.Statement.{data_start, section};
 ghost use Rattle.p21_grammar_tree.specs.View.{items_of, view, views};
-ghost use Rattle.p21_spec_numbering.specs.Numbered.{heading_label};
 ghost use Rattle.p21_numbering.specs.Rows.{lent_rows};
 ghost use Rattle.p21_stream_output.specs.NamedSections.{AreEmpty, HasHeading};
 ghost use Rattle.p21_numbered_file.specs.Headings.{AreTextsOf, heading_in, headings_in, label_in};

@@ -31,7 +31,8 @@ pub struct Paired {
     pub file: Accepted,
     /// The old name of each instance, by its new one.
     pub old_names: BTreeMap<u64, u64>,
-    /// How many pairs were made by the order of the files alone, and could have been others: above `MOST_CHOICES` they decide nothing.
+    /// How many pairs differ that were made by the order of the files alone, and could have been others: above `MOST_CHOICES` they decide
+    /// nothing.
     pub choices: usize,
 }
 
@@ -140,7 +141,7 @@ fn renamed_file(
     }
 }
 
-/// The new name of each instance by its old one, the old one by the new one, and how many pairs could have been others.
+/// The new name of each instance by its old one, the old one by the new one, and how many pairs differ and could have been others.
 #[derive(Drop)]
 struct NewNames {
     pub new: BTreeMap<u64, u64>,

@@ -57,7 +57,8 @@ impl<'a> ReadFile<'a> {
         event: Event,
     ) -> Result<(), NoMemory>
         requires { StandsNext schema.now self.old (statement_of event) }
-        ensures { OnOk result ((next : StandsNext schema.now self.old (statement_of event)) → IsReadTo schema.now next.meaning (next.given ++ statement_of event ∷ []) self.new) }
+        ensures { OnOk result ((next : StandsNext schema.now self.old (statement_of event))
+            → IsReadTo schema.now next.meaning (next.given ++ statement_of event ∷ []) self.new) }
     {
         match event {
             Event::Section(line) => self.take_line(line),
@@ -71,7 +72,8 @@ impl<'a> ReadFile<'a> {
     fn take_line(&mut self, line: Line) -> Result<(), NoMemory>
         ensures header { self.new.header ≡ self.old.header }
         ensures instances { self.new.instances ≡ self.old.instances }
-        ensures sections { OnOk result (headings_in self.new.sections.items ≡ headings_behind (headings_in self.old.sections.items) (line_of line)) }
+        ensures sections { OnOk result (headings_in self.new.sections.items ≡ headings_behind (headings_in self.old.sections.items)
+            (line_of line)) }
     {
         match line {
             Line::DataStart => {
@@ -89,7 +91,8 @@ impl<'a> ReadFile<'a> {
     fn take_heading(&mut self, part: Part) -> Result<(), NoMemory>
         ensures header { self.new.header ≡ self.old.header }
         ensures instances { self.new.instances ≡ self.old.instances }
-        ensures sections { OnOk result (headings_in self.new.sections.items ≡ headings_in self.old.sections.items ++ heading_of (views (items_of part.params)) ∷ []) }
+        ensures sections { OnOk result (headings_in self.new.sections.items ≡ headings_in self.old.sections.items
+            ++ heading_of (views (items_of part.params)) ∷ []) }
     {
         self.sections.push(Some(part))?;
         Ok(())
@@ -115,7 +118,8 @@ impl<'a> ReadFile<'a> {
         of: Record,
     ) -> Result<(), NoMemory>
         requires { StandsNext schema.now self.old (instance name (record_view of)) }
-        ensures { OnOk result ((next : StandsNext schema.now self.old (instance name (record_view of))) → IsReadTo schema.now next.meaning (next.given ++ instance name (record_view of) ∷ []) self.new) }
+        ensures { OnOk result ((next : StandsNext schema.now self.old (instance name (record_view of)))
+            → IsReadTo schema.now next.meaning (next.given ++ instance name (record_view of) ∷ []) self.new) }
     {
         let Ok((typed, _needs)) = check_owned_record(alloc, schema, of, &mut Trail::new()) else {
             return Err(NoMemory);

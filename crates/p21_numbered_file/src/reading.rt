@@ -1,5 +1,5 @@
 //! An accepted text, read once more.
-ghost use Rattle.std.specs.Prelude.{◌≡◌, ◌≤◌, ℕ, length, IfOk, IfSome, OnOk};
+ghost use Rattle.std.specs.Prelude.{◌≤◌, ℕ, length, IfOk, IfSome, OnOk};
 ghost use Rattle.p21_spec_file.specs.Accepted.{IsAccepted};
 ghost use Rattle.p21_numbered_file.specs.Reading.{Advances, IsReadOf, IsReadWhole, IsUnderWay};
 

@@ -1,6 +1,6 @@
 //! How many bytes a file has.
 ghost use Rattle.std.specs.List.{AllByRecursion as Each};
-ghost use Rattle.std.specs.Prelude.{◌≡◌, ◌≤◌, ◌+◌, ◌↔◌, List, length, IfSome, IsTrue};
+ghost use Rattle.std.specs.Prelude.{◌≡◌, ◌≤◌, ◌↔◌, length, IfSome, IsTrue};
 ghost use Rattle.p21_spec_laws.specs.CompleteFile.{Line};
 ghost use Rattle.p21_numbered.specs.Lines.{held_lines};
 ghost use Rattle.p21_numbered_file.specs.Sizes.{file_size as size_of_file, lines_size as size_of_lines, sections_size as size_of_sections};

@@ -1,5 +1,5 @@
 -- The lines of an accepted file tell what its text means, and what means the same.
-use Rattle.std.specs.Prelude.{◌≡◌, ℕ, List}
+use Rattle.std.specs.Prelude.{ℕ, List}
 use Rattle.std.proofs.Common.{subst}
 use Rattle.p21_differences.proofs.FileLines.{lines-are_of_meaning}
 use Rattle.p21_differences.specs.Laws.{AreKept}
@@ -18,7 +18,8 @@ use Rattle.p21_stream_output.specs.Output.{Output, output_text}
 use Rattle.p21_stream_store.specs.StoredInstance.{StoredInstance}
 
 -- the lines of a file are those of each one that means the same
-lines-of_same : (s : Schema) (m n : FileMeaning) (kept : List StoredInstance) → SameFileMeaning m n → AreLinesOf s m kept → AreLinesOf s n kept
+lines-of_same : (s : Schema) (m n : FileMeaning) (kept : List StoredInstance) → SameFileMeaning m n → AreLinesOf s m kept
+    → AreLinesOf s n kept
 lines-of_same s m n kept same are = record {
   names_are = λ name. (
     λ is. (are.names_are name).0 (names-among n m (SameFileMeaning-symmetric m n same) name is),
@@ -27,12 +28,18 @@ lines-of_same s m n kept same are = record {
   lines_are = λ name line y is_kept at.
       let (x, among, alike) = same.back name y at in
       let own = are.lines_are name line x is_kept among in
-      record { record_ = own.record_; stated = own.stated; same = SameTyped-transitive own.stated.canonical_meaning x y own.same (SameTyped-symmetric y x alike) };
+      record {
+        record_ = own.record_;
+        stated = own.stated;
+        same =
+            SameTyped-transitive own.stated.canonical_meaning x y own.same (SameTyped-symmetric y x alike);
+      };
 }
 
 module _ (s : Schema) (formed : IsWellFormed s) (limits : Limits) where
   -- a canonical text means what it is the text of
-  pub text-same : (meaning own : FileMeaning) (text : List ℕ) → IsCanonicalOf s limits meaning text → Reads s text own → SameFileMeaning own meaning
+  pub text-same : (meaning own : FileMeaning) (text : List ℕ) → IsCanonicalOf s limits meaning text → Reads s text own
+      → SameFileMeaning own meaning
   text-same meaning own text is reads =
       let P : FileMeaning → Type 0 = λ m. SameFileMeaning m meaning in
       subst P (one-meaning s formed text is.canonical.meaning own is.canonical.reads reads) is.same
@@ -41,7 +48,14 @@ module _ (s : Schema) (formed : IsWellFormed s) (limits : Limits) where
     are-kept : AreKept s bytes output.kept
     are-kept =
         let are = is.instances_are in
-        record { structure = are.structure; schema_text = are.schema_text; in_grammar = are.in_grammar; names_are = are.names_are; texts_are = are.texts_are }
+        record {
+          structure = are.structure;
+          schema_text = are.schema_text;
+          in_grammar = are.in_grammar;
+          names_are =
+              are.names_are;
+          texts_are = are.texts_are;
+        }
 
     abbrev own : FileMeaning
     own = is.is_canonical.0
@@ -52,8 +66,5 @@ module _ (s : Schema) (formed : IsWellFormed s) (limits : Limits) where
     -- those of an accepted file are those of what its canonical text means
     pub text-lines : (m : FileMeaning) → Reads s (output_text output) m → AreLinesOf s m output.kept
     text-lines m reads =
-        lines-of_same s own m output.kept (SameFileMeaning-symmetric m own (text-same own m (output_text output) is.is_canonical.2 reads)) own-lines
-
-    -- and those of what its bytes are a canonical text of
-    pub source-lines : (m : FileMeaning) → IsCanonicalOf s limits m bytes → AreLinesOf s m output.kept
-    source-lines m canonical = lines-of_same s own m output.kept (text-same m own bytes canonical is.is_canonical.1.reads) own-lines
+        lines-of_same s own m output.kept (SameFileMeaning-symmetric m own (text-same own m (output_text output) is.is_canonical.2 reads))
+        own-lines

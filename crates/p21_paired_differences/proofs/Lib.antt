@@ -1,3 +1,4 @@
 pub mod KeptLines
+mod RenamedLines
 pub mod Pairs
 pub mod ReadFiles

@@ -1,7 +1,6 @@
 -- Files that are read and listed by pairs, or refused.
 use Rattle.std.specs.Prelude.{◌≡◌, ℕ, Bool, List, Option}
-use Rattle.std.proofs.Common.{[], ◌++◌, ap, inl, inr, subst, sym, refl, ◌∙◌}
-use Rattle.std.proofs.lemmas.List.{append-nil}
+use Rattle.std.proofs.Common.{inl, inr, subst, sym, refl}
 use Rattle.p21_difference_rows.specs.declared.row.RowForm.{RowForm}
 use Rattle.p21_numbered_file.specs.declared.pairing.Unpaired.{Unpaired}
 use Rattle.p21_numbered_file.specs.declared.pairing.Unpaired.TheVariants as unpaired
@@ -17,10 +16,12 @@ use Rattle.p21_stream_numbered.specs.Compared.{HasCanonical}
 use Rattle.p21_stream_output.specs.Output.{Output, output_text}
 use Rattle.p21_stream_statements.specs.declared.fault.Fault.{Fault}
 use Rattle.p21_stream_statements.specs.declared.fault.Fault.TheVariants.{NoMemory}
+use Rattle.p21_paired_differences.specs.declared.by_pairs.PairRows.{PairRows}
 use Rattle.p21_paired_differences.specs.ByPairs.{FailsToPair, HasNoList, IsAcceptedFile, IsFaultOfPairs, IsTooLongByPairs, ListsOfFiles, ListsOfRead}
 
 -- a session accepted what was read
-pub is-accepted_file : (s : Schema) (limits : Limits) (old new : Option (List ℕ)) (output : Output) → IsAcceptedInput s limits old new output → IsAcceptedFile s limits output
+pub is-accepted_file : (s : Schema) (limits : Limits) (old new : Option (List ℕ)) (output : Output)
+    → IsAcceptedInput s limits old new output → IsAcceptedFile s limits output
 is-accepted_file s limits old new output is = (is.bytes, is.accepted)
 
 module _ (s : Schema) (formed : IsWellFormed s) (limits : Limits) (are : AreLimits limits) (first_old first_new : Option (List ℕ)) where
@@ -28,9 +29,11 @@ module _ (s : Schema) (formed : IsWellFormed s) (limits : Limits) (are : AreLimi
   has-canonical output is = (output_text output, canonical-of_read s formed limits are first_old first_new output is)
 
   module _ (second_old second_new : Option (List ℕ)) where
-    pub read-listed : (form : RowForm) (before after : Output) (same : Bool) (text : List ℕ) → IsAcceptedInput s limits first_old first_new before → IsAcceptedInput s limits second_old second_new after
-        → ListsOfFiles form s limits before after same text → ListsOfRead form s limits first_old first_new second_old second_new same text
-    read-listed form before after same text first second lists = record {
+    pub read-listed : (form : RowForm) (pairs : PairRows) (before after : Output) (same : Bool) (text : List ℕ)
+        → IsAcceptedInput s limits first_old first_new before → IsAcceptedInput s limits second_old second_new after
+        → ListsOfFiles form pairs s limits before after same text
+        → ListsOfRead form pairs s limits first_old first_new second_old second_new same text
+    read-listed form pairs before after same text first second lists = record {
       first_text = output_text before;
       first = canonical-of_read s formed limits are first_old first_new before first;
       second_text = output_text after;
@@ -39,13 +42,16 @@ module _ (s : Schema) (formed : IsWellFormed s) (limits : Limits) (are : AreLimi
     }
 
     -- the second is refused
-    pub second-fails : (before : Output) (fault : Fault) → IsAcceptedInput s limits first_old first_new before → RefusesRead s limits second_old second_new fault
+    pub second-fails : (before : Output) (fault : Fault) → IsAcceptedInput s limits first_old first_new before
+        → RefusesRead s limits second_old second_new fault
         → FailsToPair s limits first_old first_new second_old second_new Second fault
     second-fails before fault first refuses = inl (has-canonical before first, refuses)
 
     -- both are accepted, and there is no list
-    pub pairing-fails : (before after : Output) (why : Unpaired) (which : Which) (fault : Fault) → IsAcceptedInput s limits first_old first_new before → IsAcceptedInput s limits second_old second_new after
-        → HasNoList s limits (output_text before) (output_text after) why → IsFaultOfPairs why which fault → FailsToPair s limits first_old first_new second_old second_new which fault
+    pub pairing-fails : (before after : Output) (why : Unpaired) (which : Which) (fault : Fault)
+        → IsAcceptedInput s limits first_old first_new before → IsAcceptedInput s limits second_old second_new after
+        → HasNoList s limits (output_text before) (output_text after) why → IsFaultOfPairs why which fault
+        → FailsToPair s limits first_old first_new second_old second_new which fault
     pairing-fails before after unpaired.TooLong which fault first second none (of_first, too_long) =
         let long : IsTooLongByPairs s limits first_old first_new second_old second_new = record {
           first_text = output_text before;
@@ -61,20 +67,18 @@ module _ (s : Schema) (formed : IsWellFormed s) (limits : Limits) (are : AreLimi
         inl (subst P (sym of_second) (has-canonical before first, subst Q (sym no_memory) tt))
 
 -- then no reader failed
-pub no-first_failure : (count : ℕ) (why : Unpaired) (which : Which) (fault : Fault) → IsFaultOfPairs why which fault → first_failures count which fault ≡ count
-no-first_failure count unpaired.TooLong First fault is = let P : Fault → Type 0 = λ f. read_failures count f ≡ count in subst P (sym is.1) refl
+pub no-first_failure : (count : ℕ) (why : Unpaired) (which : Which) (fault : Fault) → IsFaultOfPairs why which fault
+    → first_failures count which fault ≡ count
+no-first_failure count unpaired.TooLong First fault is = let P : Fault
+    → Type 0 = λ f. read_failures count f ≡ count in subst P (sym is.1) refl
 no-first_failure count unpaired.TooLong Second fault is = refl
 no-first_failure count unpaired.NoMemory First fault is = cc is.0
 no-first_failure count unpaired.NoMemory Second fault is = refl
 
-pub no-second_failure : (count : ℕ) (why : Unpaired) (which : Which) (fault : Fault) → IsFaultOfPairs why which fault → second_failures count which fault ≡ count
+pub no-second_failure : (count : ℕ) (why : Unpaired) (which : Which) (fault : Fault) → IsFaultOfPairs why which fault
+    → second_failures count which fault ≡ count
 no-second_failure count unpaired.TooLong First fault is = refl
 no-second_failure count unpaired.TooLong Second fault is = cc is.0
 no-second_failure count unpaired.NoMemory First fault is = refl
-no-second_failure count unpaired.NoMemory Second fault is = let P : Fault → Type 0 = λ f. read_failures count f ≡ count in subst P (sym is.1) refl
-
--- ---- a text that is read again
-
--- a reader of a text that was read to its end gave this text
-pub read-whole : (text bytes : List ℕ) (new : List ℕ) → text ≡ bytes ++ new → new ≡ [] → text ≡ bytes
-read-whole text bytes new is none = is ∙ ap (λ (t : List ℕ). bytes ++ t) none ∙ append-nil bytes
+no-second_failure count unpaired.NoMemory Second fault is = let P : Fault
+    → Type 0 = λ f. read_failures count f ≡ count in subst P (sym is.1) refl

@@ -1,1 +1,2 @@
 pub mod ByPairs
+pub mod Shown

@@ -2,16 +2,15 @@
 //!
 //! Both files are accepted as by `accept` of `p21_stream`. `paired_file` of `p21_numbered_file` then writes the first one anew, under the
 //! names of its partners in the second, and `list_differences` of `p21_difference_rows` lists what differs in these two, with both names
-//! in each row. The renamed file is read once more between them (`src/again`), since what is promised of it is promised of its text, and
-//! the list is made from lines that a session kept. So what is listed is what differs by the pairs (`ListsByPairs` of `specs/ByPairs`),
-//! and `pairing_laws` says what an empty list means.
+//! in each row, behind the pairs where these are asked for. So what is listed is what differs by the pairs (`ListsByPairs` of
+//! `specs/ByPairs`), and `pairing_laws` says what an empty list means.
 //!
-//! Where files differ and more pairs than `MOST_CHOICES` were made by order alone, no list is made: others could be shorter.
+//! Where files differ, and so do more pairs than `MOST_CHOICES` that were chosen among several, no list is made: others could be shorter.
 #![tactic(auto)]
 
-mod again;
 mod by_pairs;
 mod reading;
 
+pub use by_pairs::PairRows;
 pub use p21_difference_rows::{DifferenceList, RowForm};
 pub use reading::paired_differences;

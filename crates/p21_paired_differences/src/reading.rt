@@ -5,7 +5,7 @@ ghost use Rattle.p21_stream.specs.ReaderInput.{ConsumesAtMost};
 ghost use Rattle.p21_stream_numbered.specs.Compared.{HasCanonical};
 ghost use Rattle.p21_stream.specs.Answers.{first_failures, second_failures};
 
-use crate::by_pairs::list_by_pairs;
+use crate::by_pairs::{PairRows, list_by_pairs};
 use p21_difference_rows::{DifferenceList, RowForm};
 use p21_numbered_file::{Unpaired, text_of};
 use p21_schema::Schema;
@@ -26,10 +26,11 @@ pub fn paired_differences<A: Read, B: Read>(
     schema: &Schema,
     limits: Limits,
     form: RowForm,
+    pairs: PairRows,
     first: &mut Watched<A>,
     second: &mut Watched<B>,
 ) -> Result<DifferenceList, (Which, Refusal)>
-    ensures ok { IfOk result (λ found. ListsOfRead form schema.now limits (A.remaining first.old.inner) (A.remaining first.new.inner)
+    ensures ok { IfOk result (λ found. ListsOfRead form pairs schema.now limits (A.remaining first.old.inner) (A.remaining first.new.inner)
         (B.remaining second.old.inner) (B.remaining second.new.inner) found.is_same found.text.items) }
     ensures err { IfErr result (λ answer. FailsToPair schema.now limits (A.remaining first.old.inner) (A.remaining first.new.inner)
         (B.remaining second.old.inner) (B.remaining second.new.inner) answer.0 answer.1.fault) }
@@ -50,7 +51,7 @@ pub fn paired_differences<A: Read, B: Read>(
         Ok(accepted) => accepted,
         Err(refusal) => return Err((Which::Second, refusal)),
     };
-    match list_by_pairs(alloc, schema, limits, form, &before, &after) {
+    match list_by_pairs(alloc, schema, limits, form, pairs, &before, &after) {
         Ok(found) => Ok(found),
         Err(fault) => Err(refused(alloc, fault, &before)),
     }

@@ -25,7 +25,8 @@ module _ (keys : List ℕ) (start : ℕ) (partners : List (Option ℕ)) where
   ]
 
   -- one that doesn't have the key leaves what holds it
-  other-holds : (count key : ℕ) (h : Holder) → ¬ HasKey keys start partners (count + 1) key count → Holds keys start partners count key h → Holds keys start partners (count + 1) key h
+  other-holds : (count key : ℕ) (h : Holder) → ¬ HasKey keys start partners (count + 1) key count → Holds keys start partners count key h
+      → Holds keys start partners (count + 1) key h
   other-holds count key Nobody lacks holds = λ n has. elim (has-cases count key n has) [
     | inl before ↦ holds n before
     | inr same ↦ lacks (let P : ℕ → Type 0 = λ k. HasKey keys start partners (count + 1) key k in subst P same has)
@@ -40,7 +41,8 @@ module _ (keys : List ℕ) (start : ℕ) (partners : List (Option ℕ)) where
   other-holds count key Several lacks (m, n, differ, own, own_) = (m, n, differ, has-more count key m own, has-more count key n own_)
 
   -- and one that does is counted
-  own-holds : (count key : ℕ) (h : Holder) → HasKey keys start partners (count + 1) key count → Holds keys start partners count key h → Holds keys start partners (count + 1) key (more_held h count)
+  own-holds : (count key : ℕ) (h : Holder) → HasKey keys start partners (count + 1) key count → Holds keys start partners count key h
+      → Holds keys start partners (count + 1) key (more_held h count)
   own-holds count key Nobody has holds = (
     has,
     λ k own. elim (has-cases count key k own) [
@@ -48,26 +50,38 @@ module _ (keys : List ℕ) (start : ℕ) (partners : List (Option ℕ)) where
       | inr same ↦ same
     ],
   )
-  own-holds count key (One n) has (own, alone) = (n, count, (λ same. (let below = own.below in omega (arith, below, same))), has-more count key n own, has)
+  own-holds count key (One n) has (own, alone) = (
+    n,
+    count,
+    (λ same. (let below = own.below in omega (arith, below, same))),
+    has-more count
+        key n own,
+    has,
+  )
   own-holds count key Several has (m, n, differ, own, own_) = (m, n, differ, has-more count key m own, has-more count key n own_)
 
-  pub nothing-held : (holders : List Holder) → ((key : ℕ) → key < length keys → holder_at holders key ≡ Nobody) → AreHolders keys start partners 0 holders
+  pub nothing-held : (holders : List Holder) → ((key : ℕ) → key < length keys → holder_at holders key ≡ Nobody)
+      → AreHolders keys start partners 0 holders
   nothing-held holders none key low =
       let P : Holder → Type 0 = λ h. Holds keys start partners 0 key h in
       subst P (sym (none key low)) (λ n has. (let below = has.below in omega (arith, below)))
 
   -- one with a partner is passed
-  pub passed-held : (count : ℕ) (holders : List Holder) → ¬ IsFree partners count → AreHolders keys start partners count holders → AreHolders keys start partners (count + 1) holders
+  pub passed-held : (count : ℕ) (holders : List Holder) → ¬ IsFree partners count → AreHolders keys start partners count holders
+      → AreHolders keys start partners (count + 1) holders
   passed-held count holders taken are key low = other-holds count key (holder_at holders key) (λ has. taken has.free) (are key low)
 
-  pub more-holders : (count : ℕ) (holders : List Holder) → length holders ≡ length keys → IsFree partners count → rank_at keys (start + count) < length keys
+  pub more-holders : (count : ℕ) (holders : List Holder) → length holders ≡ length keys → IsFree partners count
+      → rank_at keys (start + count) < length keys
       → AreHolders keys start partners count holders
-      → AreHolders keys start partners (count + 1) (slice_set holders (rank_at keys (start + count)) (more_held (holder_at holders (rank_at keys (start + count))) count))
+      → AreHolders keys start partners (count + 1) (slice_set holders (rank_at keys (start + count))
+      (more_held (holder_at holders (rank_at keys (start + count))) count))
   more-holders count holders long free small are key low = elim (cases_eq key own) [
     | inl same ↦ (
         let P : ℕ → Type 0 = λ k. Holds keys start partners (count + 1) k (holder_at all k) in
         let Q : Holder → Type 0 = λ h. Holds keys start partners (count + 1) own h in
-        subst P (sym same) (subst Q (sym (get_or-set_same holders own (more_held (holder_at holders own) count) Nobody (omega (arith, small, long))))
+        subst P (sym same) (subst Q (sym (get_or-set_same holders own (more_held (holder_at holders own) count) Nobody
+        (omega (arith, small, long))))
         (own-holds count own (holder_at holders own) (record { below = omega arith; free = free; key_is = refl }) (are own small))))
     | inr differ ↦ (
         let Q : Holder → Type 0 = λ h. Holds keys start partners (count + 1) key h in
@@ -82,7 +96,8 @@ module _ (keys : List ℕ) (start : ℕ) (partners : List (Option ℕ)) where
       all = slice_set holders own (more_held (holder_at holders own) count)
 
   -- who is alone in its file holds its key
-  pub alone-holds : (holders : List Holder) → AreHolders keys start partners (length partners) holders → (n : ℕ) → IsAloneIn keys start partners n
+  pub alone-holds : (holders : List Holder) → AreHolders keys start partners (length partners) holders → (n : ℕ)
+      → IsAloneIn keys start partners n
       → rank_at keys (start + n) < length keys → holder_at holders (rank_at keys (start + n)) ≡ One n
   alone-holds holders are n alone low = by (holder_at holders key) refl (are key low)
     where
@@ -95,7 +110,8 @@ module _ (keys : List ℕ) (start : ℕ) (partners : List (Option ℕ)) where
       by : (h : Holder) → holder_at holders key ≡ h → Holds keys start partners (length partners) key h → holder_at holders key ≡ One n
       by Nobody e none = absurd (none n own)
       by (One k) e (has, only) = e ∙ ap One (sym (only n own))
-      by Several e (k, m, differ, has, has_) = absurd (differ (alone.alone k has.free has.key_is ∙ sym (alone.alone m has_.free has_.key_is)))
+      by Several e (k, m, differ, has, has_) = absurd (differ
+          (alone.alone k has.free has.key_is ∙ sym (alone.alone m has_.free has_.key_is)))
 
 -- ---- pairs of those that hold one key alone in both files
 
@@ -103,9 +119,11 @@ abbrev pub HoldIn : List Holder → List Holder → ℕ → ℕ → ℕ → Type
 HoldIn firsts seconds key i j = Hold (holder_at firsts key) (holder_at seconds key) i j
 
 -- those that hold keys below this one have become partners, and no others have
-pub record AreSoFar (kinds : List ℕ) (ps os : List (Option ℕ)) (firsts seconds : List Holder) (below : ℕ) (qs rs : List (Option ℕ)) : Type 0 where
+pub record AreSoFar (kinds : List ℕ) (ps os : List (Option ℕ)) (firsts seconds : List Holder) (below : ℕ) (qs rs : List (Option ℕ)) : Type
+    0 where
   pub more : AreMore kinds ps os qs rs
-  pub done : (key i j : ℕ) → key < below → HoldIn firsts seconds key i j → rank_at kinds i ≡ rank_at kinds (length ps + j) → partner_at qs i ≡ Some j
+  pub done : (key i j : ℕ) → key < below → HoldIn firsts seconds key i j → rank_at kinds i ≡ rank_at kinds (length ps + j)
+      → partner_at qs i ≡ Some j
   pub only : (i j : ℕ) → partner_at qs i ≡ Some j → (partner_at ps i ≡ Some j) ⊎ ((key : ℕ) × (key < below) × HoldIn firsts seconds key i j)
 
 module _ (keys kinds : List ℕ) (ps os : List (Option ℕ)) (pairs : ArePairs kinds ps os) (firsts seconds : List Holder)
@@ -120,13 +138,15 @@ module _ (keys kinds : List ℕ) (ps os : List (Option ℕ)) (pairs : ArePairs k
   held-first key i j low (one, other) = let P : Holder → Type 0 = λ h. Holds keys 0 ps (length ps) key h in (subst P one (are key low)).0
 
   held-second : (key i j : ℕ) → key < length keys → HoldAt key i j → HasKey keys (length ps) os (length os) key j
-  held-second key i j low (one, other) = let P : Holder → Type 0 = λ h. Holds keys (length ps) os (length os) key h in (subst P other (are_ key low)).0
+  held-second key i j low (one, other) = let P : Holder
+      → Type 0 = λ h. Holds keys (length ps) os (length os) key h in (subst P other (are_ key low)).0
 
   pub held-within : (key i j : ℕ) → key < length keys → HoldAt key i j → (i < length ps) × (j < length os)
   held-within key i j low hold = ((held-first key i j low hold).below, (held-second key i j low hold).below)
 
   -- they are free when their key's turn comes
-  pub still-free : (key : ℕ) (qs rs : List (Option ℕ)) → key < length keys → AreSoFarHere key qs rs → (i j : ℕ) → HoldAt key i j → (partner_at qs i ≡ None) × (partner_at rs j ≡ None)
+  pub still-free : (key : ℕ) (qs rs : List (Option ℕ)) → key < length keys → AreSoFarHere key qs rs → (i j : ℕ) → HoldAt key i j
+      → (partner_at qs i ≡ None) × (partner_at rs j ≡ None)
   still-free key qs rs low so_far i j hold = (first, second)
     where
       own : HasKey keys 0 ps (length ps) key i
@@ -140,7 +160,8 @@ module _ (keys kinds : List ℕ) (ps os : List (Option ℕ)) (pairs : ArePairs k
         | inl free ↦ free
         | inr (k, at) ↦ elim (so_far.only i k at) [
           | inl before ↦ absurd (none-some k (sym own.free.1 ∙ before))
-          | inr (key_, below, hold_) ↦ (let same : key_ ≡ key = sym (held-first key_ i k (omega (arith, below, low)) hold_).key_is ∙ own.key_is in absurd (omega (arith, below, same)))
+          | inr (key_, below, hold_) ↦ (let same : key_ ≡ key = sym (held-first key_ i k (omega (arith, below, low)) hold_).key_is
+              ∙ own.key_is in absurd (omega (arith, below, same)))
         ]
       ]
 
@@ -149,7 +170,8 @@ module _ (keys kinds : List ℕ) (ps os : List (Option ℕ)) (pairs : ArePairs k
         | inl free ↦ free
         | inr (k, at) ↦ elim (so_far.only k j (so_far.more.pairs.back j k at)) [
           | inl before ↦ absurd (none-some k (sym own_.free.1 ∙ pairs.there k j before))
-          | inr (key_, below, hold_) ↦ (let same : key_ ≡ key = sym (held-second key_ k j (omega (arith, below, low)) hold_).key_is ∙ own_.key_is in absurd (omega (arith, below, same)))
+          | inr (key_, below, hold_) ↦ (let same : key_ ≡ key = sym (held-second key_ k j (omega (arith, below, low)) hold_).key_is
+              ∙ own_.key_is in absurd (omega (arith, below, same)))
         ]
       ]
 
@@ -161,8 +183,10 @@ module _ (keys kinds : List ℕ) (ps os : List (Option ℕ)) (pairs : ArePairs k
   }
 
   -- one key more
-  pub key-more : (key : ℕ) (qs rs more_qs more_rs : List (Option ℕ)) → key < length keys → AreSoFarHere key qs rs → AreMore kinds qs rs more_qs more_rs
-      → ((i j : ℕ) → HoldAt key i j → partner_at qs i ≡ None → partner_at rs j ≡ None → rank_at kinds i ≡ rank_at kinds (length qs + j) → partner_at more_qs i ≡ Some j)
+  pub key-more : (key : ℕ) (qs rs more_qs more_rs : List (Option ℕ)) → key < length keys → AreSoFarHere key qs rs
+      → AreMore kinds qs rs more_qs more_rs
+      → ((i j : ℕ) → HoldAt key i j → partner_at qs i ≡ None → partner_at rs j ≡ None → rank_at kinds i ≡ rank_at kinds (length qs + j)
+      → partner_at more_qs i ≡ Some j)
       → ((i j : ℕ) → partner_at more_qs i ≡ Some j → (partner_at qs i ≡ Some j) ⊎ HoldAt key i j)
       → AreSoFarHere (key + 1) more_qs more_rs
   key-more key qs rs more_qs more_rs low so_far more joined only = record {
@@ -185,8 +209,10 @@ module _ (keys kinds : List ℕ) (ps os : List (Option ℕ)) (pairs : ArePairs k
   }
 
   -- who is alone in both files with one key has become a partner of the other
-  pub alone-paired : (qs rs : List (Option ℕ)) → AreSoFarHere (length keys) qs rs → ((k : ℕ) → k < length keys → rank_at keys k < length keys) → length keys ≡ length ps + length os
-      → (i j : ℕ) → IsAloneIn keys 0 ps i → IsAloneIn keys (length ps) os j → rank_at keys i ≡ rank_at keys (length ps + j) → rank_at kinds i ≡ rank_at kinds (length ps + j) → partner_at qs i ≡ Some j
+  pub alone-paired : (qs rs : List (Option ℕ)) → AreSoFarHere (length keys) qs rs
+      → ((k : ℕ) → k < length keys → rank_at keys k < length keys) → length keys ≡ length ps + length os
+      → (i j : ℕ) → IsAloneIn keys 0 ps i → IsAloneIn keys (length ps) os j → rank_at keys i ≡ rank_at keys (length ps + j)
+      → rank_at kinds i ≡ rank_at kinds (length ps + j) → partner_at qs i ≡ Some j
   alone-paired qs rs so_far within long i j alone alone_ one_key one_kind =
       let low = alone.free.0 in
       let low_ = alone_.free.0 in
@@ -194,8 +220,10 @@ module _ (keys kinds : List ℕ) (ps os : List (Option ℕ)) (pairs : ArePairs k
       let small_ : rank_at keys (length ps + j) < length keys = within (length ps + j) (omega (arith, low_, long)) in
       let zero_add : 0 + i ≡ i = omega arith in
       let same : rank_at keys (0 + i) ≡ rank_at keys (length ps + j) = ap (rank_at keys) zero_add ∙ one_key in
-      let first : holder_at firsts (rank_at keys (length ps + j)) ≡ One i = ap (holder_at firsts) (sym same) ∙ alone-holds keys 0 ps firsts are i alone small in
-      let second : holder_at seconds (rank_at keys (length ps + j)) ≡ One j = alone-holds keys (length ps) os seconds are_ j alone_ small_ in
+      let first : holder_at firsts (rank_at keys (length ps + j)) ≡ One i = ap (holder_at firsts) (sym same)
+      ∙ alone-holds keys 0 ps firsts are i alone small in
+      let second : holder_at seconds (rank_at keys (length ps + j)) ≡ One j =
+      alone-holds keys (length ps) os seconds are_ j alone_ small_ in
       so_far.done (rank_at keys (length ps + j)) i j small_ (first, second) one_kind
 
 -- ---- holders by cases

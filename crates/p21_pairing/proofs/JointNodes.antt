@@ -49,10 +49,18 @@ module _ (s : Schema) (c j : FileMeaning) (p moved into : ℕ → ℕ) (turns : 
   moved-node k low node is = record {
     typed = turned;
     heading = own.heading;
-    instance = (let P : ℕ → Type 0 = λ n. Contains (renamed p j).instances (n, turned) in subst P named (Contains-mapped (renamed_instance p) j.instances (into is.own.name, renamed_typed into own.typed) (inside (into is.own.name, renamed_typed into own.typed) (Contains-mapped (renamed_instance into) c.instances (is.own.name, own.typed) own.instance))));
-    section = (let P : ℕ → Type 0 = λ n. Contains (renamed p j).instance_sections (n, own.heading) in subst P named (Contains-mapped (renamed_section p) j.instance_sections (into is.own.name, own.heading) (inside_sections (into is.own.name, own.heading) (Contains-mapped (renamed_section into) c.instance_sections (is.own.name, own.heading) own.section))));
-    label_is = is.label_is ∙ own.label_is ∙ ap (λ (t : List ℕ). row_of_texts (heading_label (Some own.heading) ++ (t ∷ []))) (sym same_text);
-    uses_are = is.uses_are ∙ ap (map (moved_use moved)) own.uses_are ∙ sym (typed_uses-renamed moved own.typed) ∙ ap typed_uses (sym (typed-twice into p moved own.typed (λ t among. turns t)));
+    instance = (let P : ℕ → Type 0 = λ n. Contains (renamed p j).instances (n, turned) in
+        subst P named (Contains-mapped (renamed_instance p) j.instances (into is.own.name, renamed_typed into own.typed)
+        (inside (into is.own.name, renamed_typed into own.typed)
+        (Contains-mapped (renamed_instance into) c.instances (is.own.name, own.typed) own.instance))));
+    section = (let P : ℕ → Type 0 = λ n. Contains (renamed p j).instance_sections (n, own.heading) in
+        subst P named (Contains-mapped (renamed_section p) j.instance_sections (into is.own.name, own.heading)
+        (inside_sections (into is.own.name, own.heading) (Contains-mapped (renamed_section into) c.instance_sections
+        (is.own.name, own.heading) own.section))));
+    label_is = is.label_is ∙ own.label_is ∙ ap (λ (t : List ℕ). row_of_texts (heading_label (Some own.heading) ++ (t ∷ [])))
+        (sym same_text);
+    uses_are = is.uses_are ∙ ap (map (moved_use moved)) own.uses_are ∙ sym (typed_uses-renamed moved own.typed)
+        ∙ ap typed_uses (sym (typed-twice into p moved own.typed (λ t among. turns t)));
   }
     where
       inst : IsInstanceOf c (instance_at all k)
@@ -68,12 +76,14 @@ module _ (s : Schema) (c j : FileMeaning) (p moved into : ℕ → ℕ) (turns : 
       named = turns is.own.name ∙ ap moved is.own_name ∙ sym is.name_is
 
       same_text : unnamed_text s own.typed.entities turned.values ≡ unnamed_text s own.typed.entities own.typed.values
-      same_text = unnamed-renamed s p own.typed.entities (map (renamed_values into) own.typed.values) ∙ unnamed-renamed s into own.typed.entities own.typed.values
+      same_text = unnamed-renamed s p own.typed.entities (map (renamed_values into) own.typed.values)
+          ∙ unnamed-renamed s into own.typed.entities own.typed.values
 
 -- names among instances
 module _ (c : FileMeaning) (proper : IsProper c) (all : List Instance) (are : AreInstancesOf c all) where
   pub own-once : NoneTwice (names_of all)
-  own-once = Shuffled-none_twice (names c) (names_of all) (Shuffled-symmetric (names_of all) (names c) are.names_are) (names-none_twice c proper.0)
+  own-once = Shuffled-none_twice (names c) (names_of all) (Shuffled-symmetric (names_of all) (names c) are.names_are)
+      (names-none_twice c proper.0)
 
   pub own-among : (n : ℕ) → Contains (names c) n → Contains (names_of all) n
   own-among n among = Shuffled-members (names c) (names_of all) (Shuffled-symmetric (names_of all) (names c) are.names_are) n among
@@ -82,21 +92,26 @@ module _ (c : FileMeaning) (proper : IsProper c) (all : List Instance) (are : Ar
   among-own n among = Shuffled-members (names_of all) (names c) are.names_are n among
 
   pub member-at : (k : ℕ) → k < length all → Contains (names c) (instance_at all k).name
-  member-at k low = Contains-mapped (λ (i : ℕ × Typed). i.0) c.instances ((instance_at all k).name, (instance_at all k).typed) (are.each k low).instance
+  member-at k low = Contains-mapped (λ (i : ℕ × Typed). i.0) c.instances ((instance_at all k).name, (instance_at all k).typed)
+      (are.each k low).instance
 
-  position-within : (moved : ℕ → ℕ) (start : ℕ) → ArePositions moved start (names_of all) → (n : ℕ) → Contains (names c) n → (moved n ≡ start + position (names_of all) n) × (position (names_of all) n < length all)
+  position-within : (moved : ℕ → ℕ) (start : ℕ) → ArePositions moved start (names_of all) → (n : ℕ) → Contains (names c) n
+      → (moved n ≡ start + position (names_of all) n) × (position (names_of all) n < length all)
   position-within moved start positions n among =
       let low = position-low (names_of all) n (own-among n among) in
       (positions own-once n (own-among n among), omega (arith, low, length-map all (λ (i : Instance). i.name)))
 
-  positions-differ : (moved : ℕ → ℕ) (start : ℕ) → ArePositions moved start (names_of all) → (m n : ℕ) → Contains (names c) m → Contains (names c) n → moved m ≡ moved n → m ≡ n
+  positions-differ : (moved : ℕ → ℕ) (start : ℕ) → ArePositions moved start (names_of all) → (m n : ℕ) → Contains (names c) m
+      → Contains (names c) n → moved m ≡ moved n → m ≡ n
   positions-differ moved start positions m n among among_ same =
       let one = (position-within moved start positions m among).0 in
       let other = (position-within moved start positions n among_).0 in
       number-injective (names_of all) m n (own-among m among) (own-among n among_) (omega (arith, one, other, same))
 
-module _ (s : Schema) (a b : FileMeaning) (proper : IsProper a) (proper_ : IsProper b) (first second : List Instance) (are : AreInstancesOf a first) (are_ : AreInstancesOf b second)
-    (nodes : List Node) (long : length nodes ≡ length first + length second) (one : AreMovedNodes s first 0 nodes) (other : AreMovedNodes s second (length first) nodes) where
+module _ (s : Schema) (a b : FileMeaning) (proper : IsProper a) (proper_ : IsProper b) (first second : List Instance)
+    (are : AreInstancesOf a first) (are_ : AreInstancesOf b second)
+    (nodes : List Node) (long : length nodes ≡ length first + length second) (one : AreMovedNodes s first 0 nodes)
+    (other : AreMovedNodes s second (length first) nodes) where
   abbrev p : ℕ → ℕ
   p = by_parity one.moved other.moved
 
@@ -132,11 +147,15 @@ module _ (s : Schema) (a b : FileMeaning) (proper : IsProper a) (proper_ : IsPro
     where
       by : (m n : ℕ) → p m ≡ p n → Which m → Which n → m ≡ n
       by m n same (inl (i, at, is)) (inl (k, at_, is_)) =
-          sym is ∙ ap of_first (positions-differ a proper first are one.moved 0 one.positions i k at at_ (sym (p-first i) ∙ ap p is ∙ same ∙ ap p (sym is_) ∙ p-first k)) ∙ is_
+          sym is ∙ ap of_first (positions-differ a proper first are one.moved 0 one.positions i k at at_
+          (sym (p-first i) ∙ ap p is ∙ same ∙ ap p (sym is_) ∙ p-first k)) ∙ is_
       by m n same (inr (i, at, is)) (inr (k, at_, is_)) =
-          sym is ∙ ap of_second (positions-differ b proper_ second are_ other.moved (length first) other.positions i k at at_ (sym (p-second i) ∙ ap p is ∙ same ∙ ap p (sym is_) ∙ p-second k)) ∙ is_
-      by m n same (inl (i, at, is)) (inr (k, at_, is_)) = absurd (apart i k at at_ (sym (p-first i) ∙ ap p is ∙ same ∙ ap p (sym is_) ∙ p-second k))
-      by m n same (inr (i, at, is)) (inl (k, at_, is_)) = absurd (apart k i at_ at (sym (p-first k) ∙ ap p is_ ∙ sym same ∙ ap p (sym is) ∙ p-second i))
+          sym is ∙ ap of_second (positions-differ b proper_ second are_ other.moved (length first) other.positions i k at at_
+          (sym (p-second i) ∙ ap p is ∙ same ∙ ap p (sym is_) ∙ p-second k)) ∙ is_
+      by m n same (inl (i, at, is)) (inr (k, at_, is_)) =
+          absurd (apart i k at at_ (sym (p-first i) ∙ ap p is ∙ same ∙ ap p (sym is_) ∙ p-second k))
+      by m n same (inr (i, at, is)) (inl (k, at_, is_)) =
+          absurd (apart k i at_ at (sym (p-first k) ∙ ap p is_ ∙ sym same ∙ ap p (sym is) ∙ p-second i))
 
   -- ---- the nodes
 
@@ -159,7 +178,8 @@ module _ (s : Schema) (a b : FileMeaning) (proper : IsProper a) (proper_ : IsPro
       let P : ℕ → Type 0 = λ i. IsNodeOf s (renamed p j) (node_at nodes i) in
       elim (cases_below k (length first)) [
         | inl below ↦ (let same : 0 + k ≡ k = omega arith in subst P same (node-first k below))
-        | inr past ↦ (let same : length first + (k - length first) ≡ k = omega (arith, past) in subst P same (node-second (k - length first) (omega (arith, past, low, long))))
+        | inr past ↦ (let same : length first + (k - length first) ≡ k = omega (arith, past) in
+            subst P same (node-second (k - length first) (omega (arith, past, low, long))))
       ]
 
   name-first : (k : ℕ) → k < length first → name_at nodes k ≡ one.moved (instance_at first k).name
@@ -187,7 +207,8 @@ module _ (s : Schema) (a b : FileMeaning) (proper : IsProper a) (proper_ : IsPro
           let own_size = length-map nodes (λ (n : Node). n.name) in
           omega (arith, joined_size, own_size, long, size-first, size-second)
 
-      at : (k : ℕ) → k < length (node_names nodes) → get_or (node_names nodes) k 0 ≡ get_or (map one.moved (names_of first) ++ map other.moved (names_of second)) k 0
+      at : (k : ℕ) → k < length (node_names nodes) → get_or (node_names nodes) k 0 ≡ get_or
+          (map one.moved (names_of first) ++ map other.moved (names_of second)) k 0
       at k low =
           let own_size = length-map nodes (λ (n : Node). n.name) in
           let below : k < length nodes = omega (arith, low, own_size) in
@@ -195,7 +216,8 @@ module _ (s : Schema) (a b : FileMeaning) (proper : IsProper a) (proper_ : IsPro
           elim (cases_below k (length first)) [
             | inl under ↦
                 here ∙ name-first k under
-                ∙ sym (get_or_append_left (map one.moved (names_of first)) (map other.moved (names_of second)) 0 k (omega (arith, under, size-first))
+                ∙ sym (get_or_append_left (map one.moved (names_of first)) (map other.moved (names_of second)) 0 k
+                (omega (arith, under, size-first))
                 ∙ get_or-map one.moved (names_of first) k 0 0 (omega (arith, under, length-map first (λ (i : Instance). i.name)))
                 ∙ ap one.moved (get_or-map (λ (i : Instance). i.name) first k no_instance 0 under))
             | inr past ↦
@@ -203,7 +225,8 @@ module _ (s : Schema) (a b : FileMeaning) (proper : IsProper a) (proper_ : IsPro
                 let same : k ≡ length first + i = omega (arith, past) in
                 let under : i < length second = omega (arith, past, below, long) in
                 here ∙ ap (name_at nodes) same ∙ name-second i under
-                ∙ sym (get_or-append_right (map one.moved (names_of first)) (map other.moved (names_of second)) (length first) k 0 size-first past
+                ∙ sym (get_or-append_right (map one.moved (names_of first)) (map other.moved (names_of second)) (length first) k 0
+                size-first past
                 ∙ get_or-map other.moved (names_of second) i 0 0 (omega (arith, under, length-map second (λ (i : Instance). i.name)))
                 ∙ ap other.moved (get_or-map (λ (i : Instance). i.name) second i no_instance 0 under))
           ]
@@ -211,16 +234,21 @@ module _ (s : Schema) (a b : FileMeaning) (proper : IsProper a) (proper_ : IsPro
   turned-names : names (renamed p j) ≡ map one.moved (names a) ++ map other.moved (names b)
   turned-names =
       names-renamed p j ∙ ap (map p) (names-joined a b) ∙ map-append p (map of_first (names a)) (map of_second (names b))
-      ∙ ap (λ (ns : List ℕ). ns ++ map p (map of_second (names b))) (map-mapped p of_first (names a) ∙ map-agree (λ n. p (of_first n)) one.moved (names a) (λ n among. p-first n))
-      ∙ ap (λ (ns : List ℕ). map one.moved (names a) ++ ns) (map-mapped p of_second (names b) ∙ map-agree (λ n. p (of_second n)) other.moved (names b) (λ n among. p-second n))
+      ∙ ap (λ (ns : List ℕ). ns ++ map p (map of_second (names b)))
+      (map-mapped p of_first (names a) ∙ map-agree (λ n. p (of_first n)) one.moved (names a) (λ n among. p-first n))
+      ∙ ap (λ (ns : List ℕ). map one.moved (names a) ++ ns)
+      (map-mapped p of_second (names b) ∙ map-agree (λ n. p (of_second n)) other.moved (names b) (λ n among. p-second n))
 
   are-nodes : AreNodesOf s (renamed p j) nodes
   are-nodes = record {
     names_are =
         let P : List ℕ → Type 0 = λ ns. Shuffled ns (names (renamed p j)) in
         let Q : List ℕ → Type 0 = λ ns. Shuffled (map one.moved (names_of first) ++ map other.moved (names_of second)) ns in
-        subst P (sym own-names) (subst Q (sym turned-names) (Shuffled-joined (map one.moved (names_of first)) (map one.moved (names a)) (map other.moved (names_of second)) (map other.moved (names b))
-        (Shuffled-mapped one.moved (names_of first) (names a) are.names_are) (Shuffled-mapped other.moved (names_of second) (names b) are_.names_are)));
+        subst P (sym own-names) (subst Q (sym turned-names)
+        (Shuffled-joined (map one.moved (names_of first)) (map one.moved (names a)) (map other.moved (names_of second))
+        (map other.moved (names b))
+        (Shuffled-mapped one.moved (names_of first) (names a) are.names_are)
+        (Shuffled-mapped other.moved (names_of second) (names b) are_.names_are)));
     each = each-node;
   }
 
@@ -237,12 +265,14 @@ module _ (s : Schema) (a b : FileMeaning) (proper : IsProper a) (proper_ : IsPro
   of-first : (n : ℕ) → Contains (names a) n → Contains (names j) (of_first n)
   of-first n among =
       let P : List ℕ → Type 0 = λ ns. Contains ns (of_first n) in
-      subst P (sym (names-joined a b)) (Contains-append_left (map of_first (names a)) (map of_second (names b)) (of_first n) (Contains-mapped of_first (names a) n among))
+      subst P (sym (names-joined a b)) (Contains-append_left (map of_first (names a)) (map of_second (names b)) (of_first n)
+      (Contains-mapped of_first (names a) n among))
 
   of-second : (n : ℕ) → Contains (names b) n → Contains (names j) (of_second n)
   of-second n among =
       let P : List ℕ → Type 0 = λ ns. Contains ns (of_second n) in
-      subst P (sym (names-joined a b)) (Contains-append_right (map of_first (names a)) (map of_second (names b)) (of_second n) (Contains-mapped of_second (names b) n among))
+      subst P (sym (names-joined a b)) (Contains-append_right (map of_first (names a)) (map of_second (names b)) (of_second n)
+      (Contains-mapped of_second (names b) n among))
 
   module _ (ranks : List ℕ) (have : ((m : FileMeaning) → IsProper m → AreNodesOf s m nodes → HaveRanks (ranking_of s m) nodes ranks)) where
     pub joint-ranks : AreJointRanks (ranking_of s) a b first second ranks
@@ -250,16 +280,19 @@ module _ (s : Schema) (a b : FileMeaning) (proper : IsProper a) (proper_ : IsPro
       of_one = λ k low.
           let n : ℕ = (instance_at first k).name in
           let at = have (renamed p j) turned are-nodes k (omega (arith, low, long)) in
-          at ∙ ap (ranking_of s (renamed p j)) (name-first k low ∙ sym (p-first n)) ∙ kept (of_first n) (of-first n (member-at a proper first are k low));
+          at ∙ ap (ranking_of s (renamed p j)) (name-first k low ∙ sym (p-first n))
+          ∙ kept (of_first n) (of-first n (member-at a proper first are k low));
       of_other = λ k low.
           let n : ℕ = (instance_at second k).name in
           let at = have (renamed p j) turned are-nodes (length first + k) (omega (arith, low, long)) in
-          at ∙ ap (ranking_of s (renamed p j)) (name-second k low ∙ sym (p-second n)) ∙ kept (of_second n) (of-second n (member-at b proper_ second are_ k low));
+          at ∙ ap (ranking_of s (renamed p j)) (name-second k low ∙ sym (p-second n))
+          ∙ kept (of_second n) (of-second n (member-at b proper_ second are_ k low));
     }
 
 -- ---- positions that are given one by one, and references
 
-pub positions-given : (found : BTreeMap ℕ ℕ) (ns : List ℕ) (start k : ℕ) → length ns ≤ k → GetBelow found ns (λ j. start + j) k → ArePositions (new_name found) start ns
+pub positions-given : (found : BTreeMap ℕ ℕ) (ns : List ℕ) (start k : ℕ) → length ns ≤ k → GetBelow found ns (λ j. start + j) k
+    → ArePositions (new_name found) start ns
 positions-given found ns start k long given once n among =
     let (low, same) = got ns (position ns n) n 0 (position-at ns n among) in
     ap (new_name found) (sym same) ∙ given once (position ns n) (omega (arith, low, long))
@@ -274,9 +307,12 @@ split_last : (m n : ℕ) → m < n + 1 → (m < n) ⊎ (m ≡ n)
 split_last m n low = grind arith
 
 -- one node more
-pub behind-more : (P : ℕ → Node → Type 0) (xs : List Node) (x : Node) (start k : ℕ) → length xs ≡ start + k → ((j : ℕ) → j < k → P j (node_at xs (start + j))) → P k x
+pub behind-more : (P : ℕ → Node → Type 0) (xs : List Node) (x : Node) (start k : ℕ) → length xs ≡ start + k
+    → ((j : ℕ) → j < k → P j (node_at xs (start + j))) → P k x
     → (j : ℕ) → j < k + 1 → P j (node_at (xs ++ x ∷ []) (start + j))
 behind-more P xs x start k long each one j low = elim (split_last j k low) [
-  | inl below ↦ (let Q : Node → Type 0 = λ n. P j n in subst Q (sym (get_or_append_left xs (x ∷ []) no_node (start + j) (omega (arith, below, long)))) (each j below))
-  | inr same ↦ (let Q : ℕ → Type 0 = λ i. P i (node_at (xs ++ x ∷ []) (start + i)) in let R : Node → Type 0 = λ n. P k n in subst Q (sym same) (subst R (sym (get_or_push xs x no_node (start + k) long)) one))
+  | inl below ↦ (let Q : Node → Type 0 = λ n. P j n in
+      subst Q (sym (get_or_append_left xs (x ∷ []) no_node (start + j) (omega (arith, below, long)))) (each j below))
+  | inr same ↦ (let Q : ℕ → Type 0 = λ i. P i (node_at (xs ++ x ∷ []) (start + i)) in let R : Node
+      → Type 0 = λ n. P k n in subst Q (sym same) (subst R (sym (get_or_push xs x no_node (start + k) long)) one))
 ]

@@ -30,10 +30,12 @@ module _ (first second : List Instance) where
   rows = map own first ++ map own second
 
   rows-long : length rows ≡ length first + length second
-  rows-long = let joined = length-append (map own first) (map own second) in omega (arith, joined, length-map first own, length-map second own)
+  rows-long = let joined = length-append (map own first) (map own second) in
+      omega (arith, joined, length-map first own, length-map second own)
 
   at-first : (i : ℕ) → i < length first → get_or rows i [] ≡ entities_at first i
-  at-first i low = get_or_append_left (map own first) (map own second) [] i (omega (arith, low, length-map first own)) ∙ get_or-map own first i no_instance [] low
+  at-first i low = get_or_append_left (map own first) (map own second) [] i (omega (arith, low, length-map first own))
+      ∙ get_or-map own first i no_instance [] low
 
   at-second : (j : ℕ) → j < length second → get_or rows (length first + j) [] ≡ entities_at second j
   at-second j low =
@@ -44,13 +46,17 @@ module _ (first second : List Instance) where
   pub kinds-are : (kinds : List ℕ) → kinds ≡ map (rank_among rows) rows → AreKinds first second kinds
   kinds-are kinds are = record {
     long = ranks-long rows kinds are ∙ rows-long;
-    within = λ k low. (let long = ranks-long rows kinds are in let below = ranks-within rows kinds are k (omega (arith, low, long)) in omega (arith, below, long));
+    within = λ k low. (let long = ranks-long rows kinds are in let below = ranks-within rows kinds are k (omega (arith, low, long)) in
+        omega (arith, below, long));
     one_set = λ i j low low_.
         let in_rows : i < length rows = omega (arith, low, rows-long) in
         let in_rows_ : length first + j < length rows = omega (arith, low_, rows-long) in
         let one : rank_at kinds i ≡ rank_among rows (get_or rows i []) = rank-at rows kinds are i in_rows in
-        let other : rank_at kinds (length first + j) ≡ rank_among rows (get_or rows (length first + j) []) = rank-at rows kinds are (length first + j) in_rows_ in (
-          λ same. sym (at-first i low) ∙ rank-apart rows (get_or rows i []) (get_or rows (length first + j) []) (Contains-get_or rows i [] in_rows) (Contains-get_or rows (length first + j) [] in_rows_) (sym one ∙ same ∙ other) ∙ at-second j low_,
+        let other : rank_at kinds (length first + j) ≡ rank_among rows (get_or rows (length first + j) []) =
+        rank-at rows kinds are (length first + j) in_rows_ in (
+          λ same. sym (at-first i low) ∙ rank-apart rows (get_or rows i []) (get_or rows (length first + j) [])
+              (Contains-get_or rows i [] in_rows) (Contains-get_or rows (length first + j) [] in_rows_) (sym one ∙ same ∙ other)
+              ∙ at-second j low_,
           λ alike. one ∙ ap (rank_among rows) (at-first i low ∙ alike ∙ sym (at-second j low_)) ∙ sym other,
         );
   }

@@ -24,14 +24,16 @@ nothing-in (x ∷ xs) none = absurd (Contains-none x (none x (Contains-first x x
 
 -- ---- rows of all that are free
 
-pub nothing-listed : (keys : List ℕ) (start : ℕ) (owners : List (Option ℕ)) (rows : List (List ℕ)) → length rows ≡ length keys → ((key : ℕ) → row_at rows key ≡ []) → AreListed keys start owners (length owners) rows
+pub nothing-listed : (keys : List ℕ) (start : ℕ) (owners : List (Option ℕ)) (rows : List (List ℕ)) → length rows ≡ length keys
+    → ((key : ℕ) → row_at rows key ≡ []) → AreListed keys start owners (length owners) rows
 nothing-listed keys start owners rows long none = record {
   long = long;
   within = λ key j among. absurd (Contains-none j (let P : List ℕ → Type 0 = λ xs. Contains xs j in subst P (none key) among));
   all = λ j past free. absurd (let low = free.0 in omega (arith, past, low));
 }
 
-pub passed-listed : (keys : List ℕ) (start : ℕ) (owners : List (Option ℕ)) (one beginning : ℕ) (rows : List (List ℕ)) → one + 1 ≡ beginning → ¬ IsFree owners one → AreListed keys start owners beginning rows → AreListed keys start owners one rows
+pub passed-listed : (keys : List ℕ) (start : ℕ) (owners : List (Option ℕ)) (one beginning : ℕ) (rows : List (List ℕ)) → one + 1 ≡ beginning
+    → ¬ IsFree owners one → AreListed keys start owners beginning rows → AreListed keys start owners one rows
 passed-listed keys start owners one beginning rows next taken are = record {
   long = are.long;
   within = are.within;
@@ -41,9 +43,11 @@ passed-listed keys start owners one beginning rows next taken are = record {
   ];
 }
 
-pub more-listed : (keys : List ℕ) (start : ℕ) (owners : List (Option ℕ)) (one beginning : ℕ) (rows : List (List ℕ)) → one + 1 ≡ beginning → one < length owners → rank_at keys (start + one) < length keys → AreListed keys start owners beginning rows
+pub more-listed : (keys : List ℕ) (start : ℕ) (owners : List (Option ℕ)) (one beginning : ℕ) (rows : List (List ℕ)) → one + 1 ≡ beginning
+    → one < length owners → rank_at keys (start + one) < length keys → AreListed keys start owners beginning rows
     → AreListed keys start owners one (slice_set rows (rank_at keys (start + one)) (row_at rows (rank_at keys (start + one)) ++ one ∷ []))
-more-listed keys start owners one beginning rows next low small are = record { long = length-set rows own (row_at rows own ++ one ∷ []) ∙ are.long; within = within; all = all }
+more-listed keys start owners one beginning rows next low small are =
+    record { long = length-set rows own (row_at rows own ++ one ∷ []) ∙ are.long; within = within; all = all }
   where
     own : ℕ
     own = rank_at keys (start + one)
@@ -78,7 +82,8 @@ more-listed keys start owners one beginning rows next low small are = record { l
           | inl behind ↦
               let before : Contains (row_at rows (rank_at keys (start + j))) j = are.all j (omega (arith, behind, next)) free in
               elim (cases_eq (rank_at keys (start + j)) own) [
-                | inl same ↦ subst P (sym (ap (row_at more) same ∙ at-own)) (Contains-append_left (row_at rows own) (one ∷ []) j (subst P (ap (row_at rows) same) before))
+                | inl same ↦ subst P (sym (ap (row_at more) same ∙ at-own))
+                    (Contains-append_left (row_at rows own) (one ∷ []) j (subst P (ap (row_at rows) same) before))
                 | inr differ ↦ subst P (sym (at-other (rank_at keys (start + j)) differ)) before
               ]
           | inr same ↦
@@ -90,7 +95,8 @@ more-listed keys start owners one beginning rows next low small are = record { l
 -- ---- one instance that tries a row
 
 -- what is gone from the row isn't free, or of another kind
-pub record IsTried (kinds : List ℕ) (one : ℕ) (ps os : List (Option ℕ)) (whole_row : List ℕ) (qs rs : List (Option ℕ)) (row : List ℕ) : Type 0 where
+pub record IsTried (kinds : List ℕ) (one : ℕ) (ps os : List (Option ℕ)) (whole_row : List ℕ) (qs rs : List (Option ℕ)) (row : List ℕ) : Type
+    0 where
   pub more : AreMore kinds ps os qs rs
   pub fewer : (j : ℕ) → Contains row j → Contains whole_row j
   pub kept : (j : ℕ) → Contains whole_row j → partner_at rs j ≡ None → rank_at kinds one ≡ rank_at kinds (length ps + j) → Contains row j
@@ -99,10 +105,13 @@ module _ (kinds : List ℕ) (one : ℕ) (ps os : List (Option ℕ)) (whole_row :
   pub none-tried : ArePairs kinds ps os → IsTried kinds one ps os whole_row ps os whole_row
   none-tried pairs = record { more = same-more kinds ps os pairs; fewer = λ j among. among; kept = λ j among free alike. among }
 
-  pub one-tried : (qs rs more_qs more_rs : List (Option ℕ)) (row rest : List ℕ) (other : ℕ) → IsTried kinds one ps os whole_row qs rs row → row ≡ rest ++ other ∷ [] → partner_at qs one ≡ None → AreJoined kinds one other qs rs more_qs more_rs → IsTried kinds one ps os whole_row more_qs more_rs rest
+  pub one-tried : (qs rs more_qs more_rs : List (Option ℕ)) (row rest : List ℕ) (other : ℕ) → IsTried kinds one ps os whole_row qs rs row
+      → row ≡ rest ++ other ∷ [] → partner_at qs one ≡ None → AreJoined kinds one other qs rs more_qs more_rs
+      → IsTried kinds one ps os whole_row more_qs more_rs rest
   one-tried qs rs more_qs more_rs row rest other tried is free joined = record {
     more = more-more kinds ps os qs rs more_qs more_rs tried.more joined.more;
-    fewer = λ j among. tried.fewer j (let P : List ℕ → Type 0 = λ xs. Contains xs j in subst P (sym is) (Contains-append_left rest (other ∷ []) j among));
+    fewer = λ j among. tried.fewer j (let P : List ℕ → Type 0 = λ xs. Contains xs j in
+        subst P (sym is) (Contains-append_left rest (other ∷ []) j among));
     kept = λ j among free_ alike.
         let before : partner_at rs j ≡ None = elim (has-or_free (partner_at rs j)) [
           | inl none ↦ none
@@ -113,7 +122,10 @@ module _ (kinds : List ℕ) (one : ℕ) (ps os : List (Option ℕ)) (whole_row :
           | inl earlier ↦ earlier
           | inr last ↦ elim (Contains-cases other [] j last) [
             | inl same ↦ (
-                let taken : partner_at more_rs other ≡ Some one = joined.more.pairs.there one other (joined.joined free (ap (partner_at rs) same ∙ before) (alike ∙ ap (λ n. rank_at kinds (n + j)) (sym tried.more.as_many) ∙ ap (λ n. rank_at kinds (length qs + n)) (sym same))) in
+                let taken : partner_at more_rs other ≡ Some one = joined.more.pairs.there one other
+                (joined.joined free (ap (partner_at rs) same ∙ before)
+                (alike ∙ ap (λ n. rank_at kinds (n + j)) (sym tried.more.as_many)
+                ∙ ap (λ n. rank_at kinds (length qs + n)) (sym same))) in
                 absurd (none-some one (sym free_ ∙ ap (partner_at more_rs) (sym same) ∙ taken)))
             | inr none ↦ absurd (Contains-none j none)
           ]
@@ -123,7 +135,8 @@ module _ (kinds : List ℕ) (one : ℕ) (ps os : List (Option ℕ)) (whole_row :
 -- ---- one instance after the other
 
 -- each free one of the second file is listed still, and those of the first that were passed and are free have empty rows
-pub record AreLeft (keys kinds : List ℕ) (ps os : List (Option ℕ)) (count : ℕ) (qs rs : List (Option ℕ)) (rows : List (List ℕ)) : Type 0 where
+pub record AreLeft (keys kinds : List ℕ) (ps os : List (Option ℕ)) (count : ℕ) (qs rs : List (Option ℕ)) (rows : List (List ℕ)) : Type
+    0 where
   pub more : AreMore kinds ps os qs rs
   pub long : length rows ≡ length keys
   pub within : (key j : ℕ) → Contains (row_at rows key) j → j < length os
@@ -131,7 +144,8 @@ pub record AreLeft (keys kinds : List ℕ) (ps os : List (Option ℕ)) (count : 
   pub empty : (i : ℕ) → i < count → IsFree qs i → row_at rows (rank_at keys i) ≡ []
 
 module _ (keys kinds : List ℕ) (ps os : List (Option ℕ)) where
-  pub all-left : ArePairs kinds ps os → (rows : List (List ℕ)) → AreListed keys (length ps) os 0 rows → AreLeft keys kinds ps os 0 ps os rows
+  pub all-left : ArePairs kinds ps os → (rows : List (List ℕ)) → AreListed keys (length ps) os 0 rows
+      → AreLeft keys kinds ps os 0 ps os rows
   all-left pairs rows are = record {
     more = same-more kinds ps os pairs;
     long = are.long;
@@ -140,10 +154,13 @@ module _ (keys kinds : List ℕ) (ps os : List (Option ℕ)) where
     empty = λ i below. absurd (omega (arith, below));
   }
 
-  pub one-left : (count : ℕ) (qs rs more_qs more_rs : List (Option ℕ)) (rows more : List (List ℕ)) (row : List ℕ) → count < length ps → length keys ≡ length ps + length os → AreLeft keys kinds ps os count qs rs rows
-      → length more ≡ length keys → row_at more (rank_at keys count) ≡ row → ((key : ℕ) → key ≢ rank_at keys count → row_at more key ≡ row_at rows key)
+  pub one-left : (count : ℕ) (qs rs more_qs more_rs : List (Option ℕ)) (rows more : List (List ℕ)) (row : List ℕ) → count < length ps
+      → length keys ≡ length ps + length os → AreLeft keys kinds ps os count qs rs rows
+      → length more ≡ length keys → row_at more (rank_at keys count) ≡ row
+      → ((key : ℕ) → key ≢ rank_at keys count → row_at more key ≡ row_at rows key)
       → AreMore kinds qs rs more_qs more_rs → ((j : ℕ) → Contains row j → Contains (row_at rows (rank_at keys count)) j)
-      → ((j : ℕ) → Contains (row_at rows (rank_at keys count)) j → partner_at more_rs j ≡ None → rank_at kinds count ≡ rank_at kinds (length qs + j) → Contains row j)
+      → ((j : ℕ) → Contains (row_at rows (rank_at keys count)) j → partner_at more_rs j ≡ None
+      → rank_at kinds count ≡ rank_at kinds (length qs + j) → Contains row j)
       → (partner_at more_qs count ≡ None → row ≡ []) → AreLeft keys kinds ps os (count + 1) more_qs more_rs more
   one-left count qs rs more_qs more_rs rows more row low sizes left long at-own at-other grown fewer kept found = record {
     more = more-more kinds ps os qs rs more_qs more_rs left.more grown;
@@ -161,15 +178,18 @@ module _ (keys kinds : List ℕ) (ps os : List (Option ℕ)) where
         elim (cases_eq (rank_at keys (length ps + j)) own) [
           | inl same ↦ (
               let in_file : length ps + j < length keys = omega (arith, below, grown.as_many_owners, left.more.as_many_owners, sizes) in
-              let alike : rank_at kinds count ≡ rank_at kinds (length ps + j) = say count (length ps + j) (omega (arith, low, sizes)) in_file (sym same) in
-              subst P (sym (ap (row_at more) same ∙ at-own)) (kept j (subst P (ap (row_at rows) same) before) free.1 (alike ∙ ap (λ n. rank_at kinds (n + j)) (sym left.more.as_many))))
+              let alike : rank_at kinds count ≡ rank_at kinds (length ps + j) =
+              say count (length ps + j) (omega (arith, low, sizes)) in_file (sym same) in
+              subst P (sym (ap (row_at more) same ∙ at-own)) (kept j (subst P (ap (row_at rows) same) before) free.1
+              (alike ∙ ap (λ n. rank_at kinds (n + j)) (sym left.more.as_many))))
           | inr differ ↦ subst P (sym (at-other (rank_at keys (length ps + j)) differ)) before
         ];
     empty = λ i below free. elim (split_last i count below) [
       | inl before ↦ (
           let none = left.empty i before (free-before kinds qs rs more_qs more_rs grown i free) in
           elim (cases_eq (rank_at keys i) own) [
-            | inl same ↦ ap (row_at more) same ∙ at-own ∙ nothing-in row (λ j among. let P : List ℕ → Type 0 = λ xs. Contains xs j in subst P (ap (row_at rows) (sym same) ∙ none) (fewer j among))
+            | inl same ↦ ap (row_at more) same ∙ at-own ∙ nothing-in row
+                (λ j among. let P : List ℕ → Type 0 = λ xs. Contains xs j in subst P (ap (row_at rows) (sym same) ∙ none) (fewer j among))
             | inr differ ↦ at-other (rank_at keys i) differ ∙ none
           ])
       | inr same ↦ ap (λ k. row_at more (rank_at keys k)) same ∙ at-own ∙ found (ap (partner_at more_qs) (sym same) ∙ free.1)
@@ -179,8 +199,10 @@ module _ (keys kinds : List ℕ) (ps os : List (Option ℕ)) where
       own : ℕ
       own = rank_at keys count
 
-  pub none-left : (qs rs : List (Option ℕ)) (rows : List (List ℕ)) (count : ℕ) → length ps ≤ count → AreLeft keys kinds ps os count qs rs rows → SayKinds keys kinds → NoneLeft keys (length ps) qs rs
+  pub none-left : (qs rs : List (Option ℕ)) (rows : List (List ℕ)) (count : ℕ) → length ps ≤ count
+      → AreLeft keys kinds ps os count qs rs rows → SayKinds keys kinds → NoneLeft keys (length ps) qs rs
   none-left qs rs rows count whole_ left say i j free free_ same =
       let low = free.0 in
       let P : List ℕ → Type 0 = λ xs. Contains xs j in
-      Contains-none j (subst P (ap (row_at rows) (sym same) ∙ left.empty i (omega (arith, low, left.more.as_many, whole_)) free) (left.all say j free_))
+      Contains-none j (subst P (ap (row_at rows) (sym same) ∙ left.empty i (omega (arith, low, left.more.as_many, whole_)) free)
+      (left.all say j free_))

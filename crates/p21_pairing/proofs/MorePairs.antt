@@ -26,7 +26,8 @@ module _ (kinds : List ℕ) where
   pub same-more : (partners owners : List (Option ℕ)) → ArePairs kinds partners owners → AreMore kinds partners owners partners owners
   same-more partners owners pairs = record { as_many = refl; as_many_owners = refl; pairs = pairs; kept = λ i j at. at }
 
-  pub more-more : (ps os ps_ os_ qs rs : List (Option ℕ)) → AreMore kinds ps os ps_ os_ → AreMore kinds ps_ os_ qs rs → AreMore kinds ps os qs rs
+  pub more-more : (ps os ps_ os_ qs rs : List (Option ℕ)) → AreMore kinds ps os ps_ os_ → AreMore kinds ps_ os_ qs rs
+      → AreMore kinds ps os qs rs
   more-more ps os ps_ os_ qs rs one other = record {
     as_many = other.as_many ∙ one.as_many;
     as_many_owners = other.as_many_owners ∙ one.as_many_owners;
@@ -44,10 +45,12 @@ module _ (kinds : List ℕ) where
     ],
   )
 
-  pub kept-owners : (ps os qs rs : List (Option ℕ)) → ArePairs kinds ps os → AreMore kinds ps os qs rs → (j i : ℕ) → partner_at os j ≡ Some i → partner_at rs j ≡ Some i
+  pub kept-owners : (ps os qs rs : List (Option ℕ)) → ArePairs kinds ps os → AreMore kinds ps os qs rs → (j i : ℕ)
+      → partner_at os j ≡ Some i → partner_at rs j ≡ Some i
   kept-owners ps os qs rs pairs more j i at = more.pairs.there i j (more.kept i j (pairs.back j i at))
 
-  pub free_owner-before : (ps os qs rs : List (Option ℕ)) → ArePairs kinds ps os → AreMore kinds ps os qs rs → (j : ℕ) → IsFree rs j → IsFree os j
+  pub free_owner-before : (ps os qs rs : List (Option ℕ)) → ArePairs kinds ps os → AreMore kinds ps os qs rs → (j : ℕ) → IsFree rs j
+      → IsFree os j
   free_owner-before ps os qs rs pairs more j (low, none) = (
     omega (arith, low, more.as_many_owners),
     elim (has-or_free (partner_at os j)) [
@@ -58,14 +61,16 @@ module _ (kinds : List ℕ) where
 
   module _ (one other : ℕ) (ps os : List (Option ℕ)) (pairs : ArePairs kinds ps os) where
     -- nothing is joined, where one isn't free or they are of two kinds
-    pub refused : ¬ ((partner_at ps one ≡ None) × (partner_at os other ≡ None) × (rank_at kinds one ≡ rank_at kinds (length ps + other))) → AreJoined kinds one other ps os ps os
+    pub refused : ¬ ((partner_at ps one ≡ None) × (partner_at os other ≡ None) × (rank_at kinds one ≡ rank_at kinds (length ps + other)))
+        → AreJoined kinds one other ps os ps os
     refused not_both = record {
       more = same-more ps os pairs;
       joined = λ free free_ alike. absurd (not_both (free, free_, alike));
       only = λ i j at. inl at;
     }
 
-    module _ (low : one < length ps) (low_ : other < length os) (free : partner_at ps one ≡ None) (free_ : partner_at os other ≡ None) (alike : rank_at kinds one ≡ rank_at kinds (length ps + other)) where
+    module _ (low : one < length ps) (low_ : other < length os) (free : partner_at ps one ≡ None) (free_ : partner_at os other ≡ None)
+        (alike : rank_at kinds one ≡ rank_at kinds (length ps + other)) where
       abbrev qs : List (Option ℕ)
       qs = slice_set ps one (Some other)
 

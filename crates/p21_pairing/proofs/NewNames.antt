@@ -35,9 +35,11 @@ kept-true : (b c : Bool) → c ≡ true → cond b true c ≡ true
 kept-true true c is = refl
 kept-true false c is = is
 
-pub has-more : (before after : BTreeSet ℕ) (names : List ℕ) (k : ℕ) → Updates nat_cmp before after (name_at names k) true → HasBelow before names k → HasBelow after names (k + 1)
+pub has-more : (before after : BTreeSet ℕ) (names : List ℕ) (k : ℕ) → Updates nat_cmp before after (name_at names k) true
+    → HasBelow before names k → HasBelow after names (k + 1)
 has-more before after names k updates so_far j low = elim (split_last j k low) [
-  | inl below ↦ updates.0 (name_at names j) ∙ kept-true (is_at (nat_cmp (name_at names k)) (name_at names j)) (contains nat_cmp before (name_at names j)) (so_far j below)
+  | inl below ↦ updates.0 (name_at names j) ∙ kept-true (is_at (nat_cmp (name_at names k)) (name_at names j))
+      (contains nat_cmp before (name_at names j)) (so_far j below)
   | inr same ↦ ap (λ i. contains nat_cmp after (name_at names i)) same ∙ updates.1
 ]
 
@@ -54,7 +56,8 @@ pub record AreNamedTo (partners : List (Option ℕ)) (second : List Instance) (n
   pub names : AreNewNames partners second news
   pub below : (i : ℕ) → i < length news → partner_at partners i ≡ None → name_at news i < next
 
-pub none-named : (partners : List (Option ℕ)) (second : List Instance) (news : List ℕ) (next : ℕ) → news ≡ [] → AreNamedTo partners second news next
+pub none-named : (partners : List (Option ℕ)) (second : List Instance) (news : List ℕ) (next : ℕ) → news ≡ []
+    → AreNamedTo partners second news next
 none-named partners second news next none = record {
   names = record {
     with_partner = λ i j low at. (absurd (past i low));
@@ -67,7 +70,8 @@ none-named partners second news next none = record {
     past : (i : ℕ) → i < length news → ⊥
     past i low = let size = ap (λ (xs : List ℕ). length xs) none in omega (arith, low, size)
 
-module _ (partners : List (Option ℕ)) (second : List Instance) (news more : List ℕ) (k before after name : ℕ) (size : length news ≡ k) (gives : GivesName second (partner_at partners k) before after name)
+module _ (partners : List (Option ℕ)) (second : List Instance) (news more : List ℕ) (k before after name : ℕ) (size : length news ≡ k)
+    (gives : GivesName second (partner_at partners k) before after name)
     (pushed : more ≡ news ++ name ∷ []) (so_far : AreNamedTo partners second news before) where
   early : (i : ℕ) → i < length news → name_at more i ≡ name_at news i
   early i low = ap (λ (xs : List ℕ). name_at xs i) pushed ∙ get_or_append_left news (name ∷ []) 0 i low
@@ -101,7 +105,8 @@ module _ (partners : List (Option ℕ)) (second : List Instance) (news more : Li
   free-last : (i : ℕ) → i ≡ k → partner_at partners i ≡ None → ¬ Contains (names_of second) name × (before ≤ name) × (name < after)
   free-last i same free = by-none (ap (partner_at partners) (sym same) ∙ free)
 
-  apart-more : (i j : ℕ) → i < length more → j < length more → partner_at partners i ≡ None → partner_at partners j ≡ None → name_at more i ≡ name_at more j → i ≡ j
+  apart-more : (i j : ℕ) → i < length more → j < length more → partner_at partners i ≡ None → partner_at partners j ≡ None
+      → name_at more i ≡ name_at more j → i ≡ j
   apart-more i j low low_ free free_ one = by (place i low) (place j low_)
     where
       by : ((i < length news) ⊎ (i ≡ k)) → ((j < length news) ⊎ (j ≡ k)) → i ≡ j
@@ -143,12 +148,15 @@ module _ (partners : List (Option ℕ)) (second : List Instance) (news more : Li
 
 -- ---- the map
 
-pub names-by : (partners : List (Option ℕ)) (first second : List Instance) (news : List ℕ) (found : BTreeMap ℕ ℕ) → length news ≡ length first → NamesGet found (names_of first) news → AreNewNames partners second news
+pub names-by : (partners : List (Option ℕ)) (first second : List Instance) (news : List ℕ) (found : BTreeMap ℕ ℕ)
+    → length news ≡ length first → NamesGet found (names_of first) news → AreNewNames partners second news
     → NoneTwice (names_of first) → AreNamesBy partners first second (new_name found)
 names-by partners first second news found size gets names once = record {
   with_partner = λ i j low at. (named i low ∙ names.with_partner i j (within i low) at);
-  without = λ i low free among. (let C : ℕ → Type 0 = λ n. Contains (names_of second) n in names.without i (within i low) free (subst C (named i low) among));
-  apart = λ i k low low_ free free_ same. (names.apart i k (within i low) (within k low_) free free_ (sym (named i low) ∙ same ∙ named k low_));
+  without = λ i low free among. (let C : ℕ → Type 0 = λ n. Contains (names_of second) n in
+      names.without i (within i low) free (subst C (named i low) among));
+  apart = λ i k low low_ free free_ same. (names.apart i k (within i low) (within k low_) free free_
+      (sym (named i low) ∙ same ∙ named k low_));
 }
   where
     within : (i : ℕ) → i < length first → i < length news

@@ -1,4 +1,4 @@
-//! Pairs by the order of the files, with how many of them could have been others.
+//! Pairs by the order of the files, with those of them that could have been others.
 ghost use Rattle.std.specs.Prelude.{IfOk};
 ghost use Rattle.p21_pairing.specs.Clauses.{AreForBoth, AreWithin, Fit, LeavesNone, More};
 
@@ -8,7 +8,7 @@ use crate::pairs::Pairs;
 use std::alloc::{AllocError, Global};
 
 /// The pairs, and those of what is left by keys, in order (`pair_left`); those of a key that several instances without a partner have in
-/// either file are counted.
+/// either file are noted as chosen.
 pub fn pair_in_order(
     alloc: Global,
     keys: &[usize],
@@ -26,7 +26,7 @@ pub fn pair_in_order(
     let seconds = holders(alloc, keys, pairs.partners.len(), &pairs.owners)?;
     let open = open_choices(alloc, keys, &firsts, &seconds, &pairs.partners)?;
     let mut left = pair_left(alloc, keys, kinds, pairs)?;
-    left.choices = left.choices.saturating_add(chosen(&open, &left.partners));
+    note_chosen(&open, &left.partners, &mut left.chosen)?;
     Ok(left)
 }
 
@@ -54,13 +54,16 @@ fn is_several(holders: &[Holder], key: usize) -> bool {
     }
 }
 
-/// How many of the choices that were open are made.
-fn chosen(open: &[bool], partners: &[Option<usize>]) -> usize {
-    let mut count: usize = 0;
-    for (is_open, partner) in open.iter().zip(partners) {
+/// Notes the instances of which an open choice is made.
+fn note_chosen(
+    open: &[bool],
+    partners: &[Option<usize>],
+    chosen: &mut Vec<usize>,
+) -> Result<(), AllocError> {
+    for (one, (is_open, partner)) in open.iter().zip(partners).enumerate() {
         if *is_open && partner.is_some() {
-            count = count.saturating_add(1);
+            chosen.push(one)?;
         }
     }
-    count
+    Ok(())
 }

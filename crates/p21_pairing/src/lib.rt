@@ -8,7 +8,7 @@
 //! Partners have one set of entities; `src/kinds` has a number for each set. First those are paired that are alone in their last rank
 //! in both files (`src/alone`), then those that are alone in what they say and in what is around them, round by round
 //! (`src/around`), and at last what is left in the order of the files (`src/left`), until no two of one set are. How many are paired by
-//! this order alone, where it could have been another (`src/choices`), no clause says.
+//! this order alone, where it could have been another (`src/choices`), and differ, no clause says.
 //!
 //! Each pair is made by one step that refuses what has a partner already, or is of another set (`with_pair` of `src/pairs`). So keys
 //! that say who is alike need no proof, and any choice of them meets the contract (`LeadToPairing` of `specs/Partners`): names that
@@ -26,6 +26,7 @@ mod names;
 mod pairs;
 mod population;
 mod rows;
+mod whole;
 
 pub use matching::{FoundPartners, MOST_CHOICES, partners};
 pub use names::names_by;

@@ -9,7 +9,6 @@ ghost use Rattle.p21_pairing.specs.Partners.{LeadToPairing};
 
 use crate::alone::pair_alone;
 use crate::around::pair_around;
-use crate::choices::pair_in_order;
 use crate::kinds::kinds;
 use crate::pairs::{Pairs, no_pairs};
 use crate::population::joint_nodes;
@@ -18,8 +17,8 @@ use p21_schema::Schema;
 use p21_values::NoMemory;
 use std::alloc::{AllocError, Global};
 
-/// Of more pairs than this that are made by order alone others may tell less: a list of what differs by them says more than anybody
-/// reads, and a caller had better say that nothing is decided.
+/// Where more pairs than this were chosen and differ, a list of what differs by them says more than anybody reads, and other pairs may
+/// tell less: a caller had better say that nothing is decided.
 pub const MOST_CHOICES: usize = 1000;
 
 /// Partners of the instances of two files.
@@ -27,7 +26,8 @@ pub const MOST_CHOICES: usize = 1000;
 pub struct FoundPartners {
     /// For each instance of the first file the position of its partner in the second one, if it has one.
     pub partners: Vec<Option<usize>>,
-    /// How many pairs were made by the order of the files alone, among several that are alike in what was looked at.
+    /// How many pairs differ that were made by the order of the files alone, among several that are alike in what was looked at: pairs
+    /// of copies, which say the same with partners around them, don't count.
     pub choices: usize,
 }
 
@@ -47,7 +47,8 @@ pub fn partners(
     requires second { Each (λ (i : InstanceOf). HasKnownParts schema.now i.typed) (file_instances second.now) }
     ensures size { IfOk result (λ found. length found.partners.items ≡ length first.now) }
     ensures within { IfOk result (λ found. (i j : ℕ) → partner_at found.partners.items i ≡ Some j → j < length second.now) }
-    ensures pairing { IfOk result (λ found. LeadToPairing schema.now (file_instances first.now) (file_instances second.now) found.partners.items) }
+    ensures pairing { IfOk result (λ found. LeadToPairing schema.now (file_instances first.now) (file_instances second.now)
+        found.partners.items) }
 {
     schema.well_formed();
     let nodes = joint_nodes(alloc, schema, first, second)?;
@@ -57,9 +58,12 @@ pub fn partners(
     let Pairs {
         partners,
         owners: _,
-        choices,
+        chosen,
     } = found;
-    Ok(FoundPartners { partners, choices })
+    Ok(FoundPartners {
+        partners,
+        choices: chosen.len(),
+    })
 }
 
 /// The pairs of so many instances in each file, by their nodes, their ranks and their kinds.
@@ -80,7 +84,6 @@ fn matched(
 {
     let none = no_pairs(alloc, first, second)?;
     let alone = pair_alone(alloc, ranks, kinds, none)?;
-    let near = pair_around(alloc, nodes, kinds, alone)?;
-    let left = pair_in_order(alloc, kinds, kinds, near)?;
+    let left = pair_around(alloc, nodes, kinds, alone)?;
     Ok(left)
 }

@@ -6,12 +6,13 @@ ghost use Rattle.p21_pairing.specs.Pairs.{partner_at};
 
 use std::alloc::{AllocError, Global};
 
-/// The partner of each instance of the first file, and of each one of the second; and how many pairs were made by order alone.
+/// The partner of each instance of the first file, and of each one of the second; and the instances of the first file that got theirs by
+/// order alone, where others could have been.
 #[derive(Drop)]
 pub struct Pairs {
     pub partners: Vec<Option<usize>>,
     pub owners: Vec<Option<usize>>,
-    pub choices: usize,
+    pub chosen: Vec<usize>,
 }
 
 /// No pairs of so many instances.
@@ -26,7 +27,7 @@ pub fn no_pairs(alloc: Global, first: usize, second: usize) -> Result<Pairs, All
     Ok(Pairs {
         partners,
         owners,
-        choices: 0,
+        chosen: Vec::new(alloc),
     })
 }
 
@@ -51,14 +52,14 @@ pub fn with_pair(kinds: &[usize], pairs: Pairs, one: usize, other: usize) -> Pai
     let Pairs {
         mut partners,
         mut owners,
-        choices,
+        chosen,
     } = pairs;
     partners[one] = Some(other);
     owners[other] = Some(one);
     Pairs {
         partners,
         owners,
-        choices,
+        chosen,
     }
 }
 

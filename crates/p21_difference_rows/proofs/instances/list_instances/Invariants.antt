@@ -9,7 +9,8 @@ use Rattle.p21_difference_rows.proofs.instances.list_instances.Given as goal
 abbrev pub invariant-loop-change : goal.invariant-loop-change
 invariant-loop-change l =
     (a b : FileMeaning) → AreLinesOf l.style.schema.now a l.first.kept → AreLinesOf l.style.schema.now b l.second.kept
-    → AddsRows l.style.form l.style.schema.now (real_name l.style.names) (TellsOf (λ (n : ℕ). n < l.least) a b) l.fn.rows.text.items l.rows.text.items
+    → AddsRows l.style.form l.style.schema.now (real_name l.style.names) (TellsOf (λ (n : ℕ). n < l.least) a b) l.fn.rows.text.items
+    l.rows.text.items
 
 abbrev pub decreases-loop-change : goal.decreases-loop-change
 decreases-loop-change l = 2 ^ 64 - l.least

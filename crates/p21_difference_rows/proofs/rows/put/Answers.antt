@@ -8,5 +8,7 @@ use Rattle.p21_difference_rows.proofs.rows.put.Goals as goal
 pub returns : goal.returns
 returns c =
     let s = c.args.style.now.schema.now in
-    let is = c.in_ok-push_front.ensures ∙ ap (λ (t : List ℕ). t ++ front c.args.style.now.form s (real_name c.args.style.now.names) c.args.subject.now) c.count.ensures in
-    on_ok_weaker c.push_rest.result (λ adds. one-added c.args.style.now.form s (real_name c.args.style.now.names) c.args.subject.now c.args.rows.now.text.items _ _ is adds) c.push_rest.ensures
+    let is = c.in_ok-push_front.ensures ∙ ap (λ (t : List ℕ). t
+    ++ front c.args.style.now.form s (real_name c.args.style.now.names) c.args.subject.now) c.count.ensures in
+    on_ok_weaker c.push_rest.result (λ adds. one-added c.args.style.now.form s (real_name c.args.style.now.names) c.args.subject.now
+    c.args.rows.now.text.items _ _ is adds) c.push_rest.ensures

@@ -15,7 +15,8 @@ pub loop-found-init : goal.loop-found-init
 loop-found-init c = (
   c.new-values.ensures.schema,
   λ record_ other stated others set.
-      values-begun c.args.style.now.form c.args.style.now.schema.now (real_name c.args.style.now.names) c.args.name c.args.name record_ other c.args.line.now c.args.other_line.now stated others c.new-values.result c.args.rows.now.text.items
+      values-begun c.args.style.now.form c.args.style.now.schema.now (real_name c.args.style.now.names) c.args.name c.args.name record_
+      other c.args.line.now c.args.other_line.now stated others c.new-values.result c.args.rows.now.text.items
       (c.new-values.ensures.told record_ other stated others set),
 )
 
@@ -23,11 +24,15 @@ pub loop-found-preserved : goal.loop-found-preserved
 loop-found-preserved c = (
   c.in-Some.ensures.schema ∙ c.loop-found.invariant.0,
   λ record_ other stated others set.
-      values-more c.args.style.now.form c.args.style.now.schema.now (real_name c.args.style.now.names) c.args.name stated.canonical_meaning others.canonical_meaning c.loop-found.values c.next.new.self c.in-Some.found
-      c.args.rows.now.text.items c.loop-found.rows.text.items _ (c.loop-found.invariant.1 record_ other stated others set) c.in-Some.ensures.handed c.in_ok-put.ensures,
+      values-more c.args.style.now.form c.args.style.now.schema.now (real_name c.args.style.now.names) c.args.name stated.canonical_meaning
+      others.canonical_meaning c.loop-found.values c.next.new.self c.in-Some.found
+      c.args.rows.now.text.items c.loop-found.rows.text.items _ (c.loop-found.invariant.1 record_ other stated others set)
+      c.in-Some.ensures.handed c.in_ok-put.ensures,
 )
 
 pub returns : goal.returns
 returns c record_ other stated others set =
-    values-ended c.args.style.now.form c.args.style.now.schema.now (real_name c.args.style.now.names) c.args.name stated.canonical_meaning others.canonical_meaning c.loop-found.values c.next.new.self
-    c.args.rows.now.text.items c.loop-found.rows.text.items (c.loop-found.invariant.1 record_ other stated others set) c.in_default.ensures.handed
+    values-ended c.args.style.now.form c.args.style.now.schema.now (real_name c.args.style.now.names) c.args.name stated.canonical_meaning
+    others.canonical_meaning c.loop-found.values c.next.new.self
+    c.args.rows.now.text.items c.loop-found.rows.text.items (c.loop-found.invariant.1 record_ other stated others set)
+    c.in_default.ensures.handed

@@ -10,9 +10,11 @@ use Rattle.p21_difference_rows.proofs.values.list_values.Given as goal
 abbrev pub invariant-loop-found : goal.invariant-loop-found
 invariant-loop-found l =
     (values_schema l.values ≡ l.style.schema.now)
-    × ((record_ other : Record) (stated : IsInstanceText l.style.schema.now l.name record_ l.line) (others : IsInstanceText l.style.schema.now l.name other l.other_line)
+    × ((record_ other : Record) (stated : IsInstanceText l.style.schema.now l.name record_ l.line)
+    (others : IsInstanceText l.style.schema.now l.name other l.other_line)
     → stated.canonical_meaning.entities ≡ others.canonical_meaning.entities
-    → IsHalfway l.style.form l.style.schema.now (real_name l.style.names) l.name stated.canonical_meaning others.canonical_meaning l.values l.fn.rows.text.items l.rows.text.items)
+    → IsHalfway l.style.form l.style.schema.now (real_name l.style.names) l.name stated.canonical_meaning others.canonical_meaning l.values
+    l.fn.rows.text.items l.rows.text.items)
 
 abbrev pub decreases-loop-found : goal.decreases-loop-found
 decreases-loop-found l = values_size l.values

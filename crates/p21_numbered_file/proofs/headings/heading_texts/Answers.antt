@@ -7,7 +7,8 @@ use Rattle.p21_numbered_file.specs.Headings.{AreTextsOf}
 use Rattle.p21_numbered_file.proofs.headings.heading_texts.Goals as goal
 
 pub loop-k-preserved : goal.loop-k-preserved
-loop-k-preserved c = texts-more c.args.sections.now c.loop-k.k c.index-sections-k.result c.loop-k.all.items c.push.new.self.items c.in_ok-texts.texts c.loop-k-test.true c.index-sections-k.is c.in_ok-push.ensures.items c.loop-k.invariant c.in_ok-texts.ensures
+loop-k-preserved c = texts-more c.args.sections.now c.loop-k.k c.index-sections-k.result c.loop-k.all.items c.push.new.self.items
+    c.in_ok-texts.texts c.loop-k-test.true c.index-sections-k.is c.in_ok-push.ensures.items c.loop-k.invariant c.in_ok-texts.ensures
 
 pub returns : goal.returns
 returns c =

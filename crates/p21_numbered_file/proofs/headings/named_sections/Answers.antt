@@ -10,8 +10,10 @@ use Rattle.p21_numbered_file.proofs.headings.named_sections.Goals as goal
 
 pub loop-k-preserved : goal.loop-k-preserved
 loop-k-preserved c = record {
-  begin = parts-more c.args.sections.now c.loop-k.k c.index-sections-k.result c.loop-k.parts.items c.push.new.self.items c.in_ok-part.part c.loop-k-test.true c.index-sections-k.is c.in_ok-push.ensures.items c.loop-k.invariant.begin c.in_ok-part.ensures.begins;
-  empty = empty-more c.loop-k.parts.items c.push.new.self.items c.in_ok-part.part c.in_ok-push.ensures.items c.loop-k.invariant.empty c.in_ok-part.ensures.empty;
+  begin = parts-more c.args.sections.now c.loop-k.k c.index-sections-k.result c.loop-k.parts.items c.push.new.self.items c.in_ok-part.part
+      c.loop-k-test.true c.index-sections-k.is c.in_ok-push.ensures.items c.loop-k.invariant.begin c.in_ok-part.ensures.begins;
+  empty = empty-more c.loop-k.parts.items c.push.new.self.items c.in_ok-part.part c.in_ok-push.ensures.items c.loop-k.invariant.empty
+      c.in_ok-part.ensures.empty;
 }
 
 pub returns-clause-begin : goal.returns-clause-begin

@@ -33,8 +33,10 @@ partners-requires-clause-second c =
     let texts = c.in_ok-texts.texts.items in
     let A : List (Option Part) → Type 0 = λ xs. AreTextsOf xs texts in
     let are : AreTextsOf c.args.other.sections.items texts = subst A c.deref.ensures.value c.in_ok-texts.ensures in
-    let N : List (Vec (Bor (List ℕ))) → Type 0 = λ ts. file_instances c.in_ok-others.others.items ≡ map (instance_in ts) c.args.other.instances.items in
-    let named_is : file_instances c.in_ok-others.others.items ≡ map (instance_in texts) c.args.other.instances.items = subst N c.deref-2.ensures.value c.in_ok-others.ensures in
+    let N : List (Vec (Bor (List ℕ))) → Type 0 = λ ts. file_instances c.in_ok-others.others.items ≡ map (instance_in ts)
+    c.args.other.instances.items in
+    let named_is : file_instances c.in_ok-others.others.items ≡ map (instance_in texts) c.args.other.instances.items =
+    subst N c.deref-2.ensures.value c.in_ok-others.ensures in
     let K : List Instance → Type 0 = λ xs. Each (λ (i : Instance). HasKnownParts s i.typed) xs in
     let L : List Code → Type 0 = λ xs. K (file_instances xs) in
     subst L (sym c.deref-3.ensures.value) (subst K (sym named_is) (all-known s c.well_formed-2.ensures text c.args.other is texts are))
@@ -50,10 +52,14 @@ returns-clause-pairing c bytes a reads are_first text is =
     let are : AreTextsOf c.args.other.sections.items texts = subst A c.deref.ensures.value c.in_ok-texts.ensures in
     let N : List (Vec (Bor (List ℕ))) → Type 0 = λ ts. second ≡ map (instance_in ts) c.args.other.instances.items in
     let named_is : second ≡ map (instance_in texts) c.args.other.instances.items = subst N c.deref-2.ensures.value c.in_ok-others.ensures in
-    let are_second : AreInstancesOf is.meaning second = subst (AreInstancesOf is.meaning) (sym named_is) (are-instances s formed text c.args.other is texts are) in
+    let are_second : AreInstancesOf is.meaning second =
+    subst (AreInstancesOf is.meaning) (sym named_is) (are-instances s formed text c.args.other is texts are) in
     let P : List Code → Type 0 = λ xs. LeadToPairing s first (file_instances xs) c.in_ok-found.found.partners.items in
-    let pairing : LeadToPairing s first second c.in_ok-found.found.partners.items = subst P c.deref-3.ensures.value c.in_ok-found.ensures.pairing in
+    let pairing : LeadToPairing s first second c.in_ok-found.found.partners.items =
+    subst P c.deref-3.ensures.value c.in_ok-found.ensures.pairing in
     let Q : List Code → Type 0 = λ xs. NamesByPartners c.deref-5.result.now first (file_instances xs) c.in_ok-new.new in
     let R : List (Option ℕ) → Type 0 = λ ps. NamesByPartners ps first second c.in_ok-new.new in
-    let named : NamesByPartners c.in_ok-found.found.partners.items first second c.in_ok-new.new = subst R c.deref-5.ensures.value (subst Q c.deref-4.ensures.value c.in_ok-new.ensures) in
-    pairing bytes text a is.meaning reads is.reads are_first are_second (new_name c.in_ok-new.new) (named (own-once a (meanings-are_proper s formed bytes a reads) first are_first))
+    let named : NamesByPartners c.in_ok-found.found.partners.items first second c.in_ok-new.new =
+    subst R c.deref-5.ensures.value (subst Q c.deref-4.ensures.value c.in_ok-new.ensures) in
+    pairing bytes text a is.meaning reads is.reads are_first are_second (new_name c.in_ok-new.new)
+    (named (own-once a (meanings-are_proper s formed bytes a reads) first are_first))

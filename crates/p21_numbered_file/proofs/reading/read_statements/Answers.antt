@@ -10,5 +10,6 @@ advance-requires-clause-way c = (c.loop-next.rounds, c.loop-next.invariant.way)
 
 pub returns-in_default : goal.returns-in_default
 returns-in_default c =
-    let A : Option ℕ → Type 0 = λ a. Advances c.args.schema.now c.args.text.now c.loop-next.reader c.loop-next.read c.loop-next.from (Ok a) c.advance.new.reader c.advance.new.read in
+    let A : Option ℕ → Type 0 = λ a. Advances c.args.schema.now c.args.text.now c.loop-next.reader c.loop-next.read c.loop-next.from (Ok a)
+    c.advance.new.reader c.advance.new.read in
     (subst A c.in_default.is c.in_ok-next.ensures.gives) c.loop-next.rounds c.loop-next.invariant.way

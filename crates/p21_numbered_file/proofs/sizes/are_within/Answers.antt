@@ -7,7 +7,8 @@ pub returns-then-len-most : goal.returns-then-len-most
 returns-then-len-most c = (
   λ yes. absurd (false≢true yes),
   λ each. absurd (
-      let within = line-within c.args.most c.args.lines.now c.loop-line.line-index c.line-item.result c.loop-line-test.true c.line-item.is each in
+      let within = line-within c.args.most c.args.lines.now c.loop-line.line-index c.line-item.result c.loop-line-test.true c.line-item.is
+      each in
       omega (arith, within, c.len.ensures, c.if-len-most.true)
       ),
 )

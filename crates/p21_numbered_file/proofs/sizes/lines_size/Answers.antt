@@ -6,4 +6,5 @@ use Rattle.p21_numbered_file.proofs.FileSizes.{lines-sized}
 use Rattle.p21_numbered_file.proofs.sizes.lines_size.Goals as goal
 
 pub returns : goal.returns
-returns c = c.loop-k.invariant ∙ ap (sum_by (λ (x : NumberedLine). length x.text.items + 1)) (take_all c.loop-k.k c.args.lines.now (omega (arith, c.loop-k-test.false))) ∙ lines-sized c.args.lines.now
+returns c = c.loop-k.invariant ∙ ap (sum_by (λ (x : NumberedLine). length x.text.items + 1))
+    (take_all c.loop-k.k c.args.lines.now (omega (arith, c.loop-k-test.false))) ∙ lines-sized c.args.lines.now

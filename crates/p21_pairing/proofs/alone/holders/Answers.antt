@@ -10,12 +10,17 @@ use Rattle.p21_pairing.proofs.alone.holders.Goals as goal
 pub loop-key-preserved : goal.loop-key-preserved
 loop-key-preserved c =
     let P : List Holder → Type 0 = λ hs. (n : ℕ) → holder_at hs n ≡ Nobody in
-    record { size = search rules; nobody = subst P (sym c.in_ok-push.ensures.items) (default-more Nobody c.loop-key.holders.items c.loop-key.invariant.nobody) }
+    record {
+      size = search rules;
+      nobody = subst P (sym c.in_ok-push.ensures.items)
+          (default-more Nobody c.loop-key.holders.items c.loop-key.invariant.nobody);
+    }
 
 pub loop-k-init : goal.loop-k-init
 loop-k-init c = record {
   size = search rules;
-  each = nothing-held c.args.keys.now c.args.start c.args.partners.now c.loop-key.holders.items (λ key low. c.loop-key.invariant.nobody key);
+  each = nothing-held c.args.keys.now c.args.start c.args.partners.now c.loop-key.holders.items
+      (λ key low. c.loop-key.invariant.nobody key);
 }
 
 pub returns-clause-each : goal.returns-clause-each

@@ -19,11 +19,17 @@ loop-key-preserved c =
     let Q : List (Option ℕ) → Type 0 = λ qs. AreHolders keys c.len.result qs (length qs) seconds in
     let S : ℕ → Type 0 = λ n. AreHolders keys n os (length os) seconds in
     let key : ℕ = c.loop-key.key in
-    let first : c.index-first.result.now ≡ holder_at firsts key = get_or_read_under firsts key (length keys) c.index-first.result.now Nobody c.index-first.ensures c.loop-key-test.true (sym c.in_ok-firsts.ensures.size) in
-    let second : c.index-second.result.now ≡ holder_at seconds key = get_or_read_under seconds key (length keys) c.index-second.result.now Nobody c.index-second.ensures c.loop-key-test.true (sym c.in_ok-seconds.ensures.size) in
+    let first : c.index-first.result.now ≡ holder_at firsts key =
+    get_or_read_under firsts key (length keys) c.index-first.result.now Nobody c.index-first.ensures c.loop-key-test.true
+    (sym c.in_ok-firsts.ensures.size) in
+    let second : c.index-second.result.now ≡ holder_at seconds key =
+    get_or_read_under seconds key (length keys) c.index-second.result.now Nobody c.index-second.ensures c.loop-key-test.true
+    (sym c.in_ok-seconds.ensures.size) in
     key-more keys c.args.kinds.now ps os c.requires.pairs firsts seconds
-    (subst P c.deref.ensures.value c.in_ok-firsts.ensures.each) (subst S start (subst Q c.deref-2.ensures.value c.in_ok-seconds.ensures.each))
-    key c.loop-key.more.partners.items c.loop-key.more.owners.items c.with_holders-more.result.partners.items c.with_holders-more.result.owners.items c.loop-key-test.true c.loop-key.invariant c.with_holders-more.ensures.more
+    (subst P c.deref.ensures.value c.in_ok-firsts.ensures.each)
+    (subst S start (subst Q c.deref-2.ensures.value c.in_ok-seconds.ensures.each))
+    key c.loop-key.more.partners.items c.loop-key.more.owners.items c.with_holders-more.result.partners.items
+    c.with_holders-more.result.owners.items c.loop-key-test.true c.loop-key.invariant c.with_holders-more.ensures.more
     (λ i j (one, other) free free_ alike. c.with_holders-more.ensures.joined i j (first ∙ one, second ∙ other) free free_ alike)
     (λ i j at. elim (c.with_holders-more.ensures.only i j at) [
       | inl before ↦ inl before
@@ -42,7 +48,10 @@ returns-clause-alone c i j alone alone_ one_key one_kind =
     let Q : List (Option ℕ) → Type 0 = λ qs. AreHolders keys c.len.result qs (length qs) seconds in
     let S : ℕ → Type 0 = λ n. AreHolders keys n os (length os) seconds in
     let all : c.loop-key.key ≡ length keys = omega (arith, c.loop-key-test.false, c.loop-key.auto.key-end) in
-    let A : ℕ → Type 0 = λ n. AreSoFar c.args.kinds.now ps os firsts seconds n c.loop-key.more.partners.items c.loop-key.more.owners.items in
+    let A : ℕ → Type 0 = λ n. AreSoFar c.args.kinds.now ps os firsts seconds n c.loop-key.more.partners.items
+    c.loop-key.more.owners.items in
     alone-paired keys c.args.kinds.now ps os c.requires.pairs firsts seconds
-    (subst P c.deref.ensures.value c.in_ok-firsts.ensures.each) (subst S start (subst Q c.deref-2.ensures.value c.in_ok-seconds.ensures.each))
-    c.loop-key.more.partners.items c.loop-key.more.owners.items (subst A all c.loop-key.invariant) c.requires.within c.requires.keys i j alone alone_ one_key one_kind
+    (subst P c.deref.ensures.value c.in_ok-firsts.ensures.each)
+    (subst S start (subst Q c.deref-2.ensures.value c.in_ok-seconds.ensures.each))
+    c.loop-key.more.partners.items c.loop-key.more.owners.items (subst A all c.loop-key.invariant) c.requires.within c.requires.keys i j
+    alone alone_ one_key one_kind

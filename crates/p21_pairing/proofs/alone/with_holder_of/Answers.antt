@@ -21,7 +21,8 @@ returns-in-One c =
       more = c.with_pair.ensures.more;
       joined = λ j is free free_ alike.
           let same : c.in-One.other ≡ j = same-one c.in-One.other j (sym c.in-One.is ∙ is) in
-          c.with_pair.ensures.joined free (ap (partner_at os) same ∙ free_) (alike ∙ ap (λ n. rank_at kinds (length ps + n)) (sym same)) ∙ ap (λ (n : ℕ). Some n) same;
+          c.with_pair.ensures.joined free (ap (partner_at os) same ∙ free_) (alike ∙ ap (λ n. rank_at kinds (length ps + n)) (sym same))
+          ∙ ap (λ (n : ℕ). Some n) same;
       only = λ i j at. elim (c.with_pair.ensures.only i j at) [
         | inl before ↦ inl before
         | inr (one, other) ↦ inr (one, c.in-One.is ∙ ap One (sym other))

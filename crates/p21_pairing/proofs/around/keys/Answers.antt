@@ -11,6 +11,7 @@ returns-clause-size c =
 pub returns-clause-within : goal.returns-clause-within
 returns-clause-within c k low =
     let rows = ap (λ (vs : List (Vec ℕ)). length vs) c.deref.ensures.value in
-    let size : length c.deref.result.now ≡ length c.args.kinds.now = omega (arith, rows, c.loop-k.invariant, c.loop-k-test.false, c.loop-k.auto.k-end) in
+    let size : length c.deref.result.now ≡ length c.args.kinds.now =
+    omega (arith, rows, c.loop-k.invariant, c.loop-k-test.false, c.loop-k.auto.k-end) in
     let below = c.in_ok-keys.ensures.within k (omega (arith, low, size)) in
     omega (arith, below, size)

@@ -11,6 +11,7 @@ returns-clause-size c =
 pub returns-clause-within : goal.returns-clause-within
 returns-clause-within c k low =
     let rows = ap (λ (vs : List (Bor (List ℕ))). length vs) c.deref.ensures.value in
-    let size : length c.deref.result.now ≡ length c.args.nodes.now = omega (arith, rows, c.loop-node.invariant, c.loop-node-test.false, c.loop-node.auto.node-index-end) in
+    let size : length c.deref.result.now ≡ length c.args.nodes.now =
+    omega (arith, rows, c.loop-node.invariant, c.loop-node-test.false, c.loop-node.auto.node-index-end) in
     let below = c.in_ok-labels.ensures.within k (omega (arith, low, size)) in
     omega (arith, below, size)

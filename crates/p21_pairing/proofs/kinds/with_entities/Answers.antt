@@ -23,7 +23,8 @@ loop-k-preserved c =
     let row : Vec ℕ = c.in_ok-row.row in
     let before : List (List ℕ) = map own (file_instances (take k all)) in
     let grown : map own (file_instances (take (k + 1) all)) ≡ before ++ own (file_instance c.index-instances-k.result) ∷ [] =
-    ap (map own) (map-more file_instance all k c.index-instances-k.result c.index-instances-k.is c.loop-k-test.true) ∙ map-append own (file_instances (take k all)) (file_instance c.index-instances-k.result ∷ []) in
+    ap (map own) (map-more file_instance all k c.index-instances-k.result c.index-instances-k.is c.loop-k-test.true)
+    ∙ map-append own (file_instances (take k all)) (file_instance c.index-instances-k.result ∷ []) in
     ap held_rows c.in_ok-push.ensures.items
     ∙ map-append (λ (r : Vec ℕ). r.items) c.loop-k.more.items (row ∷ [])
     ∙ ap (λ (rs : List (List ℕ)). rs ++ row.items ∷ []) c.loop-k.invariant
@@ -33,4 +34,5 @@ loop-k-preserved c =
     ∙ ap (λ (rs : List (List ℕ)). held_rows c.args.rows.items ++ rs) (sym grown)
 
 pub returns : goal.returns
-returns c = c.loop-k.invariant ∙ ap (λ (is : List Code). held_rows c.args.rows.items ++ map own (file_instances is)) (take_all c.loop-k.k c.args.instances.now c.loop-k-test.false)
+returns c = c.loop-k.invariant ∙ ap (λ (is : List Code). held_rows c.args.rows.items ++ map own (file_instances is))
+    (take_all c.loop-k.k c.args.instances.now c.loop-k-test.false)

@@ -18,7 +18,8 @@ index_mut-requires c =
     omega (arith, low, c.requires.rows.long, length-map c.args.rows.items items)
 
 pub returns-then-is_taken : goal.returns-then-is_taken
-returns-then-is_taken c = passed-listed c.args.keys.now c.args.start c.args.owners.now c.args.one (c.args.one + 1) (held_rows c.args.rows.items) refl (λ free. c.is_taken.ensures.yes c.if-is_taken.true free.1) c.requires.rows
+returns-then-is_taken c = passed-listed c.args.keys.now c.args.start c.args.owners.now c.args.one (c.args.one + 1)
+    (held_rows c.args.rows.items) refl (λ free. c.is_taken.ensures.yes c.if-is_taken.true free.1) c.requires.rows
 
 pub returns : goal.returns
 returns c =
@@ -27,9 +28,13 @@ returns c =
     let own : ℕ = rank_at keys (c.args.start + c.args.one) in
     let low : own < length keys = c.requires.within (c.args.start + c.args.one) (omega (arith, c.requires.keys, c.requires.one)) in
     let before : items c.index_mut.result.now ≡ row_at (held_rows rows) own =
-    ap items c.index_mut.ensures.value ∙ sym (get_or-map items rows own c.index_mut.result.now [] (omega (arith, low, c.requires.rows.long, length-map rows items))) in
-    let put : items c.push.new.self ≡ row_at (held_rows rows) own ++ c.args.one ∷ [] = c.in_ok-push.ensures.items ∙ ap (λ (xs : List ℕ). xs ++ c.args.one ∷ []) before in
-    let is : held_rows (slice_set rows own c.push.new.self) ≡ slice_set (held_rows rows) own (row_at (held_rows rows) own ++ c.args.one ∷ []) =
+    ap items c.index_mut.ensures.value ∙ sym (get_or-map items rows own c.index_mut.result.now []
+    (omega (arith, low, c.requires.rows.long, length-map rows items))) in
+    let put : items c.push.new.self ≡ row_at (held_rows rows) own ++ c.args.one ∷ [] = c.in_ok-push.ensures.items
+    ∙ ap (λ (xs : List ℕ). xs ++ c.args.one ∷ []) before in
+    let is : held_rows (slice_set rows own c.push.new.self) ≡ slice_set (held_rows rows) own
+    (row_at (held_rows rows) own ++ c.args.one ∷ []) =
     map-set items rows own c.push.new.self ∙ ap (slice_set (held_rows rows) own) put in
     let P : List (List ℕ) → Type 0 = λ rs. AreListed keys c.args.start c.args.owners.now c.args.one rs in
-    subst P (sym is) (more-listed keys c.args.start c.args.owners.now c.args.one (c.args.one + 1) (held_rows rows) refl c.requires.one low c.requires.rows)
+    subst P (sym is) (more-listed keys c.args.start c.args.owners.now c.args.one (c.args.one + 1) (held_rows rows) refl c.requires.one low
+    c.requires.rows)

@@ -6,7 +6,8 @@ use Rattle.p21_pairing.proofs.left.with_one_of.Given as goal
 
 abbrev pub invariant-loop-other : goal.invariant-loop-other
 invariant-loop-other l = record {
-  tried : IsTried l.kinds l.one l.fn.pairs.partners.items l.fn.pairs.owners.items l.fn.row.items l.more.partners.items l.more.owners.items l.row.items;
+  tried : IsTried l.kinds l.one l.fn.pairs.partners.items l.fn.pairs.owners.items l.fn.row.items l.more.partners.items l.more.owners.items
+      l.row.items;
   free : partner_at l.more.partners.items l.one ≡ None;
 }
 

@@ -17,7 +17,8 @@ use Rattle.p21_pairing.proofs.matching.partners.Goals as goal
 
 pub returns-clause-within : goal.returns-clause-within
 returns-clause-within c i j at =
-    let low = below-some c.in_ok-found.found.owners.items j i (c.in_ok-found.ensures.pairs.there i j at) in omega (arith, low, c.in_ok-found.ensures.as_many_owners)
+    let low = below-some c.in_ok-found.found.owners.items j i (c.in_ok-found.ensures.pairs.there i j at) in
+    omega (arith, low, c.in_ok-found.ensures.as_many_owners)
 
 pub returns-clause-pairing : goal.returns-clause-pairing
 returns-clause-pairing c bytes others a b reads reads_ are are_ f named =
@@ -33,14 +34,16 @@ returns-clause-pairing c bytes others a b reads reads_ are are_ f named =
     let kinds : List ℕ = c.in_ok-kinds.kinds.items in
     let ps : List (Option ℕ) = c.in_ok-found.found.partners.items in
     let os : List (Option ℕ) = c.in_ok-found.found.owners.items in
-    let long : length nodes ≡ length first + length second = omega (arith, length-map c.in_ok-nodes.nodes.items held_node, c.in_ok-nodes.ensures.size, size, size_) in
+    let long : length nodes ≡ length first + length second =
+    omega (arith, length-map c.in_ok-nodes.nodes.items held_node, c.in_ok-nodes.ensures.size, size, size_) in
     let N : ℕ → Type 0 = λ n. AreMovedNodes s second n nodes in
     let moved : AreMovedNodes s second (length first) nodes = subst N (sym size) c.in_ok-nodes.ensures.second in
     let A : FileMeaning → List Code → Type 0 = λ m ns. AreNodesOf s m (held_nodes ns) in
     let H : FileMeaning → List Code → Type 0 = λ m ns. HaveRanks (ranking_of s m) (held_nodes ns) ranks in
     let have : (m : FileMeaning) → IsProper m → AreNodesOf s m nodes → HaveRanks (ranking_of s m) nodes ranks = λ m proper_m are_nodes.
     subst (H m) c.deref.ensures.value (c.in_ok-ranks.ensures.ranking s m proper_m.0 (subst (A m) (sym c.deref.ensures.value) are_nodes)) in
-    let joint : AreJointRanks (ranking_of s) a b first second ranks = joint-ranks s a b proper proper_ first second are are_ nodes long c.in_ok-nodes.ensures.first moved ranks have in
+    let joint : AreJointRanks (ranking_of s) a b first second ranks =
+    joint-ranks s a b proper proper_ first second are are_ nodes long c.in_ok-nodes.ensures.first moved ranks have in
     let R : List ℕ → Type 0 = λ rs. AreMatched rs c.deref-4.result.now (length c.args.first.now) (length c.args.second.now) ps os in
     let K : List ℕ → Type 0 = λ ks. AreMatched ranks ks (length c.args.first.now) (length c.args.second.now) ps os in
     let F : ℕ → Type 0 = λ n. AreMatched ranks kinds n (length c.args.second.now) ps os in

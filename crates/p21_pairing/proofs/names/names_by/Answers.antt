@@ -11,5 +11,6 @@ returns c once =
     let first = file_instances c.args.first.now in
     let news : List ℕ = c.in_ok-news.news.items in
     let G : List ℕ → Type 0 = λ xs. NamesGet c.in_ok-names.names (names_of first) xs in
-    names-by c.args.partners.now first (file_instances c.args.second.now) news c.in_ok-names.names (c.in_ok-news.ensures.size ∙ sym (length-map c.args.first.now file_instance))
+    names-by c.args.partners.now first (file_instances c.args.second.now) news c.in_ok-names.names
+    (c.in_ok-news.ensures.size ∙ sym (length-map c.args.first.now file_instance))
     (subst G c.deref.ensures.value c.in_ok-names.ensures) c.in_ok-news.ensures.names once

@@ -16,5 +16,6 @@ loop-k-preserved c =
     let long = ap (λ (xs : List ℕ). length xs) c.in_ok-push.ensures.items ∙ length-append news (name ∷ []) in
     record {
       size = omega (arith, long, c.loop-k.invariant.size);
-      names = named-more c.args.partners.now second news more c.loop-k.k c.loop-k.next c.new_name.new.next name c.loop-k.invariant.size (subst G c.partner-partner.ensures c.in_ok-name.ensures) c.in_ok-push.ensures.items c.loop-k.invariant.names;
+      names = named-more c.args.partners.now second news more c.loop-k.k c.loop-k.next c.new_name.new.next name c.loop-k.invariant.size
+          (subst G c.partner-partner.ensures c.in_ok-name.ensures) c.in_ok-push.ensures.items c.loop-k.invariant.names;
     }

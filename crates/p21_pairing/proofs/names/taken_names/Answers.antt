@@ -13,9 +13,12 @@ loop-k-preserved c =
     let all : List Code = c.args.instances.now in
     let k : ℕ = c.loop-k.k in
     let V : ℕ → Type 0 = λ n. Updates nat_cmp c.loop-k.taken c.insert.new.self n true in
-    has-more c.loop-k.taken c.insert.new.self (names_of (file_instances all)) k (subst V (sym (name-here all k c.index-instances-k.result c.loop-k-test.true)) c.in_ok-insert.ensures.updates) c.loop-k.invariant
+    has-more c.loop-k.taken c.insert.new.self (names_of (file_instances all)) k
+    (subst V (sym (name-here all k c.index-instances-k.result c.loop-k-test.true)) c.in_ok-insert.ensures.updates) c.loop-k.invariant
 
 pub returns : goal.returns
 returns c =
     let all : List Code = c.args.instances.now in
-    has-all c.loop-k.taken (names_of (file_instances all)) c.loop-k.k (omega (arith, c.loop-k-test.false, length-map all file_instance, length-map (file_instances all) (λ (i : Instance). i.name))) c.loop-k.invariant
+    has-all c.loop-k.taken (names_of (file_instances all)) c.loop-k.k
+    (omega (arith, c.loop-k-test.false, length-map all file_instance, length-map (file_instances all) (λ (i : Instance). i.name)))
+    c.loop-k.invariant

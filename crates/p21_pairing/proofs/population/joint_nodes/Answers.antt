@@ -23,7 +23,8 @@ returns-clause-first c =
       positions = own.positions;
       each = λ k low.
           let Q : Node → Type 0 = λ n. IsMovedNode c.args.schema.now own.moved (instance_at F k) n in
-          subst Q (sym (c.in_ok-all.ensures.kept (0 + k) (omega (arith, low, none, c.in_ok-nodes.ensures.size, length-map c.args.first.now file_instance)))) (own.each k low);
+          subst Q (sym (c.in_ok-all.ensures.kept (0 + k) (omega
+          (arith, low, none, c.in_ok-nodes.ensures.size, length-map c.args.first.now file_instance)))) (own.each k low);
     }
 
 pub returns-clause-second : goal.returns-clause-second

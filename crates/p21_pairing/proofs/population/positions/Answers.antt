@@ -17,14 +17,17 @@ loop-k-preserved c =
     let size : length (file_instances all) ≡ length all = length-map all file_instance in
     let named : get_or (names_of (file_instances all)) k 0 ≡ one.name =
     get_or-map (λ (i : Instance). i.name) (file_instances all) k no_instance 0 (omega (arith, c.loop-k-test.true, size))
-    ∙ ap (λ (i : Instance). i.name) (get_or-map file_instance all k one no_instance c.loop-k-test.true ∙ ap file_instance (sym c.index-instances-k.is)) in
+    ∙ ap (λ (i : Instance). i.name) (get_or-map file_instance all k one no_instance c.loop-k-test.true
+    ∙ ap file_instance (sym c.index-instances-k.is)) in
     let V : ℕ → Type 0 = λ n. Updates nat_cmp c.loop-k.positions c.insert.new.self n (Some (c.args.start + k)) in
     let U : Code → Type 0 = λ i. V i.name in
-    get-more c.loop-k.positions c.insert.new.self (names_of (file_instances all)) (λ j. c.args.start + j) k (omega (arith, c.loop-k-test.true, size, length-map (file_instances all) (λ (i : Instance). i.name)))
+    get-more c.loop-k.positions c.insert.new.self (names_of (file_instances all)) (λ j. c.args.start + j) k
+    (omega (arith, c.loop-k-test.true, size, length-map (file_instances all) (λ (i : Instance). i.name)))
     (subst V (sym named) (subst U (sym c.index-instances-k.is) c.in_ok-insert.ensures.updates)) c.loop-k.invariant
 
 pub returns : goal.returns
 returns c =
     let all : List Code = c.args.instances.now in
     positions-given c.loop-k.positions (names_of (file_instances all)) c.args.start c.loop-k.k
-    (omega (arith, c.loop-k-test.false, length-map all file_instance, length-map (file_instances all) (λ (i : Instance). i.name))) c.loop-k.invariant
+    (omega (arith, c.loop-k-test.false, length-map all file_instance, length-map (file_instances all) (λ (i : Instance). i.name)))
+    c.loop-k.invariant

@@ -15,34 +15,42 @@ returns-in-Section c =
     let s = c.args.schema.now in
     let old = c.args.self.now in
     let new = c.take_line.new.self in
-    let P : Event → Type 0 = λ e. OnOk c.take_line.result ((next : StandsNext s old (statement_of e)) → IsReadTo s next.meaning (next.given ++ statement_of e ∷ []) new) in
+    let P : Event → Type 0 = λ e. OnOk c.take_line.result
+    ((next : StandsNext s old (statement_of e)) → IsReadTo s next.meaning (next.given ++ statement_of e ∷ []) new) in
     subst P (sym c.in-Section.is)
-    (on_ok_weaker c.take_line.result (λ heads next. line-read s next.meaning next.given (line_of c.in-Section.line) old new next.is_read c.take_line.ensures.instances c.take_line.ensures.header heads) c.take_line.ensures.sections)
+    (on_ok_weaker c.take_line.result (λ heads next. line-read s next.meaning next.given (line_of c.in-Section.line) old new next.is_read
+    c.take_line.ensures.instances c.take_line.ensures.header heads) c.take_line.ensures.sections)
 
 pub returns-in-Named : goal.returns-in-Named
 returns-in-Named c =
     let s = c.args.schema.now in
     let old = c.args.self.now in
     let new = c.take_heading.new.self in
-    let P : Event → Type 0 = λ e. OnOk c.take_heading.result ((next : StandsNext s old (statement_of e)) → IsReadTo s next.meaning (next.given ++ statement_of e ∷ []) new) in
+    let P : Event → Type 0 = λ e. OnOk c.take_heading.result
+    ((next : StandsNext s old (statement_of e)) → IsReadTo s next.meaning (next.given ++ statement_of e ∷ []) new) in
     subst P (sym c.in-Named.is)
-    (on_ok_weaker c.take_heading.result (λ heads next. line-read s next.meaning next.given (data_start (heading_of (views (items_of c.in-Named.part.params)))) old new next.is_read c.take_heading.ensures.instances c.take_heading.ensures.header heads) c.take_heading.ensures.sections)
+    (on_ok_weaker c.take_heading.result (λ heads next. line-read s next.meaning next.given
+    (data_start (heading_of (views (items_of c.in-Named.part.params)))) old new next.is_read c.take_heading.ensures.instances
+    c.take_heading.ensures.header heads) c.take_heading.ensures.sections)
 
 pub returns-in-Header : goal.returns-in-Header
 returns-in-Header c =
     let s = c.args.schema.now in
     let old = c.args.self.now in
     let new = c.take_header.new.self in
-    let P : Event → Type 0 = λ e. OnOk c.take_header.result ((next : StandsNext s old (statement_of e)) → IsReadTo s next.meaning (next.given ++ statement_of e ∷ []) new) in
+    let P : Event → Type 0 = λ e. OnOk c.take_header.result
+    ((next : StandsNext s old (statement_of e)) → IsReadTo s next.meaning (next.given ++ statement_of e ∷ []) new) in
     subst P (sym c.in-Header.is)
-    (on_ok_weaker c.take_header.result (λ header_ next. header-read s next.meaning next.given (part_view c.in-Header.part) old new next.is_read c.take_header.ensures.instances header_ c.take_header.ensures.sections) c.take_header.ensures.header)
+    (on_ok_weaker c.take_header.result (λ header_ next. header-read s next.meaning next.given (part_view c.in-Header.part) old new
+    next.is_read c.take_header.ensures.instances header_ c.take_header.ensures.sections) c.take_header.ensures.header)
 
 pub returns-in-Instance : goal.returns-in-Instance
 returns-in-Instance c =
     let s = c.args.schema.now in
     let old = c.args.self.now in
     let new = c.take_instance.new.self in
-    let P : Event → Type 0 = λ e. OnOk c.take_instance.result ((next : StandsNext s old (statement_of e)) → IsReadTo s next.meaning (next.given ++ statement_of e ∷ []) new) in
+    let P : Event → Type 0 = λ e. OnOk c.take_instance.result
+    ((next : StandsNext s old (statement_of e)) → IsReadTo s next.meaning (next.given ++ statement_of e ∷ []) new) in
     subst P (sym c.in-Instance.is) c.take_instance.ensures
 
 pub take_instance-requires : goal.take_instance-requires

@@ -9,7 +9,8 @@ pub returns : goal.returns
 returns c = λ next.
     let begun = section-begun c.args.schema.now c.args.name (record_view c.args.of) c.args.self.now next in
     let one : ReadInstance = record { name = c.name.inside.0; section = c.len-section.result - 1; typed = c.in-Ok.typed } in
-    instance-read c.args.schema.now c.args.name (record_view c.args.of) c.args.self.now next one _ c.name.view_is (needs_view c.in-Ok._needs.items) c.in-Ok.ensures (omega (arith, begun, c.len-section.ensures)) c.in_ok-push.ensures.items refl refl
+    instance-read c.args.schema.now c.args.name (record_view c.args.of) c.args.self.now next one _ c.name.view_is
+    (needs_view c.in-Ok._needs.items) c.in-Ok.ensures (omega (arith, begun, c.len-section.ensures)) c.in_ok-push.ensures.items refl refl
 
 pub overflow_sub-section : goal.overflow_sub-section
 overflow_sub-section c =
