@@ -6,11 +6,11 @@ use crate::commands::{Stopped, given, with_progress};
 use crate::input::{Inputs, Kept};
 use crate::notes::{Given, Wanted, note_files, note_listing};
 use clap::ArgMatches;
-use p21_commands::{RowForm, diff_by_pairs_command, diff_command};
+use p21_commands::{PairRows, RowForm, diff_by_pairs_command, diff_command};
 use p21_stream_io::Watched;
 use std::io::{Read, Write};
 
-/// `diff S A B [--names] [--format FORM] [--progress]`.
+/// `diff S A B [--names] [--pairs] [--format FORM] [--progress]`.
 pub fn run_diff<'a>(rt: &HostRuntime, found: &ArgMatches<'a>) -> Result<u8, Stopped<'a>>
     ensures ran { IfOk result IsOfCommand }
     ensures unopened { IfErr result IsUnopened }
@@ -25,10 +25,10 @@ pub fn run_diff<'a>(rt: &HostRuntime, found: &ArgMatches<'a>) -> Result<u8, Stop
     let mut first = Watched::new(with_progress(rt, found, a, inputs.open(rt, a)?));
     let mut second = Watched::new(with_progress(rt, found, b, inputs.open(rt, b)?));
     let mut faults = Watched::new(Kept::new(rt.stderr()));
-    let by_pairs = found.get_flag("names");
+    let pairs = pairs_given(found);
     let status = run_diff_over(
         rt,
-        by_pairs,
+        pairs,
         form,
         &mut schema,
         &mut first,
@@ -49,7 +49,7 @@ pub fn run_diff<'a>(rt: &HostRuntime, found: &ArgMatches<'a>) -> Result<u8, Stop
 /// Lists what differs in two files, by the names of their instances or by pairs of these.
 fn run_diff_over<S: Read, A: Read, B: Read, F: Write>(
     rt: &HostRuntime,
-    by_pairs: bool,
+    pairs: Option<PairRows>,
     form: RowForm,
     schema: &mut Watched<S>,
     first: &mut Watched<A>,
@@ -59,9 +59,27 @@ fn run_diff_over<S: Read, A: Read, B: Read, F: Write>(
     ensures { IsOfCommand result }
 {
     let mut output = Watched::new(rt.stdout());
-    if by_pairs {
-        diff_by_pairs_command(rt.alloc(), schema, first, second, form, &mut output, faults)
-    } else {
-        diff_command(rt.alloc(), schema, first, second, form, &mut output, faults)
+    match pairs {
+        Some(pairs) => {
+            diff_by_pairs_command(
+                rt.alloc(),
+                schema,
+                first,
+                second,
+                form,
+                pairs,
+                &mut output,
+                faults,
+            )
+        }
+        None => diff_command(rt.alloc(), schema, first, second, form, &mut output, faults),
     }
+}
+
+/// Whether the command line asks for pairs, and whether these are listed.
+fn pairs_given(found: &ArgMatches<'_>) -> Option<PairRows> {
+    if found.get_flag("pairs") {
+        return Some(PairRows::Shown);
+    }
+    found.get_flag("names").then(|| PairRows::Hidden)
 }

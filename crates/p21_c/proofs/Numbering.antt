@@ -43,7 +43,8 @@ module _ (s : Schema) (formed : IsWellFormed s) where
   both file text only =
       let (own, own_means, canonical) = only.is_canonical in
       let (its, its_means) = only.is_accepted in
-      let one : canonical.canonical.meaning ≡ its = one-meaning s formed text canonical.canonical.meaning its canonical.canonical.reads its_means.reads in
+      let one : canonical.canonical.meaning ≡ its = one-meaning s formed text canonical.canonical.meaning its canonical.canonical.reads
+      its_means.reads in
       let P : FileMeaning → Type 0 = λ m. SameFileMeaning m own in
       record { own = own; own_means = own_means; its = its; its_means = its_means; same = subst P one canonical.same }
 
@@ -53,12 +54,14 @@ module _ (s : Schema) (formed : IsWellFormed s) where
   pub source-accepted : (file text : List ℕ) → IsOnlyCanonicalFile s usual file text → IsAccepted s usual file
   source-accepted file text only = let b = both file text only in (b.own, b.own_means)
 
-  pub source-numbered : (file text a : List ℕ) → IsOnlyCanonicalFile s usual file text → IsNumberedFile s usual (ranking_of s) text a → IsNumberedFile s usual (ranking_of s) file a
+  pub source-numbered : (file text a : List ℕ) → IsOnlyCanonicalFile s usual file text → IsNumberedFile s usual (ranking_of s) text a
+      → IsNumberedFile s usual (ranking_of s) file a
   source-numbered file text a only numbered =
       let b = both file text only in
       numbered-on s formed usual text file b.its b.own b.its_means b.own_means (alike file text b) a numbered
 
-  pub source-none : (file text : List ℕ) (fault : Unnumbered) → IsOnlyCanonicalFile s usual file text → HasNone s usual text fault → HasNone s usual file fault
+  pub source-none : (file text : List ℕ) (fault : Unnumbered) → IsOnlyCanonicalFile s usual file text → HasNone s usual text fault
+      → HasNone s usual file fault
   source-none file text (unnumbered.Alike j k) only none =
       let b = both file text only in
       alike-on s formed usual text file b.its b.own b.its_means b.own_means (alike file text b) b.same j k none
@@ -69,11 +72,14 @@ module _ (s : Schema) (formed : IsWellFormed s) where
 
   -- ---- two files
 
-  pub second-refused : (first second one : List ℕ) → IsOnlyCanonicalFile s usual first one → NumberingClaim s usual (ranking_of s) → (answer : Answer) → IsRefusedBy second_subject s second answer ⊎ (answer ≡ no_memory_answer) → ComparesNumbered (Some s) first second answer None
+  pub second-refused : (first second one : List ℕ) → IsOnlyCanonicalFile s usual first one → NumberingClaim s usual (ranking_of s)
+      → (answer : Answer) → IsRefusedBy second_subject s second answer ⊎ (answer ≡ no_memory_answer)
+      → ComparesNumbered (Some s) first second answer None
   second-refused first second one only claim answer (inl refused) = (claim, inr (inr (inl (source-accepted first one only, refused, refl))))
   second-refused first second one only claim answer (inr none) = (claim, inr (inr (inr (unnumbered.NoMemory, 0, tt, none, refl))))
 
-  module _ (first second one other : List ℕ) (first_only : IsOnlyCanonicalFile s usual first one) (second_only : IsOnlyCanonicalFile s usual second other) where
+  module _ (first second one other : List ℕ) (first_only : IsOnlyCanonicalFile s usual first one)
+      (second_only : IsOnlyCanonicalFile s usual second other) where
     pub sources-told : (same : Bool) → TellsTexts s usual one other (Ok same) → TellsTexts s usual first second (Ok same)
     sources-told same tells m n means means_ =
         let a = both first one first_only in
@@ -87,8 +93,10 @@ module _ (s : Schema) (formed : IsWellFormed s) where
         let its = proper-means s formed usual one a.its a.its_means in
         let its_ = proper-means s formed usual other b.its b.its_means in
         let found : IsTrue same ↔ SameButForNames a.own b.own = (
-          λ yes. law.transitive a.own a.its b.own proper (law.symmetric a.its a.own its (alike first one a)) (law.transitive a.its b.its b.own its (told.0 yes) (alike second other b)),
-          λ same_. told.1 (law.transitive a.its a.own b.its its (alike first one a) (law.transitive a.own b.own b.its proper same_ (law.symmetric b.its b.own its_ (alike second other b)))),
+          λ yes. law.transitive a.own a.its b.own proper (law.symmetric a.its a.own its (alike first one a))
+              (law.transitive a.its b.its b.own its (told.0 yes) (alike second other b)),
+          λ same_. told.1 (law.transitive a.its a.own b.its its (alike first one a)
+              (law.transitive a.own b.own b.its proper same_ (law.symmetric b.its b.own its_ (alike second other b)))),
         ) in
         let P : FileMeaning → Type 0 = λ x. IsTrue same ↔ SameButForNames x b.own in
         let Q : FileMeaning → Type 0 = λ x. IsTrue same ↔ SameButForNames m x in
@@ -97,5 +105,9 @@ module _ (s : Schema) (formed : IsWellFormed s) where
     pub sources-untold : (fault : Unnumbered) → TellsTexts s usual one other (Err fault) → TellsTexts s usual first second (Err fault)
     sources-untold (unnumbered.Alike j k) (x, (i, l, y)) =
         (source-none first one (unnumbered.Alike j k) first_only x, (i, l, source-none second other (unnumbered.Alike i l) second_only y))
-    sources-untold unnumbered.TooLong (x, y) = (source-none first one unnumbered.TooLong first_only x, source-none second other unnumbered.TooLong second_only y)
+    sources-untold unnumbered.TooLong (x, y) = (
+      source-none first one unnumbered.TooLong first_only x,
+      source-none second other
+          unnumbered.TooLong second_only y,
+    )
     sources-untold unnumbered.NoMemory tells = tt

@@ -51,7 +51,8 @@ IsToldAt told name line = (told.name ≡ name) × (told.line ≡ span_of line)
 abbrev pub TellsInstanceOf : Option (Output × Schema) → ℕ → ℕ → InstanceLine → InstanceLine → Type 0
 TellsInstanceOf None name status old new = (status ≡ misused) × (new ≡ old)
 TellsInstanceOf (Some model) name status old new =
-    ((line : Bor (List ℕ)) × IsKeptLine model.0.kept name line.now × IsToldAt new name line × (status ≡ done)) ⊎ (HasNoInstance model.0 name × (new ≡ old) × (status ≡ refused))
+    ((line : Bor (List ℕ)) × IsKeptLine model.0.kept name line.now × IsToldAt new name line × (status ≡ done))
+    ⊎ (HasNoInstance model.0 name × (new ≡ old) × (status ≡ refused))
 
 -- the first one from this name on, if there is one
 abbrev pub TellsInstanceFrom : Option (Output × Schema) → ℕ → ℕ → InstanceLine → InstanceLine → Type 0
@@ -77,19 +78,23 @@ pub record StatesAt (model : Output × Schema) (name : ℕ) (place : Place) (val
   pub is_named : found.name ≡ name
   pub under : found.schema.now ≡ model.1
   pub is_kept : IsKeptLine model.0.kept found.name found.line.now
-  pub tells : (record_ : Record) (stated : IsInstanceText found.schema.now found.name record_ found.line.now) → TellsValue stated place value
+  pub tells : (record_ : Record) (stated : IsInstanceText found.schema.now found.name record_ found.line.now)
+      → TellsValue stated place value
 
 -- the value of an instance at a place, if there are both
 abbrev pub TellsValueAt : Option (Output × Schema) → ℕ → Place → ℕ → Span → Span → Type 0
 TellsValueAt None name place status old new = (status ≡ misused) × (new ≡ old)
 TellsValueAt (Some model) name place status old new =
-    ((value : Option Value) × StatesAt model name place value × ShowsValue value status old new) ⊎ (HasNoInstance model.0 name × (new ≡ old) × (status ≡ refused))
+    ((value : Option Value) × StatesAt model name place value × ShowsValue value status old new)
+    ⊎ (HasNoInstance model.0 name × (new ≡ old) × (status ≡ refused))
 
 -- what the line of an instance states is told, in the room for it and with its count
-abbrev pub TellsSome : {Y : Type 0} → ((found : Instance) → List Y → ℕ → Type 0) → Option (Output × Schema) → ℕ → List Y → ℕ → ℕ → ℕ → Type 0
+abbrev pub TellsSome : {Y : Type 0} → ((found : Instance) → List Y → ℕ → Type 0) → Option (Output × Schema) → ℕ → List Y → ℕ → ℕ → ℕ
+    → Type 0
 TellsSome Says None name room status old count = (status ≡ misused) × (count ≡ old)
 TellsSome Says (Some model) name room status old count =
-    ((found : Instance) × (found.name ≡ name) × (found.schema.now ≡ model.1) × IsKeptLine model.0.kept found.name found.line.now × Says found room count × (status ≡ done))
+    ((found : Instance) × (found.name ≡ name) × (found.schema.now ≡ model.1) × IsKeptLine model.0.kept found.name found.line.now
+    × Says found room count × (status ≡ done))
     ⊎ (HasNoInstance model.0 name × (count ≡ old) × (status ≡ refused))
 
 -- the entities of its set, first those that there is room for
@@ -101,14 +106,21 @@ SaysEntities found room count =
 -- its parameters with their places, first those that there is room for
 abbrev pub SaysValues : Instance → List AttributeValue → ℕ → Type 0
 SaysValues found room count =
-    (record_ : Record) (stated : IsInstanceText found.schema.now found.name record_ found.line.now) → (rows : List Row) × AreTold stated rows × AreFirst IsToldRow rows room count
+    (record_ : Record) (stated : IsInstanceText found.schema.now found.name record_ found.line.now)
+    → (rows : List Row) × AreTold stated rows × AreFirst IsToldRow rows room count
 
 -- ---- values
 
 -- the digits of a number, as C has them
 abbrev pub TellsDigits : (Digits → Type 0) → NumberDigits → Type 0
 TellsDigits Are told =
-    (found : Digits) × Are found × (told ≡ record { negative = cond found.negative 1 0; exponent = found.exponent; whole = span_of found.whole; fraction = span_of found.fraction })
+    (found : Digits) × Are found × (told ≡ record {
+      negative = cond found.negative 1 0;
+      exponent = found.exponent;
+      whole =
+          span_of found.whole;
+      fraction = span_of found.fraction;
+    })
 
 -- the double that is read from a text, if one is
 abbrev pub TellsDouble : Option Float → ℕ → Float → Float → Type 0
@@ -119,7 +131,8 @@ TellsDouble (Some nearest) status old new = (new ≡ nearest) × (status ≡ don
 abbrev pub HandsOutElement : Params → List ℕ → ℕ → Span → Span → Span → Span → Type 0
 HandsOutElement no_params after status element_old element rest_old rest = (element ≡ element_old) × (rest ≡ rest_old) × (status ≡ refused)
 HandsOutElement (param p ps) after status element_old element rest_old rest =
-    (text : Bor (List ℕ)) × (left : Bor (List ℕ)) × IsTextOf text.now p × AreLeft ps after left.now × (element ≡ span_of text) × (rest ≡ span_of left) × (status ≡ done)
+    (text : Bor (List ℕ)) × (left : Bor (List ℕ)) × IsTextOf text.now p × AreLeft ps after left.now × (element ≡ span_of text)
+    × (rest ≡ span_of left) × (status ≡ done)
 
 -- ---- users
 
@@ -127,7 +140,8 @@ HandsOutElement (param p ps) after status element_old element rest_old rest =
 abbrev pub MakesUsers : Option (Output × Schema) → ℕ → Option Content → Type 0
 MakesUsers None status made = (made ≡ None) × (status ≡ misused)
 MakesUsers (Some model) status made =
-    ((users : List UseRow) × (users_in made ≡ Some users) × AreInOrder users × (AreStated model.1 model.0.kept → HaveOneLine model.0.kept → AreUsesIn model.1 model.0.kept users) × (status ≡ done))
+    ((users : List UseRow) × (users_in made ≡ Some users) × AreInOrder users
+    × (AreStated model.1 model.0.kept → HaveOneLine model.0.kept → AreUsesIn model.1 model.0.kept users) × (status ≡ done))
     ⊎ ((made ≡ None) × (AreStated model.1 model.0.kept → HaveOneLine model.0.kept → HasManyUses model.1 model.0.kept) × (status ≡ refused))
     ⊎ ((made ≡ None) × (status ≡ failed))
 
@@ -135,7 +149,8 @@ MakesUsers (Some model) status made =
 abbrev pub TellsUsers : Option (List UseRow) → ℕ → List UseOf → List UseOf → ℕ → ℕ → ℕ → Type 0
 TellsUsers None name old room status count_old count = (status ≡ misused) × (room ≡ old) × (count ≡ count_old)
 TellsUsers (Some users) name old room status count_old count = (written : ℕ)
-    × AreFirst IsToldUse (filter (λ (u : UseRow). nat_eq u.0 name) users) room written × (count ≡ length (filter (λ (u : UseRow). nat_eq u.0 name) users)) × (status ≡ done)
+    × AreFirst IsToldUse (filter (λ (u : UseRow). nat_eq u.0 name) users) room written
+    × (count ≡ length (filter (λ (u : UseRow). nat_eq u.0 name) users)) × (status ≡ done)
 
 -- ---- schemas
 
@@ -184,12 +199,14 @@ TellsEntityList of held entity old room status count_old count =
 -- whether an entity is another one or below it
 abbrev pub TellsAscent : Option Schema → ℕ → ℕ → ℕ → ℕ → ℕ → Type 0
 TellsAscent held entity other status old new =
-    OfSchema held status (new ≡ old) (λ s. IfThere (IsEntity s entity × IsEntity s other) status (new ≡ old) (TellsTruth (IsA s entity other) new))
+    OfSchema held status (new ≡ old) (λ s. IfThere (IsEntity s entity × IsEntity s other) status (new ≡ old)
+    (TellsTruth (IsA s entity other) new))
 
 -- the name of an attribute
 abbrev pub TellsAttribute : Option Schema → Place → ℕ → Span → Span → Type 0
 TellsAttribute held place status old new =
-    OfSchema held status (new ≡ old) (λ s. IfThere (IsEntity s place.entity × IsPlace s place) status (new ≡ old) (IsSpanOf (PlaceNamed s place) new))
+    OfSchema held status (new ≡ old) (λ s. IfThere (IsEntity s place.entity × IsPlace s place) status (new ≡ old)
+    (IsSpanOf (PlaceNamed s place) new))
 
 -- a type, if there is one
 abbrev pub ShowsType : Option TypeParts → ℕ → TypeParts → TypeParts → Type 0
@@ -205,17 +222,20 @@ TellsPlaceType held of place depth status old new =
 -- the name of a type, and what it is
 abbrev pub TellsType : Option Schema → ℕ → ℕ → Span → Span → Declared → Declared → Type 0
 TellsType held number status name_old name declared_old declared =
-    OfSchema held status ((name ≡ name_old) × (declared ≡ declared_old)) (λ s. IfThere (IsType s number) status ((name ≡ name_old) × (declared ≡ declared_old))
+    OfSchema held status ((name ≡ name_old) × (declared ≡ declared_old))
+    (λ s. IfThere (IsType s number) status ((name ≡ name_old) × (declared ≡ declared_old))
     (IsSpanOf (TypeNamed s number) name × (kind : Kind) × (kind_of s number ≡ Some kind) × (declared ≡ declared_told kind)))
 
 -- the type that a type renames, so many aggregates deep
 abbrev pub TellsRenamed : Option Schema → ℕ → ℕ → ℕ → TypeParts → TypeParts → Type 0
-TellsRenamed held number depth status old new = OfSchema held status (new ≡ old) (λ s. ShowsType (renamed_told depth (kind_of s number)) status old new)
+TellsRenamed held number depth status old new = OfSchema held status (new ≡ old)
+    (λ s. ShowsType (renamed_told depth (kind_of s number)) status old new)
 
 -- an item of an enumeration
 abbrev pub TellsItem : Option Schema → ℕ → ℕ → ℕ → Span → Span → Type 0
 TellsItem held number at status old new =
-    OfSchema held status (new ≡ old) (λ s. ShowsSpan (λ text. item_in (kind_of s number) at ≡ Some text) (item_in (kind_of s number) at ≡ None) status old new)
+    OfSchema held status (new ≡ old) (λ s. ShowsSpan (λ text. item_in (kind_of s number) at ≡ Some text)
+    (item_in (kind_of s number) at ≡ None) status old new)
 
 -- a member of a select
 abbrev pub ShowsMember : Option Member → ℕ → ToldMember → ToldMember → Type 0
@@ -223,7 +243,8 @@ ShowsMember None status old new = (new ≡ old) × (status ≡ refused)
 ShowsMember (Some member) status old new = (new ≡ member_told member) × (status ≡ done)
 
 abbrev pub TellsMember : Option Schema → ℕ → ℕ → ℕ → ToldMember → ToldMember → Type 0
-TellsMember held number at status old new = OfSchema held status (new ≡ old) (λ s. ShowsMember (member_in (kind_of s number) at) status old new)
+TellsMember held number at status old new = OfSchema held status (new ≡ old)
+    (λ s. ShowsMember (member_in (kind_of s number) at) status old new)
 
 -- whether a select offers a member
 abbrev pub TellsOffer : Option Schema → ℕ → Member → ℕ → ℕ → ℕ → Type 0

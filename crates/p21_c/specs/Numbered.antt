@@ -45,7 +45,9 @@ abbrev pub ComparesNumbered : Option Schema → List ℕ → List ℕ → Answer
 ComparesNumbered None first second answer same = (same ≡ None) × (answer ≡ misused_answer)
 ComparesNumbered (Some s) first second answer same =
     NumberingClaim s usual (ranking_of s)
-    × (((yes : Bool) × (same ≡ Some yes) × IsAccepted s usual first × IsAccepted s usual second × TellsTexts s usual first second (Ok yes) × (answer ≡ done_answer))
+    × (((yes : Bool) × (same ≡ Some yes) × IsAccepted s usual first × IsAccepted s usual second × TellsTexts s usual first second (Ok yes)
+    × (answer ≡ done_answer))
     ⊎ (IsRefusedBy file_subject s first answer × (same ≡ None))
     ⊎ (IsAccepted s usual first × IsRefusedBy second_subject s second answer × (same ≡ None))
-    ⊎ ((fault : Unnumbered) × (statement : ℕ) × TellsTexts s usual first second (Err fault) × (answer ≡ unnumbered_answer fault statement) × (same ≡ None)))
+    ⊎ ((fault : Unnumbered) × (statement : ℕ) × TellsTexts s usual first second (Err fault) × (answer ≡ unnumbered_answer fault statement)
+    × (same ≡ None)))

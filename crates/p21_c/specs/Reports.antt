@@ -1,13 +1,13 @@
 -- The statuses and reports of the calls of C.
-use Rattle.std.specs.Prelude.{ℕ, length}
+use Rattle.std.specs.Prelude.{ℕ, Option, None, Some, length, slice_get}
 use Rattle.p21_c.specs.declared.answers.Answer.{Answer}
 use Rattle.p21_express_outline.specs.Fault as schema_fault
 use Rattle.p21_express_outline.specs.declared.fault.SchemaFault.{SchemaFault}
 use Rattle.p21_express_outline.specs.declared.fault.SchemaFault.TheVariants as schema_faults
 use Rattle.p21_grammar.specs.declared.fault.GrammarFault.{GrammarFault}
 use Rattle.p21_grammar.specs.declared.fault.GrammarFault.TheVariants as form
-use Rattle.p21_stream.specs.declared.listing.Extent.{Extent}
-use Rattle.p21_stream.specs.declared.listing.Extent.TheVariants.{Most, Part, Whole}
+use Rattle.p21_stream_survey.specs.declared.listed.Extent.{Extent}
+use Rattle.p21_stream_survey.specs.declared.listed.Extent.TheVariants.{Most, ReadTo, Whole}
 use Rattle.p21_stream.specs.declared.listing.Surveyed.{Surveyed}
 use Rattle.p21_stream.specs.declared.listing.Surveyed.TheVariants as surveyed
 use Rattle.p21_stream_output.specs.Output.{Output, output_text}
@@ -95,7 +95,11 @@ absent_of (Grammar fault) = absent_form_of fault
 absent_of fault = 0
 
 abbrev pub quiet_answer : ℕ → Answer
-quiet_answer status = record { status = status; report = record { subject = nothing; number = 0; absent = 0; place = 0; at = 0; instances = 0; bytes = 0 } }
+quiet_answer status = record {
+  status = status;
+  report =
+      record { subject = nothing; number = 0; absent = 0; place = 0; at = 0; instances = 0; bytes = 0 };
+}
 
 abbrev pub done_answer : Answer
 done_answer = quiet_answer done
@@ -104,23 +108,65 @@ abbrev pub misused_answer : Answer
 misused_answer = quiet_answer misused
 
 abbrev pub no_memory_answer : Answer
-no_memory_answer = record { status = failed; report = record { subject = nothing; number = 90; absent = 0; place = 0; at = 0; instances = 0; bytes = 0 } }
+no_memory_answer = record {
+  status = failed;
+  report =
+      record { subject = nothing; number = 90; absent = 0; place = 0; at = 0; instances = 0; bytes = 0 };
+}
 
 abbrev pub accepted_answer : Output → Answer
-accepted_answer output = record { status = done; report = record { subject = nothing; number = 0; absent = 0; place = 0; at = 0; instances = length output.kept; bytes = length (output_text output) } }
+accepted_answer output = record {
+  status = done;
+  report =
+      record {
+        subject = nothing;
+        number = 0;
+        absent = 0;
+        place = 0;
+        at = 0;
+        instances = length output.kept;
+        bytes =
+            length (output_text output);
+      };
+}
 
 abbrev pub counted_answer : ℕ → Answer
-counted_answer instances = record { status = done; report = record { subject = nothing; number = 0; absent = 0; place = 0; at = 0; instances = instances; bytes = 0 } }
+counted_answer instances = record {
+  status = done;
+  report =
+      record { subject = nothing; number = 0; absent = 0; place = 0; at = 0; instances = instances; bytes = 0 };
+}
 
 abbrev pub refused_answer : ℕ → Refusal → Answer
-refused_answer subject refusal = record { status = status_of refusal.fault; report = record { subject = subject; number = fault_number refusal.fault; absent = absent_of refusal.fault; place = location_of refusal.at; at = location_number_of refusal.at; instances = 0; bytes = 0 } }
+refused_answer subject refusal = record {
+  status = status_of refusal.fault;
+  report =
+      record {
+        subject = subject;
+        number = fault_number refusal.fault;
+        absent = absent_of refusal.fault;
+        place = location_of refusal.at;
+        at =
+            location_number_of refusal.at;
+        instances = 0;
+        bytes = 0;
+      };
+}
 
 -- one of two instances that the model doesn't tell apart is named
 abbrev pub alike_answer : ℕ → Answer
-alike_answer name = record { status = refused; report = record { subject = file_subject; number = 59; absent = 0; place = 2; at = name; instances = 0; bytes = 0 } }
+alike_answer name = record {
+  status = refused;
+  report =
+      record { subject = file_subject; number = 59; absent = 0; place = 2; at = name; instances = 0; bytes = 0 };
+}
 
 abbrev pub schema_refused_answer : SchemaFault → Answer
-schema_refused_answer fault = record { status = schema_status_of fault; report = record { subject = schema_subject; number = schema_fault.fault_number fault; absent = 0; place = 0; at = 0; instances = 0; bytes = 0 } }
+schema_refused_answer fault = record {
+  status = schema_status_of fault;
+  report =
+      record { subject = schema_subject; number = schema_fault.fault_number fault; absent = 0; place = 0; at = 0; instances = 0; bytes = 0 };
+}
 
 -- ---- lists
 
@@ -136,9 +182,24 @@ listed_count (surveyed.Refused refusals) = length refusals.list.items
 -- how much of the file the refusals are about: all of it, as far as to one that ended the reading, or as many as were asked for
 abbrev pub extent_number_of : Extent → ℕ
 extent_number_of Whole = 1
-extent_number_of Part = 2
+extent_number_of (ReadTo bytes) = 2
 extent_number_of Most = 3
 
 abbrev pub extent_of : Surveyed → ℕ
 extent_of (surveyed.Accepted output) = 1
 extent_of (surveyed.Refused refusals) = extent_number_of refusals.extent
+
+-- how many bytes stand in front of the statement whose refusal ended the reading, where one did
+abbrev pub bytes_read : Extent → Option ℕ
+bytes_read Whole = None
+bytes_read (ReadTo bytes) = Some bytes
+bytes_read Most = None
+
+abbrev pub read_of : Surveyed → Option ℕ
+read_of (surveyed.Accepted output) = None
+read_of (surveyed.Refused refusals) = bytes_read refusals.extent
+
+-- how many bytes stand in front of the statement of the refusal at a number, where it is one of a statement
+abbrev pub begins_at : Surveyed → ℕ → Option ℕ
+begins_at (surveyed.Accepted output) number = None
+begins_at (surveyed.Refused refusals) number = slice_get refusals.begins.items number

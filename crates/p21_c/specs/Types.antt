@@ -16,12 +16,42 @@ numbered kind of = record { kind = kind; optional = 0; unique = 0; fixed = 0; bo
 -- a text or a binary
 abbrev pub wide : ℕ → Option Width → TypeParts
 wide kind None = bare kind
-wide kind (Some width) = record { kind = kind; optional = 0; unique = 0; fixed = cond width.fixed 1 0; bounded = 1; number = 0; low = 0; high = width.most }
+wide kind (Some width) = record {
+  kind = kind;
+  optional = 0;
+  unique = 0;
+  fixed = cond width.fixed 1 0;
+  bounded = 1;
+  number = 0;
+  low =
+      0;
+  high = width.most;
+}
 
 -- an aggregate
 abbrev pub aggregate : ℕ → ℕ → Option ℕ → Bool → TypeParts
-aggregate kind low None unique = record { kind = kind; optional = 0; unique = cond unique 1 0; fixed = 0; bounded = 0; number = 0; low = low; high = 0 }
-aggregate kind low (Some high) unique = record { kind = kind; optional = 0; unique = cond unique 1 0; fixed = 0; bounded = 1; number = 0; low = low; high = high }
+aggregate kind low None unique = record {
+  kind = kind;
+  optional = 0;
+  unique = cond unique 1 0;
+  fixed = 0;
+  bounded = 0;
+  number = 0;
+  low =
+      low;
+  high = 0;
+}
+aggregate kind low (Some high) unique = record {
+  kind = kind;
+  optional = 0;
+  unique = cond unique 1 0;
+  fixed = 0;
+  bounded = 1;
+  number =
+      0;
+  low = low;
+  high = high;
+}
 
 -- a type without its elements
 abbrev pub parts_of : TypeUse → TypeParts
@@ -51,7 +81,17 @@ elements_of other = None
 abbrev pub told_at : ℕ → Bool → TypeUse → Option TypeParts
 told_at zero optional type =
     let parts = parts_of type in
-    Some (record { kind = parts.kind; optional = cond optional 1 0; unique = parts.unique; fixed = parts.fixed; bounded = parts.bounded; number = parts.number; low = parts.low; high = parts.high })
+    Some (record {
+      kind = parts.kind;
+      optional = cond optional 1 0;
+      unique = parts.unique;
+      fixed = parts.fixed;
+      bounded =
+          parts.bounded;
+      number = parts.number;
+      low = parts.low;
+      high = parts.high;
+    })
 told_at (suc depth) optional type = elim (elements_of type) [ Some inside ↦ told_at depth inside.0 inside.1 | None ↦ None ]
 
 -- a derived value, which has no elements

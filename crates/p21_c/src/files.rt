@@ -52,7 +52,8 @@ pub extern "C" fn p21_canonical(
     text: &mut Handle,
     report: &mut Report,
 ) -> u8
-    ensures { HoldsMade (MakesCanonical (schema_in schema.now.value) file.now (record { status = result; report = report.new })) text.old.value text.new.value }
+    ensures { HoldsMade (MakesCanonical (schema_in schema.now.value) file.now (record { status = result; report = report.new }))
+        text.old.value text.new.value }
 {
     let (made, placed) = canonical(alloc, schema, file);
     let Placed { answer, place: _ } = placed;
@@ -71,7 +72,8 @@ pub extern "C" fn p21_canonical_located(
     report: &mut Report,
     place: &mut Place,
 ) -> u8
-    ensures { HoldsMade (MakesCanonical (schema_in schema.now.value) file.now (record { status = result; report = report.new })) text.old.value text.new.value }
+    ensures { HoldsMade (MakesCanonical (schema_in schema.now.value) file.now (record { status = result; report = report.new }))
+        text.old.value text.new.value }
 {
     let (file, placed) = canonical(alloc, schema, file);
     let Placed {
@@ -94,7 +96,8 @@ pub extern "C" fn p21_same(
     same: &mut u8,
     report: &mut Report,
 ) -> u8
-    ensures { TellsAnswer (Compares (schema_in schema.now.value) first.now second.now (record { status = result; report = report.new })) same.old same.new }
+    ensures { TellsAnswer (Compares (schema_in schema.now.value) first.now second.now (record { status = result; report = report.new }))
+        same.old same.new }
 {
     let (told_answer, placed) = compare(alloc, schema, first, second);
     let Placed { answer, place: _ } = placed;
@@ -114,7 +117,8 @@ pub extern "C" fn p21_same_located(
     report: &mut Report,
     place: &mut Place,
 ) -> u8
-    ensures { TellsAnswer (Compares (schema_in schema.now.value) first.now second.now (record { status = result; report = report.new })) same.old same.new }
+    ensures { TellsAnswer (Compares (schema_in schema.now.value) first.now second.now (record { status = result; report = report.new }))
+        same.old same.new }
 {
     let (told_answer, placed) = compare(alloc, schema, first, second);
     let Placed {

@@ -143,7 +143,8 @@ impl Lent {
 
     /// The accepted file that is held, with its schema.
     pub(crate) fn model(&self) -> Option<AcceptedModel<'_>>
-        ensures { MatchOption result (model_in self.now.value ≡ None) (λ model. model_in self.now.value ≡ Some (model.accepted.now, model.schema.now)) }
+        ensures { MatchOption result (model_in self.now.value ≡ None)
+            (λ model. model_in self.now.value ≡ Some (model.accepted.now, model.schema.now)) }
     {
         match self.content() {
             Some(Content::Accepted(accepted, shared)) => {
@@ -156,7 +157,8 @@ impl Lent {
 
     /// The schema of the accepted file that is held.
     pub(crate) fn schema_of_file(&self) -> Option<&Arc<Schema, Global>>
-        ensures { MatchOption result (model_in self.now.value ≡ None) (λ shared. (output : Output) × (model_in self.now.value ≡ Some (output, shared.now.value))) }
+        ensures { MatchOption result (model_in self.now.value ≡ None)
+            (λ shared. (output : Output) × (model_in self.now.value ≡ Some (output, shared.now.value))) }
     {
         match self.content() {
             Some(Content::Accepted(_, schema)) => Some(schema),

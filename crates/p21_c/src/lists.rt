@@ -1,8 +1,8 @@
 //! All refusals that one reading finds of a file.
 ghost use Rattle.std.specs.Prelude.{◌≡◌, None, Some};
-ghost use Rattle.p21_c.specs.Answers.{CountsList, HoldsMade, MakesList, ShowsRefusal};
+ghost use Rattle.p21_c.specs.Answers.{CountsList, HoldsMade, MakesList, ShowsRefusal, TellsBegins, TellsRead};
 ghost use Rattle.p21_c.specs.Contents.{boxed_content, list_in, schema_in};
-ghost use Rattle.p21_c.specs.Reports.{counts_of, extent_of, listed_count};
+ghost use Rattle.p21_c.specs.Reports.{begins_at, counts_of, extent_of, listed_count, read_of};
 
 use crate::answers::{
     Answer, DONE, FILE, MISUSED, REFUSED, Report, accepted, done, misused, no_memory, refused,
@@ -28,7 +28,8 @@ pub extern "C" fn p21_survey(
     list: &mut Handle,
     report: &mut Report,
 ) -> u8
-    ensures { HoldsMade (MakesList (schema_in schema.now.value) file.now most (record { status = result; report = report.new })) list.old.value list.new.value }
+    ensures { HoldsMade (MakesList (schema_in schema.now.value) file.now most (record { status = result; report = report.new }))
+        list.old.value list.new.value }
 {
     let (made, answer) = survey(alloc, schema, file, most);
     list.hand(alloc, made);
@@ -46,6 +47,21 @@ pub extern "C" fn p21_list_count(list: &Lent, count: &mut usize, extent: &mut u8
     };
     *count = count_of(&list.found);
     *extent = extent_of(&list.found);
+    DONE
+}
+
+/// How many bytes of the file stand in front of the statement whose refusal ended the reading.
+#[unsafe(no_mangle)]
+pub extern "C" fn p21_list_read(list: &Lent, bytes: &mut u64) -> u8
+    ensures { TellsRead (list_in list.now.value) result bytes.old bytes.new }
+{
+    let Some(list) = list.list() else {
+        return MISUSED;
+    };
+    let Some(read) = read_of(&list.found) else {
+        return REFUSED;
+    };
+    *bytes = read;
     DONE
 }
 
@@ -68,6 +84,21 @@ pub extern "C" fn p21_list_refusal(
     *place = place_of(&located);
     let answer = refused(FILE, located.refusal);
     *report = answer.report;
+    DONE
+}
+
+/// How many bytes of the file stand in front of the statement of the refusal of this number in a list, counted from 0.
+#[unsafe(no_mangle)]
+pub extern "C" fn p21_list_begins(list: &Lent, number: usize, begins: &mut u64) -> u8
+    ensures { TellsBegins (list_in list.now.value) number result begins.old begins.new }
+{
+    let Some(list) = list.list() else {
+        return MISUSED;
+    };
+    let Some(found) = begins_at(&list.found, number) else {
+        return REFUSED;
+    };
+    *begins = found;
     DONE
 }
 
@@ -133,7 +164,34 @@ fn extent_of(found: &Surveyed) -> u8
     };
     match refusals.extent {
         Extent::Whole => 1,
-        Extent::Part => 2,
+        Extent::ReadTo(_) => 2,
         Extent::Most => 3,
+    }
+}
+
+/// How many bytes stand in front of the statement whose refusal ended the reading, where one did.
+fn read_of(found: &Surveyed) -> Option<u64>
+    ensures { result ≡ read_of found.now }
+{
+    let Surveyed::Refused(refusals) = found else {
+        return None;
+    };
+    match refusals.extent {
+        Extent::Whole => None,
+        Extent::ReadTo(bytes) => Some(bytes),
+        Extent::Most => None,
+    }
+}
+
+/// How many bytes stand in front of the statement of the refusal of this number, where it is one of a statement.
+fn begins_at(found: &Surveyed, number: usize) -> Option<u64>
+    ensures { result ≡ begins_at found.now number }
+{
+    let Surveyed::Refused(refusals) = found else {
+        return None;
+    };
+    match refusals.begins.get(number) {
+        Some(begins) => Some(*begins),
+        None => None,
     }
 }

@@ -78,7 +78,8 @@ pub extern "C" fn p21_entity_declares(
     is_abstract: &mut u8,
     attributes: &mut u32,
 ) -> u8
-    ensures { TellsEntity (schema_in schema.now.value) entity result name.old name.new is_abstract.old is_abstract.new attributes.old attributes.new }
+    ensures { TellsEntity (schema_in schema.now.value) entity result name.old name.new is_abstract.old is_abstract.new attributes.old
+        attributes.new }
 {
     let Some(schema) = schema.plain_schema() else {
         return MISUSED;

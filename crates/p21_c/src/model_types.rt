@@ -158,7 +158,8 @@ pub(crate) fn plain_type(optional: bool, of: &TypeUse, depth: u32) -> Option<Typ
 
 /// The type of the elements of an aggregate, and whether they may be left out.
 fn elements_of(of: &TypeUse) -> Option<(bool, &TypeUse)>
-    ensures { MatchOption result (elements_of (type_use of.now) ≡ None) (λ inside. elements_of (type_use of.now) ≡ Some (inside.0, type_use inside.1.now)) }
+    ensures { MatchOption result (elements_of (type_use of.now) ≡ None)
+        (λ inside. elements_of (type_use of.now) ≡ Some (inside.0, type_use inside.1.now)) }
 {
     match of {
         TypeUse::Array {

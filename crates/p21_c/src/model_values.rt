@@ -60,7 +60,8 @@ pub extern "C" fn p21_value_elements(value: &[u8], rest: &mut Span)
 /// Hands out the first of the values that are left in an aggregate, and those that are left then.
 #[unsafe(no_mangle)]
 pub extern "C" fn p21_next_element(left: &[u8], element: &mut Span, rest: &mut Span) -> u8
-    ensures { (ps : Params) (after : List ℕ) → AreLeft ps after left.now → HandsOutElement ps after result element.old element.new rest.old rest.new }
+    ensures { (ps : Params) (after : List ℕ) → AreLeft ps after left.now
+        → HandsOutElement ps after result element.old element.new rest.old rest.new }
 {
     let mut elements = Elements { rest: left };
     let Some(found) = elements.next() else {
@@ -74,7 +75,8 @@ pub extern "C" fn p21_next_element(left: &[u8], element: &mut Span, rest: &mut S
 /// The keyword and the value of a value that stands with the keyword of its type.
 #[unsafe(no_mangle)]
 pub extern "C" fn p21_value_typed(value: &[u8], keyword: &mut Span, inside: &mut Span) -> u8
-    ensures { (word : List ℕ) (p : Param) → IsTextOf value.now (typed (key_of word) p) → IsSpanOf (λ text. text ≡ word) keyword.new × IsSpanOf (λ text. IsTextOf text p) inside.new × (result ≡ done) }
+    ensures { (word : List ℕ) (p : Param) → IsTextOf value.now (typed (key_of word) p)
+        → IsSpanOf (λ text. text ≡ word) keyword.new × IsSpanOf (λ text. IsTextOf text p) inside.new × (result ≡ done) }
 {
     let value = Value { text: value };
     let Some((word, found)) = value.typed() else {
@@ -98,7 +100,8 @@ pub extern "C" fn p21_value_characters(value: &[u8], characters: &mut [u32], cou
 #[unsafe(no_mangle)]
 pub extern "C" fn p21_value_digits(value: &[u8], digits: &mut NumberDigits) -> u8
     ensures whole { (z : ℤ) → IsTextOf value.now (whole z) → TellsDigits (λ found. AreDigitsOfWhole found z) digits.new × (result ≡ done) }
-    ensures real { (d : Decimal) → IsTextOf value.now (real d) → TellsDigits (λ found. AreDigitsOfReal found d) digits.new × (result ≡ done) }
+    ensures real { (d : Decimal) → IsTextOf value.now (real d)
+        → TellsDigits (λ found. AreDigitsOfReal found d) digits.new × (result ≡ done) }
 {
     let value = Value { text: value };
     let Some(found) = value.digits() else {

@@ -23,7 +23,8 @@ pub extern "C" fn p21_place_name(
     attribute: u32,
     text: &mut Handle,
 ) -> u8
-    ensures { HoldsMade (MakesName (schema_in schema.now.value) (record { entity = entity; index = attribute }) result) text.old.value text.new.value }
+    ensures { HoldsMade (MakesName (schema_in schema.now.value) (record { entity = entity; index = attribute }) result) text.old.value
+        text.new.value }
 {
     let (made, status) = place_name(alloc, schema, entity, attribute);
     text.hand(alloc, made);

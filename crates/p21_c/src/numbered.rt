@@ -42,7 +42,8 @@ pub extern "C" fn p21_numbered(
     report: &mut Report,
     place: &mut Place,
 ) -> u8
-    ensures { HoldsMade (MakesNumbered (schema_in schema.now.value) file.now (record { status = result; report = report.new })) text.old.value text.new.value }
+    ensures { HoldsMade (MakesNumbered (schema_in schema.now.value) file.now (record { status = result; report = report.new }))
+        text.old.value text.new.value }
 {
     let (made, placed) = numbered(alloc, schema, file);
     let Placed {
@@ -67,7 +68,8 @@ pub extern "C" fn p21_same_but_for_names(
     report: &mut Report,
     place: &mut Place,
 ) -> u8
-    ensures { TellsAnswer (ComparesNumbered (schema_in schema.now.value) first.now second.now (record { status = result; report = report.new })) same.old same.new }
+    ensures { TellsAnswer (ComparesNumbered (schema_in schema.now.value) first.now second.now
+        (record { status = result; report = report.new })) same.old same.new }
 {
     let (told_answer, placed) = compare(alloc, schema, first, second);
     let Placed {

@@ -36,7 +36,8 @@ pub extern "C" fn p21_session_feed(
     piece: &[u8],
     report: &mut Report,
 ) -> u8
-    ensures { Feeds (session_in session.old.value) piece.now (record { status = result; report = report.new }) session.old.value session.new.value }
+    ensures { Feeds (session_in session.old.value) piece.now (record { status = result; report = report.new }) session.old.value
+        session.new.value }
 {
     let (content, answer) = feed(session.take(alloc), piece);
     session.put(alloc, content);

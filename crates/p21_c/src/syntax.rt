@@ -32,7 +32,8 @@ pub extern "C" fn p21_syntax(
     report: &mut Report,
     place: &mut Place,
 ) -> u8
-    ensures { HoldsTold (TellsSyntax file.now (record { status = result; report = report.new })) schema.old.value schema.new.value header.old.value header.new.value keywords.old.value keywords.new.value }
+    ensures { HoldsTold (TellsSyntax file.now (record { status = result; report = report.new })) schema.old.value schema.new.value
+        header.old.value header.new.value keywords.old.value keywords.new.value }
 {
     let (texts, placed) = tell(alloc, file);
     let Texts {
@@ -54,7 +55,8 @@ pub extern "C" fn p21_syntax(
 
 /// What a file says of itself, or why and where it isn't well formed.
 fn tell(alloc: Global, file: &[u8]) -> (Texts, Placed)
-    ensures { TellsSyntax file.now result.1.answer (boxed_content result.0.schema) (boxed_content result.0.header) (boxed_content result.0.keywords) }
+    ensures { TellsSyntax file.now result.1.answer (boxed_content result.0.schema) (boxed_content result.0.header)
+        (boxed_content result.0.keywords) }
 {
     let found = match syntax_of_located(alloc, Limits::usual(), file) {
         Ok(found) => found,
@@ -99,7 +101,8 @@ fn nothing() -> Texts
 
 /// What is found of a file, as texts to be held; none where there is no memory.
 fn texts_of(alloc: Global, found: &WellFormed) -> Option<Texts>
-    ensures { IfSome result (λ texts. TellsFile found.now (boxed_content texts.schema) (boxed_content texts.header) (boxed_content texts.keywords)) }
+    ensures { IfSome result (λ texts. TellsFile found.now (boxed_content texts.schema) (boxed_content texts.header)
+        (boxed_content texts.keywords)) }
 {
     let Ok(header) = header_words(alloc, &found.header) else {
         return None;

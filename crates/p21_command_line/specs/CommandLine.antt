@@ -12,7 +12,11 @@ given_rule id = record (new_rule id) { action = Some Set; required = true }
 
 -- what has to be given: words, one at least
 abbrev pub files_rule : Rule
-files_rule = record (given_rule (codes "FILE")) { action = Some Append; range = Some (record { start_inclusive = 1; end_inclusive = usize_max }) }
+files_rule = record (given_rule (codes "FILE")) {
+  action = Some Append;
+  range =
+      Some (record { start_inclusive = 1; end_inclusive = usize_max });
+}
 
 -- `--name N`, with a whole number of 64 bits
 abbrev pub name_rule : Rule
@@ -51,6 +55,10 @@ where_rule = record (new_rule (codes "where")) { action = Some SetTrue; long = S
 abbrev pub names_rule : Rule
 names_rule = record (new_rule (codes "names")) { action = Some SetTrue; long = Some (codes "names") }
 
+-- `--pairs`
+abbrev pub pairs_rule : Rule
+pairs_rule = record (new_rule (codes "pairs")) { action = Some SetTrue; long = Some (codes "pairs") }
+
 -- the words that may stand behind `--format`, wherever these lie
 abbrev pub AreForms : ValueParser → Type 0
 AreForms (Names names) = map (λ name. name.now) names.now ≡ codes "text" ∷ codes "jsonl" ∷ []
@@ -83,7 +91,8 @@ schema_app = with_rule (new_app (codes "schema")) (given_rule (codes "S"))
 
 -- `syntax FILE.. [--header] [--count] [--where] [--progress]`
 abbrev pub syntax_app : App
-syntax_app = with_rule (with_rule (with_rule (with_rule (with_rule (new_app (codes "syntax")) files_rule) header_rule) count_rule) where_rule) progress_rule
+syntax_app = with_rule (with_rule (with_rule (with_rule (with_rule (new_app (codes "syntax")) files_rule) header_rule) count_rule)
+    where_rule) progress_rule
 
 -- a command on a schema and a file
 abbrev pub file_app : Text → App
@@ -108,10 +117,10 @@ abbrev pub same_app : App
 same_app = with_rule (with_rule (with_rule (with_rule (with_rule (new_app (codes "same"))
     (given_rule (codes "S"))) (given_rule (codes "A"))) (given_rule (codes "B"))) names_rule) progress_rule
 
--- `diff S A B [--names] [--format FORM] [--progress]`
+-- `diff S A B [--names] [--pairs] [--format FORM] [--progress]`
 abbrev pub diff_app : ValueParser → App
-diff_app forms = with_rule (with_rule (with_rule (with_rule (with_rule (with_rule (new_app (codes "diff"))
-    (given_rule (codes "S"))) (given_rule (codes "A"))) (given_rule (codes "B"))) names_rule) (format_rule forms)) progress_rule
+diff_app forms = with_rule (with_rule (with_rule (with_rule (with_rule (with_rule (with_rule (new_app (codes "diff"))
+    (given_rule (codes "S"))) (given_rule (codes "A"))) (given_rule (codes "B"))) names_rule) pairs_rule) (format_rule forms)) progress_rule
 
 -- `faults [N]`
 abbrev pub faults_app : App

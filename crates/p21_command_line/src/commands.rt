@@ -6,7 +6,7 @@ ghost use Rattle.std.specs.Prelude.{◌≡◌, IfOk, codes, false};
 ghost use Rattle.clap.specs.Words.{app_of, rule_of};
 ghost use Rattle.clap.specs.declared.builder.command.Command.TheViews.{out-Command as fields_of};
 ghost use Rattle.clap.specs.declared.builder.value_parser.ValueParser.{ValueParser};
-ghost use Rattle.p21_command_line.specs.CommandLine.{AreForms, Forms, HaveForms, all_rule, app_without_commands, canon_app, check_app, diff_app, faults_app, files_rule, format_rule, given_rule, most_rule, name_rule, names_rule, optional_rule, param_app, progress_rule};
+ghost use Rattle.p21_command_line.specs.CommandLine.{AreForms, Forms, HaveForms, all_rule, app_without_commands, canon_app, check_app, diff_app, faults_app, files_rule, format_rule, given_rule, most_rule, name_rule, names_rule, optional_rule, pairs_rule, param_app, progress_rule};
 ghost use Rattle.p21_command_line.specs.CommandLine.{count_rule, header_rule, program_app, same_app, schema_app, show_app, syntax_app, where_rule};
 
 use crate::{help, refusals};
@@ -158,7 +158,7 @@ fn same<'a>(alloc: Global) -> Result<Command<'a>, AllocError>
         .arg(progress(alloc))
 }
 
-/// `diff S A B [--names] [--format FORM] [--progress]`.
+/// `diff S A B [--names] [--pairs] [--format FORM] [--progress]`.
 fn diff<'a>(alloc: Global) -> Result<Command<'a>, AllocError>
     ensures app { IfOk result (λ command. (forms : ValueParser) × AreForms forms × (app_of command ≡ diff_app forms)) }
     ensures local { IfOk result (λ command. (fields_of command).has_globals ≡ false) }
@@ -173,6 +173,7 @@ fn diff<'a>(alloc: Global) -> Result<Command<'a>, AllocError>
             alloc,
             "Pairs instances by what they say and what is around them, whatever their names are",
         ))?
+        .arg(pairs(alloc))?
         .arg(format(
             alloc,
             "With jsonl gives differences as JSON, an object a line",
@@ -242,7 +243,7 @@ fn all<'a>(alloc: Global) -> Arg<'a>
     ensures local { result.global ≡ false }
 {
     Arg::new(alloc, "all")
-        .help("Lists the first refusal of each record and those of references, and counts them")
+        .help("Lists the first refusal of each statement and those of references, and counts them")
         .long("all")
         .action(ArgAction::SetTrue)
 }
@@ -281,6 +282,17 @@ fn names<'a>(alloc: Global, help: &'a str) -> Arg<'a>
     Arg::new(alloc, "names")
         .help(help)
         .long("names")
+        .action(ArgAction::SetTrue)
+}
+
+/// `--pairs`.
+fn pairs<'a>(alloc: Global) -> Arg<'a>
+    ensures rule { rule_of result ≡ pairs_rule }
+    ensures local { result.global ≡ false }
+{
+    Arg::new(alloc, "pairs")
+        .help("Pairs instances as --names does, and lists all pairs in front of what differs")
+        .long("pairs")
         .action(ArgAction::SetTrue)
 }
 

@@ -106,12 +106,20 @@ pub const CHECK: &str =
 standard error, the first refusal and where it comes, or that of the schema:
     refused 52 NotDistinct in #1
     schema refused S5 Circular
-With --all, on standard error, the first refusal of each record, then those of references,
-but for references of and to records that are refused, and how many these are; any other
-refusal ends the list, as one of bytes or of the header:
+With --all, on standard error, the first refusal of each statement in the order of FILE, then
+those of references, and how many these are:
     refused 45 Count in #3
-    refused 56 Dangling in #9
-    refusals 2
+    refused 20 Unexpected at statement 12
+    refused 57 WrongTarget in #9
+    refusals 3
+A record that is refused is left out: nothing is said of references of it, nor of those to it.
+A broken statement of a data section, as by 1 to 11, 20, 21 and 26, is passed over: the
+reading goes on at the next #N= or ENDSEC; that stands behind a ;, a ) or the end of a line.
+Of what is passed over nothing else is said, and 56 isn't told then. Every other refusal ends
+the list, and so does a broken statement behind which neither comes. Then the last line says
+how many bytes stand in front of that statement; of what stands behind it, and of references,
+nothing is said:
+    refusals 3, read 4096 bytes
 With --where a second line has its place, where it has one: file, line and column, both from
 1 on, the column in bytes; of a value of a record also its attribute, behind the entity that
 declares it, and of a part of one its entity. With --all and --most each line has it:
@@ -134,7 +142,7 @@ read or write.
 Slips:
   - schema refused S2 Syntax: schema and file are exchanged; the schema stands first.
   - refused 20 Unexpected at statement 1: FILE is a schema too.
-  - refusals 3, the rest was not read: the last refusal of the list is to be mended first.
+  - refusals 3, read 4096 bytes: the last refusal of the list is to be mended first.
   - refused 31 SchemaName: the file names another schema than S declares.
   - From a pipe: gunzip -c part.step.gz | p21 check S -
   - Many files: find . -name '*.step' | p21 check S @-
@@ -241,8 +249,10 @@ like it and has the same around it, whatever their names are. A row has both nam
 they differ, first that in A, and so has each reference in a value; A and B stand in front
 of one to an instance that only this file has:
     changed #17/#5 CIRCLE.POSITION #3/#4 B#9
-Where files differ and more than 1000 pairs are chosen among instances that are alike, the
-answer is the line not decided.
+With --pairs each pair has a line besides, in front of all others, by the names in B:
+    pair #17/#5
+Where files differ, and so do more than 1000 pairs that were chosen among several, the answer
+is the line not decided.
 With --format jsonl each difference is a JSON object on a line, with whole values, and the
 last one has the counts.
 On standard error the first refusal, with first: or second: in front for the file, or that

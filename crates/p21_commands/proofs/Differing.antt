@@ -25,13 +25,22 @@ use Rattle.p21_stream_statements.specs.declared.fault.Fault.TheVariants.{NoMemor
 use Rattle.p21_stream_output.specs.Output.{Output, output_text}
 
 -- the instances of accepted bytes are kept as such
-kept-are : (s : Schema) (limits : Limits) (bytes : List ℕ) (output : Output) → IsCanonicalOutput s limits bytes output → AreKept s bytes output.kept
+kept-are : (s : Schema) (limits : Limits) (bytes : List ℕ) (output : Output) → IsCanonicalOutput s limits bytes output
+    → AreKept s bytes output.kept
 kept-are s limits bytes output is =
     let are = is.instances_are in
-    record { structure = are.structure; schema_text = are.schema_text; in_grammar = are.in_grammar; names_are = are.names_are; texts_are = are.texts_are }
+    record {
+      structure = are.structure;
+      schema_text = are.schema_text;
+      in_grammar = are.in_grammar;
+      names_are = are.names_are;
+      texts_are =
+          are.texts_are;
+    }
 
 -- what is accepted is the canonical file of what was read
-abbrev pub canonical-read : (s : Schema) → Claim s usual → (old new : Option (List ℕ)) (output : Output) → IsAcceptedInput s usual old new output → IsCanonicalOfRead s usual old new (output_text output)
+abbrev pub canonical-read : (s : Schema) → Claim s usual → (old new : Option (List ℕ)) (output : Output)
+    → IsAcceptedInput s usual old new output → IsCanonicalOfRead s usual old new (output_text output)
 canonical-read s claim old new output is = record {
   bytes = is.bytes;
   read = is.read;
@@ -39,7 +48,8 @@ canonical-read s claim old new output is = record {
   in_one_way = claim.in_one_way is.bytes;
 }
 
-module _ (form : RowForm) (s : Schema) (formed : IsWellFormed s) (law : LinesAreOfMeaning) (claim : Claim s usual) (schema first_old first_new second_old second_new : Option (List ℕ)) (before after : Output)
+module _ (form : RowForm) (s : Schema) (formed : IsWellFormed s) (law : LinesAreOfMeaning) (claim : Claim s usual)
+    (schema first_old first_new second_old second_new : Option (List ℕ)) (before after : Output)
     (first : IsAcceptedInput s usual first_old first_new before) (second : IsAcceptedInput s usual second_old second_new after) where
   pub lists : (same : Bool) (text : List ℕ) → IsTrue same ↔ (output_text before ≡ output_text after)
       → ((a b : FileMeaning) → AreLinesOf s a before.kept → AreLinesOf s b after.kept → IsList form s as_they_stand a b same text)
@@ -62,32 +72,45 @@ module _ (form : RowForm) (s : Schema) (formed : IsWellFormed s) (law : LinesAre
             (law s formed second.bytes b means_.reads after.kept (kept-are s usual second.bytes after second.accepted));
       }
 
-module _ (form : RowForm) (s : Schema) (formed : IsWellFormed s) (law : LinesAreOfMeaning) (limits : Limits) (is_usual : limits ≡ usual) (claim : Claim s limits) (schema first_old first_new second_old second_new : Option (List ℕ)) where
+module _ (form : RowForm) (s : Schema) (formed : IsWellFormed s) (law : LinesAreOfMeaning) (limits : Limits) (is_usual : limits ≡ usual)
+    (claim : Claim s limits) (schema first_old first_new second_old second_new : Option (List ℕ)) where
   -- both files are accepted
-  pub both-listed : (before after : Output) → IsAcceptedInput s limits first_old first_new before → IsAcceptedInput s limits second_old second_new after
+  pub both-listed : (before after : Output) → IsAcceptedInput s limits first_old first_new before
+      → IsAcceptedInput s limits second_old second_new after
       → (same : Bool) (text : List ℕ) → IsTrue same ↔ (output_text before ≡ output_text after)
       → ((a b : FileMeaning) → AreLinesOf s a before.kept → AreLinesOf s b after.kept → IsList form s as_they_stand a b same text)
       → Lists form s (read_of schema first_old first_new second_old second_new) same text
   both-listed before after first second same text if_equal list =
       lists form s formed law (subst (Claim s) is_usual claim) schema first_old first_new second_old second_new before after
-      (subst (λ (l : Limits). IsAcceptedInput s l first_old first_new before) is_usual first) (subst (λ (l : Limits). IsAcceptedInput s l second_old second_new after) is_usual second) same text if_equal list
+      (subst (λ (l : Limits). IsAcceptedInput s l first_old first_new before) is_usual first)
+      (subst (λ (l : Limits). IsAcceptedInput s l second_old second_new after) is_usual second) same text if_equal list
 
   -- the first is refused
-  pub first-fails : (fault : Fault) → RefusesRead s limits first_old first_new fault → FailsToCompare s usual first_old first_new second_old second_old First fault
+  pub first-fails : (fault : Fault) → RefusesRead s limits first_old first_new fault
+      → FailsToCompare s usual first_old first_new second_old second_old First fault
   first-fails fault refuses = (subst (λ (l : Limits). RefusesRead s l first_old first_new fault) is_usual refuses, Keeps-refl second_old)
 
   -- the second is, or memory is wanted behind both
-  pub second-fails : (before : Output) (fault : Fault) → IsAcceptedInput s limits first_old first_new before → RefusesRead s limits second_old second_new fault
+  pub second-fails : (before : Output) (fault : Fault) → IsAcceptedInput s limits first_old first_new before
+      → RefusesRead s limits second_old second_new fault
       → FailsToCompare s usual first_old first_new second_old second_new Second fault
   second-fails before fault first refuses = (
-    (output_text before, canonical-read s (subst (Claim s) is_usual claim) first_old first_new before (subst (λ (l : Limits). IsAcceptedInput s l first_old first_new before) is_usual first)),
+    (
+      output_text before,
+      canonical-read s (subst (Claim s) is_usual claim) first_old first_new before
+          (subst (λ (l : Limits). IsAcceptedInput s l first_old first_new before) is_usual first),
+    ),
     subst (λ (l : Limits). RefusesRead s l second_old second_new fault) is_usual refuses,
   )
 
-  pub memory-fails : (before : Output) (fault : Fault) → IsAcceptedInput s limits first_old first_new before → fault ≡ NoMemory → FailsToCompare s usual first_old first_new second_old second_new Second fault
+  pub memory-fails : (before : Output) (fault : Fault) → IsAcceptedInput s limits first_old first_new before → fault ≡ NoMemory
+      → FailsToCompare s usual first_old first_new second_old second_new Second fault
   memory-fails before fault first is = second-fails before fault first (subst (RefusesRead s limits second_old second_new) (sym is) tt)
 
 -- where the list is made, the first file is accepted
-pub first-listed : (form : RowForm) (schema first_old first_new second_old second_new : Option (List ℕ)) (s : Schema) (same : Bool) (text : List ℕ) → DeclaresRead schema s
-    → Lists form s (read_of schema first_old first_new second_old second_new) same text → IsFirstAccepted (read_of schema first_old first_new second_old second_new)
-first-listed form schema first_old first_new second_old second_new s same text declares is = record { declared = s; declares = declares; text = is.compares.first_text; canonical = is.compares.first }
+pub first-listed : (form : RowForm) (schema first_old first_new second_old second_new : Option (List ℕ)) (s : Schema) (same : Bool)
+    (text : List ℕ) → DeclaresRead schema s
+    → Lists form s (read_of schema first_old first_new second_old second_new) same text
+    → IsFirstAccepted (read_of schema first_old first_new second_old second_new)
+first-listed form schema first_old first_new second_old second_new s same text declares is =
+    record { declared = s; declares = declares; text = is.compares.first_text; canonical = is.compares.first }

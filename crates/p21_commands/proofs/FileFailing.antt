@@ -23,7 +23,8 @@ of-no_device file.Write of = absurd of
 of-no_device fault of = tt
 
 -- the file is refused, where the fault is of it
-pub refused-of : (s : Schema) (old new : Option (List ℕ)) (fault : Fault) → IsOfFile fault → input.RefusesRead s usual old new fault → IsRefused s usual old new
+pub refused-of : (s : Schema) (old new : Option (List ℕ)) (fault : Fault) → IsOfFile fault → input.RefusesRead s usual old new fault
+    → IsRefused s usual old new
 refused-of s old new file.NoMemory of refuses = absurd of
 refused-of s old new file.Read of refuses = absurd of
 refused-of s old new file.Write of refuses = absurd of
@@ -37,7 +38,9 @@ refused-of s old new file.CanonicalTooLong of refuses = refuses
 refused-of s old new file.Dangling of refuses = refuses
 refused-of s old new file.WrongTarget of refuses = refuses
 
-pub file-refused : (word : List ℕ) (schema old new : Option (List ℕ)) (s : Schema) (refusal : Refusal) (line : List ℕ) → DeclaresRead schema s → IsOfFile refusal.fault × (line ≡ refusal_line word refusal) → input.RefusesRead s usual old new refusal.fault → IsFileRefused word schema old new line
+pub file-refused : (word : List ℕ) (schema old new : Option (List ℕ)) (s : Schema) (refusal : Refusal) (line : List ℕ)
+    → DeclaresRead schema s → IsOfFile refusal.fault × (line ≡ refusal_line word refusal) → input.RefusesRead s usual old new refusal.fault
+    → IsFileRefused word schema old new line
 file-refused word schema old new s refusal line declares names refuses = record {
   declared = s;
   declares = declares;
@@ -49,23 +52,33 @@ file-refused word schema old new s refusal line declares names refuses = record 
 }
 
 -- a writer is no file that is read
-pub not-written : (s : Schema) (limits : Limits) (old new : Option (List ℕ)) (fault : Fault) → fault ≡ file.Write → input.RefusesRead s limits old new fault → ⊥
+pub not-written : (s : Schema) (limits : Limits) (old new : Option (List ℕ)) (fault : Fault) → fault ≡ file.Write
+    → input.RefusesRead s limits old new fault → ⊥
 not-written s limits old new fault is refuses = subst (input.RefusesRead s limits old new) is refuses
 
-read-fails : (schema old new : Option (List ℕ)) (s : Schema) (refusal : Refusal) (fault : CommandFault) → DeclaresRead schema s → IsFaultOf [] refusal fault → input.RefusesRead s usual old new refusal.fault → RefusesWith (IsFileRefused [] schema old new) fault
-read-fails schema old new s refusal (Refused line) declares is refuses = file-refused [] schema old new s refusal (string_bytes line) declares is refuses
+read-fails : (schema old new : Option (List ℕ)) (s : Schema) (refusal : Refusal) (fault : CommandFault) → DeclaresRead schema s
+    → IsFaultOf [] refusal fault → input.RefusesRead s usual old new refusal.fault → RefusesWith (IsFileRefused [] schema old new) fault
+read-fails schema old new s refusal (Refused line) declares is refuses =
+    file-refused [] schema old new s refusal (string_bytes line) declares is refuses
 read-fails schema old new s refusal NoMemory declares is refuses = tt
 read-fails schema old new s refusal Read declares is refuses = tt
 read-fails schema old new s refusal Write declares is refuses = not-written s usual old new refusal.fault is refuses
 
 -- what a command answers to a refusal of its file
-pub file-fails : (schema old new : Option (List ℕ)) (s : Schema) (limits : Limits) (refusal : Refusal) (fault : CommandFault) → limits ≡ usual → IsFaultOf [] refusal fault → input.RefusesRead s limits old new refusal.fault → DeclaresRead schema s → RefusesWith (IsFileRefused [] schema old new) fault
-file-fails schema old new s limits refusal fault is_usual is refuses declares = read-fails schema old new s refusal fault declares is (subst (λ l. input.RefusesRead s l old new refusal.fault) is_usual refuses)
+pub file-fails : (schema old new : Option (List ℕ)) (s : Schema) (limits : Limits) (refusal : Refusal) (fault : CommandFault)
+    → limits ≡ usual → IsFaultOf [] refusal fault → input.RefusesRead s limits old new refusal.fault → DeclaresRead schema s
+    → RefusesWith (IsFileRefused [] schema old new) fault
+file-fails schema old new s limits refusal fault is_usual is refuses declares =
+    read-fails schema old new s refusal fault declares is (subst (λ l. input.RefusesRead s l old new refusal.fault) is_usual refuses)
 
 -- ---- what is refused under a schema that its reader declares, or doesn't
 
-pub schema-refused : (schema file : Option (List ℕ)) (fault : CommandFault) → RefusesRead schema fault → RefusesWith (IsRefusedUnder schema file file) fault
-schema-refused schema file fault refuses = refuses-weaker (IsSchemaRefused schema) (IsRefusedUnder schema file file) (λ line is. inl (is, Keeps-refl file)) fault refuses
+pub schema-refused : (schema file : Option (List ℕ)) (fault : CommandFault) → RefusesRead schema fault
+    → RefusesWith (IsRefusedUnder schema file file) fault
+schema-refused schema file fault refuses = refuses-weaker (IsSchemaRefused schema) (IsRefusedUnder schema file file)
+    (λ line is. inl (is, Keeps-refl file)) fault refuses
 
-pub under-refused : (schema old new : Option (List ℕ)) (fault : CommandFault) → RefusesWith (IsFileRefused [] schema old new) fault → RefusesWith (IsRefusedUnder schema old new) fault
-under-refused schema old new fault refuses = refuses-weaker (IsFileRefused [] schema old new) (IsRefusedUnder schema old new) (λ line is. inr is) fault refuses
+pub under-refused : (schema old new : Option (List ℕ)) (fault : CommandFault) → RefusesWith (IsFileRefused [] schema old new) fault
+    → RefusesWith (IsRefusedUnder schema old new) fault
+under-refused schema old new fault refuses = refuses-weaker (IsFileRefused [] schema old new) (IsRefusedUnder schema old new)
+    (λ line is. inr is) fault refuses

@@ -17,7 +17,8 @@ use Rattle.p21_commands.specs.declared.fault.CommandFault.TheVariants.{Refused, 
 use Rattle.p21_commands.proofs.Failing.{before_writing, none_more}
 
 -- a refusal that is written leaves the output as it was
-pub refusal-kept : (IsAnswer IsRefusal : List ℕ → Type 0) (output_old output_new : Option (List ℕ)) (faults : Stream) (fault : CommandFault) (status : ℕ) → FailsBy IsAnswer IsRefusal output_old output_new fault
+pub refusal-kept : (IsAnswer IsRefusal : List ℕ → Type 0) (output_old output_new : Option (List ℕ)) (faults : Stream) (fault : CommandFault)
+    (status : ℕ) → FailsBy IsAnswer IsRefusal output_old output_new fault
     → Reports fault status faults → status ≡ refused → Keeps output_old output_new
 refusal-kept IsAnswer IsRefusal output_old output_new faults (Refused line) status f r e = f.1
 refusal-kept IsAnswer IsRefusal output_old output_new faults NoMemory status f r e = f
@@ -57,14 +58,22 @@ module _ (faults : Stream) where
     refusal_written (Refused line) status f (inr r) e = cc (r.0, e)
     refusal_written fault status f r e = absurd (not_refused fault status refl r e)
 
-    pub failure_reported : (readers : List Failures) (fault : CommandFault) (status : ℕ) → FailsBy IsAnswer IsRefusal output.before output.behind fault → FailedBy readers (output.failures ∷ []) fault
+    pub failure_reported : (readers : List Failures) (fault : CommandFault) (status : ℕ)
+        → FailsBy IsAnswer IsRefusal output.before output.behind fault → FailedBy readers (output.failures ∷ []) fault
         → Reports fault status faults → status ≡ failed → Fails IsAnswer IsRefusal readers output faults
-    failure_reported readers fault status f b r e = record { fault = fault; fails_by = f; failed_by = b; reports = subst (λ (s : ℕ). Reports fault s faults) e r }
+    failure_reported readers fault status f b r e = record {
+      fault = fault;
+      fails_by = f;
+      failed_by = b;
+      reports =
+          subst (λ (s : ℕ). Reports fault s faults) e r;
+    }
 
 -- ---- how a command ends
 
 module _ (IsAnswer IsRefusal : List ℕ → Type 0) (readers : List Failures) (output faults : Stream) where
-  pub ends-answered : Writes IsAnswer output.before output.behind → Keeps faults.before faults.behind → NoneFailed (readers ++ output.failures ∷ faults.failures ∷ [])
+  pub ends-answered : Writes IsAnswer output.before output.behind → Keeps faults.before faults.behind
+      → NoneFailed (readers ++ output.failures ∷ faults.failures ∷ [])
       → Ends IsAnswer IsRefusal readers output faults done
   ends-answered writes keeps none = record {
     status = inl refl;
@@ -76,7 +85,8 @@ module _ (IsAnswer IsRefusal : List ℕ → Type 0) (readers : List Failures) (o
     unfailed = λ e. none;
   }
 
-  pub ends-reported : (fault : CommandFault) (status : ℕ) → FailsBy IsAnswer IsRefusal output.before output.behind fault → FailedBy readers (output.failures ∷ []) fault → Reports fault status faults
+  pub ends-reported : (fault : CommandFault) (status : ℕ) → FailsBy IsAnswer IsRefusal output.before output.behind fault
+      → FailedBy readers (output.failures ∷ []) fault → Reports fault status faults
       → Ends IsAnswer IsRefusal readers output faults status
   ends-reported fault status f b r = record {
     status = inr (reported_status faults fault status r);
@@ -89,37 +99,51 @@ module _ (IsAnswer IsRefusal : List ℕ → Type 0) (readers : List Failures) (o
   }
 
   -- a line that `answer` wrote
-  pub ends-with : (line : List ℕ) (status : ℕ) → IsAnswer line → NoneFailed readers → AnswersWith line status output faults → Ends IsAnswer IsRefusal readers output faults status
-  ends-with line status is none (inl (same, appended, keeps, unfailed_)) = subst (Ends IsAnswer IsRefusal readers output faults) (sym same) (
-      ends-answered (record { line = line; is_line = is; appended = appended }) keeps (none_more readers (output.failures ∷ faults.failures ∷ []) none unfailed_)
+  pub ends-with : (line : List ℕ) (status : ℕ) → IsAnswer line → NoneFailed readers → AnswersWith line status output faults
+      → Ends IsAnswer IsRefusal readers output faults status
+  ends-with line status is none (inl (same, appended, keeps, unfailed_)) =
+      subst (Ends IsAnswer IsRefusal readers output faults) (sym same) (
+      ends-answered (record { line = line; is_line = is; appended = appended }) keeps
+      (none_more readers (output.failures ∷ faults.failures ∷ []) none unfailed_)
       )
-  ends-with line status is none (inr (part, failed_, reports)) = ends-reported Write status (record { line = line; is_line = is; part = part }) (none, failed_) reports
+  ends-with line status is none (inr (part, failed_, reports)) =
+      ends-reported Write status (record { line = line; is_line = is; part = part }) (none, failed_) reports
 
 -- there is no answer, and nothing was written to the output
-pub unanswered : (IsAnswer IsRefusal : List ℕ → Type 0) (output : Option (List ℕ)) (fault : CommandFault) → RefusesWith IsRefusal fault → FailsBy IsAnswer IsRefusal output output fault
+pub unanswered : (IsAnswer IsRefusal : List ℕ → Type 0) (output : Option (List ℕ)) (fault : CommandFault) → RefusesWith IsRefusal fault
+    → FailsBy IsAnswer IsRefusal output output fault
 unanswered IsAnswer IsRefusal output (Refused line) is = (is, Keeps-refl output)
 unanswered IsAnswer IsRefusal output NoMemory is = Keeps-refl output
 unanswered IsAnswer IsRefusal output Read is = Keeps-refl output
 unanswered IsAnswer IsRefusal output Write is = absurd is
 
-pub refuses-weaker : (IsLine IsOther : List ℕ → Type 0) → ((line : List ℕ) → IsLine line → IsOther line) → (fault : CommandFault) → RefusesWith IsLine fault → RefusesWith IsOther fault
+pub refuses-weaker : (IsLine IsOther : List ℕ → Type 0) → ((line : List ℕ) → IsLine line → IsOther line) → (fault : CommandFault)
+    → RefusesWith IsLine fault → RefusesWith IsOther fault
 refuses-weaker IsLine IsOther weaker (Refused line) is = weaker (string_bytes line) is
 refuses-weaker IsLine IsOther weaker NoMemory is = tt
 refuses-weaker IsLine IsOther weaker Read is = tt
 refuses-weaker IsLine IsOther weaker Write is = absurd is
 
 -- the stream of a writer that was not written to
-module _ (IsAnswer IsRefusal : List ℕ → Type 0) (readers : List Failures) {W : Type 0} (bytes : W → Option (List ℕ)) (writer : Watch W) (faults : Stream) where
-  pub ends-unanswered : (fault : CommandFault) (status : ℕ) → RefusesWith IsRefusal fault → FailedBy readers [] fault → Reports fault status faults → Ends IsAnswer IsRefusal readers (stream_of bytes writer writer) faults status
+module _ (IsAnswer IsRefusal : List ℕ → Type 0) (readers : List Failures) {W : Type 0} (bytes : W → Option (List ℕ)) (writer : Watch W)
+    (faults : Stream) where
+  pub ends-unanswered : (fault : CommandFault) (status : ℕ) → RefusesWith IsRefusal fault → FailedBy readers [] fault
+      → Reports fault status faults → Ends IsAnswer IsRefusal readers (stream_of bytes writer writer) faults status
   ends-unanswered fault status is by reports =
-      ends-reported IsAnswer IsRefusal readers (stream_of bytes writer writer) faults fault status (unanswered IsAnswer IsRefusal (bytes writer.inner) fault is) (before_writing readers (failures_of writer writer ∷ []) fault by (refl, tt)) reports
+      ends-reported IsAnswer IsRefusal readers (stream_of bytes writer writer) faults fault status
+      (unanswered IsAnswer IsRefusal (bytes writer.inner) fault is)
+      (before_writing readers (failures_of writer writer ∷ []) fault by (refl, tt)) reports
 
 -- ---- an answer that is written
 
-pub written : {E : Type 0} (IsLine : List ℕ → Type 0) (result : Result (Unit {0}) E) (old new : Option (List ℕ)) (line : List ℕ) → IsLine line → OnOk result (Appends old new line) → OnOk result (Writes IsLine old new)
+pub written : {E : Type 0} (IsLine : List ℕ → Type 0) (result : Result (Unit {0}) E) (old new : Option (List ℕ)) (line : List ℕ)
+    → IsLine line → OnOk result (Appends old new line) → OnOk result (Writes IsLine old new)
 written IsLine (Ok u) old new line is appended = record { line = line; is_line = is; appended = appended }
 written IsLine (Err fault) old new line is appended = tt
 
-pub part_written : (IsAnswer IsRefusal : List ℕ → Type 0) (result : Result (Unit {0}) CommandFault) (old new : Option (List ℕ)) (line : List ℕ) → IsAnswer line → OnErr result (AppendsPartOf old new line) → IfErr result (λ fault. fault ≡ Write) → IfErr result (FailsBy IsAnswer IsRefusal old new)
+pub part_written : (IsAnswer IsRefusal : List ℕ → Type 0) (result : Result (Unit {0}) CommandFault) (old new : Option (List ℕ))
+    (line : List ℕ) → IsAnswer line → OnErr result (AppendsPartOf old new line) → IfErr result (λ fault. fault ≡ Write)
+    → IfErr result (FailsBy IsAnswer IsRefusal old new)
 part_written IsAnswer IsRefusal (Ok u) old new line is part same = tt
-part_written IsAnswer IsRefusal (Err fault) old new line is part same = subst (FailsBy IsAnswer IsRefusal old new) (sym same) (record { line = line; is_line = is; part = part })
+part_written IsAnswer IsRefusal (Err fault) old new line is part same =
+    subst (FailsBy IsAnswer IsRefusal old new) (sym same) (record { line = line; is_line = is; part = part })

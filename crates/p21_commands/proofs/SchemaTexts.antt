@@ -67,16 +67,20 @@ has-all p (q ∷ qs) among = elim (Contains-cases q qs p among) [
   | inr far ↦ or-later (is_place p q) (has_place p qs) (has-all p qs far)
 ]
 
-derived-there : (s : Schema) (entities : List ℕ) (p : Place) → IsDerivedIn s entities p → has_place p (flat_map (derived_of s) entities) ≡ true
+derived-there : (s : Schema) (entities : List ℕ) (p : Place) → IsDerivedIn s entities p
+    → has_place p (flat_map (derived_of s) entities) ≡ true
 derived-there s entities p (e, x, among, at, derives) =
-    has-all p (flat_map (derived_of s) entities) (Contains-flat_map (derived_of s) entities e p among (subst (λ (ps : List Place). Contains ps p) (sym (ap derived_in at)) derives))
+    has-all p (flat_map (derived_of s) entities) (Contains-flat_map (derived_of s) entities e p among
+    (subst (λ (ps : List Place). Contains ps p) (sym (ap derived_in at)) derives))
 
-derived-from : (s : Schema) (entities : List ℕ) (p : Place) → has_place p (flat_map (derived_of s) entities) ≡ true → IsDerivedIn s entities p
+derived-from : (s : Schema) (entities : List ℕ) (p : Place) → has_place p (flat_map (derived_of s) entities) ≡ true
+    → IsDerivedIn s entities p
 derived-from s entities p there =
     let (e, among, derives) = Contains-one_of (derived_of s) entities p (has-yes p (flat_map (derived_of s) entities) there) in
     by e among (slice_get s.entities e) refl derives
   where
-    by : (e : ℕ) → Contains entities e → (o : Option Entity) → slice_get s.entities e ≡ o → Contains (derived_in o) p → IsDerivedIn s entities p
+    by : (e : ℕ) → Contains entities e → (o : Option Entity) → slice_get s.entities e ≡ o → Contains (derived_in o) p
+        → IsDerivedIn s entities p
     by e among (Some x) at derives = (e, x, among, at, derives)
     by e among None at derives = absurd (Contains-none p derives)
 
@@ -103,7 +107,10 @@ module _ (s : Schema) (e : ℕ) (p : Place) where
     where
       by : (b : Bool) → is_derived ≡ b → IsPlaceWord s e p (name_or_star b name)
       by true is = inl (derived-from s (order s e) p is, refl)
-      by false is = inr ((λ derived. let found : is_derived ≡ true = derived-there s (order s e) p derived in cc), (a, at, sym (ap attribute_name at)))
+      by false is = inr (
+        (λ derived. let found : is_derived ≡ true = derived-there s (order s e) p derived in cc),
+        (a, at, sym (ap attribute_name at)),
+      )
 
 at-below : {X : Type 0} (xs : List X) (k : ℕ) → k < length xs → (x : X) × (slice_get xs k ≡ Some x)
 at-below [] k below = absurd (omega (arith, below))
@@ -135,12 +142,18 @@ prefix-right s e x at = subst (IsEntityPrefix s e) (sym (ap prefix_in at)) (by x
   where
     by : (b : Bool) → x.is_abstract ≡ b → IsEntityPrefix s e (prefix_if b)
     by true is = inl ((x, at, is), refl)
-    by false is = inr ((λ (y, there, set). let one : x ≡ y = same_Some x y (sym at ∙ there) in let it : x.is_abstract ≡ true = ap (λ (z : Entity). z.is_abstract) one ∙ set in cc), refl)
+    by false is = inr (
+      (λ (y, there, set). let one : x ≡ y = same_Some x y (sym at ∙ there) in let it : x.is_abstract ≡ true =
+          ap (λ (z : Entity). z.is_abstract) one ∙ set in cc),
+      refl,
+    )
 
-pub prefix-is : (s : Schema) (e : ℕ) (b : Bool) → (b ≡ true → IsAbstract s e) → (IsAbstract s e → b ≡ true) → prefix_if b ≡ entity_prefix s e
+pub prefix-is : (s : Schema) (e : ℕ) (b : Bool) → (b ≡ true → IsAbstract s e) → (IsAbstract s e → b ≡ true)
+    → prefix_if b ≡ entity_prefix s e
 prefix-is s e b to from = by (slice_get s.entities e) refl b to from
   where
-    by : (o : Option Entity) → slice_get s.entities e ≡ o → (b : Bool) → (b ≡ true → IsAbstract s e) → (IsAbstract s e → b ≡ true) → prefix_if b ≡ entity_prefix s e
+    by : (o : Option Entity) → slice_get s.entities e ≡ o → (b : Bool) → (b ≡ true → IsAbstract s e) → (IsAbstract s e → b ≡ true)
+        → prefix_if b ≡ entity_prefix s e
     by (Some x) at true to from = let (y, there, set) = to refl in ap prefix_if (sym set) ∙ sym (ap prefix_in there)
     by (Some x) at false to from = at_false x.is_abstract refl
       where
@@ -162,7 +175,8 @@ line-right s e known =
       words = words_of s e (places s e);
       is_front = prefix-right s e x at;
       is_named = (x, at, sym (ap name_in at));
-      words_are = zip-each (IsPlaceWord s e) (word_of s e) (places s e) (λ p among. let (a, there) = declared s e p among in word-right s e p a there);
+      words_are = zip-each (IsPlaceWord s e) (word_of s e) (places s e)
+          (λ p among. let (a, there) = declared s e p among in word-right s e p a there);
       line_is = refl;
     }
 
@@ -170,7 +184,8 @@ line-right s e known =
 pub text-right : (s : Schema) → IsSchemaText s (schema_text s)
 text-right s = record {
   lines = map (entity_line s) (range_with_len 0 (length s.entities));
-  lines_are = zip-each (IsEntityLine s) (entity_line s) (range_with_len 0 (length s.entities)) (λ e among. line-right s e (let below = below-range 0 (length s.entities) e among in omega (arith, below)));
+  lines_are = zip-each (IsEntityLine s) (entity_line s) (range_with_len 0 (length s.entities))
+      (λ e among. line-right s e (let below = below-range 0 (length s.entities) e among in omega (arith, below)));
   text_is = refl;
 }
 
@@ -180,7 +195,8 @@ pub joined-append : (b : Bool) (words more : List (List ℕ)) → joined b (word
 joined-append true [] more = refl
 joined-append false [] more = refl
 joined-append true (word ∷ words) more = with_commas-append (word ∷ words) more
-joined-append false (word ∷ words) more = ap (λ zs. word ++ zs) (with_commas-append words more) ∙ sym (append_assoc word (with_commas words) (with_commas more))
+joined-append false (word ∷ words) more = ap (λ zs. word ++ zs) (with_commas-append words more)
+    ∙ sym (append_assoc word (with_commas words) (with_commas more))
 
 pub some-append : (b : Bool) (words more : List (List ℕ)) → are_some b (words ++ more) ≡ are_some (are_some b words) more
 some-append b [] more = refl
@@ -203,32 +219,41 @@ some-words (word ∷ words) x rest is b = refl
 -- ---- words of places
 
 pub places-split : (e k n more : ℕ) → places_from e k (n + more) ≡ places_from e k n ++ places_from e (k + n) more
-places-split e k zero more = let none : zero + more ≡ more = omega arith in let same : k ≡ k + zero = omega arith in ap (places_from e k) none ∙ ap (λ i. places_from e i more) same
+places-split e k zero more = let none : zero + more ≡ more = omega arith in let same : k ≡ k + zero = omega arith in
+    ap (places_from e k) none ∙ ap (λ i. places_from e i more) same
 places-split e k (suc n) more =
     let next : suc n + more ≡ suc (n + more) = omega arith in
     let same : (k + 1) + n ≡ k + suc n = omega arith in
-    ap (places_from e k) next ∙ ap (λ ps. record { entity = e; index = k } ∷ ps) (places-split e (k + 1) n more ∙ ap (λ i. places_from e (k + 1) n ++ places_from e i more) same)
+    ap (places_from e k) next ∙ ap (λ ps. record { entity = e; index = k } ∷ ps)
+    (places-split e (k + 1) n more ∙ ap (λ i. places_from e (k + 1) n ++ places_from e i more) same)
 
 pub words-more : (s : Schema) (e : ℕ) (some more : List Place) → words_of s e (some ++ more) ≡ words_of s e some ++ words_of s e more
 words-more s e some more = map-append (word_of s e) some more
 
-pub next-words : (s : Schema) (e owner k : ℕ) → words_of s e (places_from owner 0 (k + 1)) ≡ words_of s e (places_from owner 0 k) ++ word_of s e (record { entity = owner; index = k }) ∷ []
+pub next-words : (s : Schema) (e owner k : ℕ) → words_of s e (places_from owner 0 (k + 1)) ≡ words_of s e (places_from owner 0 k)
+    ++ word_of s e (record { entity = owner; index = k }) ∷ []
 next-words s e owner k =
     let zero_ : 0 + k ≡ k = omega arith in
-    ap (words_of s e) (places-more owner 0 k ∙ ap (λ i. places_from owner 0 k ++ record { entity = owner; index = i } ∷ []) zero_) ∙ words-more s e (places_from owner 0 k) (record { entity = owner; index = k } ∷ [])
+    ap (words_of s e) (places-more owner 0 k ∙ ap (λ i. places_from owner 0 k ++ record { entity = owner; index = i } ∷ []) zero_)
+    ∙ words-more s e (places_from owner 0 k) (record { entity = owner; index = k } ∷ [])
 
 -- the words of an entity's own places, by the first of them
-pub own-split : (s : Schema) (e owner k : ℕ) → k ≤ length (attributes_of s owner) → words_of s e (own_places s owner) ≡ words_of s e (places_from owner 0 k) ++ words_of s e (places_from owner (0 + k) (length (attributes_of s owner) - k))
+pub own-split : (s : Schema) (e owner k : ℕ) → k ≤ length (attributes_of s owner)
+    → words_of s e (own_places s owner) ≡ words_of s e (places_from owner 0 k)
+    ++ words_of s e (places_from owner (0 + k) (length (attributes_of s owner) - k))
 own-split s e owner k within =
     let size : length (attributes_of s owner) ≡ k + (length (attributes_of s owner) - k) = omega (arith, within) in
-    ap (words_of s e) (sym (own-places-are s owner) ∙ ap (places_from owner 0) size ∙ places-split owner 0 k (length (attributes_of s owner) - k)) ∙ words-more s e (places_from owner 0 k) (places_from owner (0 + k) (length (attributes_of s owner) - k))
+    ap (words_of s e) (sym (own-places-are s owner) ∙ ap (places_from owner 0) size
+    ∙ places-split owner 0 k (length (attributes_of s owner) - k))
+    ∙ words-more s e (places_from owner 0 k) (places_from owner (0 + k) (length (attributes_of s owner) - k))
 
 -- words that fit are the ones
 pub words-are : (s : Schema) (e : ℕ) (ps : List Place) (words : List (List ℕ)) → AllZip (IsPlaceWord s e) ps words → words ≡ words_of s e ps
 words-are s e [] [] all = refl
 words-are s e [] (word ∷ words) all = absurd all
 words-are s e (p ∷ ps) [] all = absurd all
-words-are s e (p ∷ ps) (word ∷ words) all = ap (λ z. z ∷ words) (word-is s e p word all.0) ∙ ap (λ zs. word_of s e p ∷ zs) (words-are s e ps words all.1)
+words-are s e (p ∷ ps) (word ∷ words) all = ap (λ z. z ∷ words) (word-is s e p word all.0)
+    ∙ ap (λ zs. word_of s e p ∷ zs) (words-are s e ps words all.1)
 
 pub drop-comma : (words : List (List ℕ)) → drop 1 (with_commas words) ≡ joined false words
 drop-comma [] = refl
@@ -237,36 +262,51 @@ drop-comma (word ∷ words) = refl
 -- ---- words that are put
 
 module _ (old now new : Option (List ℕ)) (w : List ℕ) (b : Bool) (words more : List (List ℕ)) where
-  pub all-joined : (v u : List ℕ) → AppendsAllBut old now (w ++ joined b words) v → AppendsAllBut now new (v ++ joined (are_some b words) more) u → AppendsAllBut old new (w ++ joined b (words ++ more)) u
+  pub all-joined : (v u : List ℕ) → AppendsAllBut old now (w ++ joined b words) v
+      → AppendsAllBut now new (v ++ joined (are_some b words) more) u → AppendsAllBut old new (w ++ joined b (words ++ more)) u
   all-joined v u first_ second_ =
       let P : List ℕ → Type 0 = λ z. AppendsAllBut old new (w ++ z) u in
-      subst P (sym (joined-append b words more)) (then_all old now new w (joined b words) v (joined (are_some b words) more) u first_ second_)
+      subst P (sym (joined-append b words more)) (then_all old now new w (joined b words) v (joined (are_some b words) more) u first_
+      second_)
 
-  pub part-joined : (v : List ℕ) → AppendsAllBut old now (w ++ joined b words) v → AppendsPartOf now new (v ++ joined (are_some b words) more) → AppendsPartOf old new (w ++ joined b (words ++ more))
+  pub part-joined : (v : List ℕ) → AppendsAllBut old now (w ++ joined b words) v
+      → AppendsPartOf now new (v ++ joined (are_some b words) more) → AppendsPartOf old new (w ++ joined b (words ++ more))
   part-joined v first_ second_ =
       let P : List ℕ → Type 0 = λ z. AppendsPartOf old new (w ++ z) in
-      subst P (sym (joined-append b words more)) (then_part old now new w (joined b words) v (joined (are_some b words) more) first_ second_)
+      subst P (sym (joined-append b words more)) (then_part old now new w (joined b words) v (joined (are_some b words) more) first_
+      second_)
 
 -- a part of some words is one of more
-pub part-more : (old new : Option (List ℕ)) (w : List ℕ) (b : Bool) (words more : List (List ℕ)) → AppendsPartOf old new (w ++ joined b words) → AppendsPartOf old new (w ++ joined b (words ++ more))
+pub part-more : (old new : Option (List ℕ)) (w : List ℕ) (b : Bool) (words more : List (List ℕ))
+    → AppendsPartOf old new (w ++ joined b words) → AppendsPartOf old new (w ++ joined b (words ++ more))
 part-more old new w b words more part_ =
     let P : List ℕ → Type 0 = λ z. AppendsPartOf old new (w ++ z) in
     subst P (sym (joined-append b words more)) (part_more old new w (joined b words) (joined (are_some b words) more) part_)
 
 -- ---- owner by owner
 
-owner-words : {X : Type 0} (s : Schema) (e : ℕ) (number : X → ℕ) (xs ys : List X) → words_of s e (flat_map (own_places s) (map number (xs ++ ys))) ≡ words_of s e (flat_map (own_places s) (map number xs)) ++ words_of s e (flat_map (own_places s) (map number ys))
+owner-words : {X : Type 0} (s : Schema) (e : ℕ) (number : X → ℕ) (xs ys : List X)
+    → words_of s e (flat_map (own_places s) (map number (xs ++ ys))) ≡ words_of s e (flat_map (own_places s) (map number xs))
+    ++ words_of s e (flat_map (own_places s) (map number ys))
 owner-words s e number xs ys =
-    ap (words_of s e) (ap (flat_map (own_places s)) (map-append number xs ys) ∙ flat_map-append (own_places s) (map number xs) (map number ys)) ∙ words-more s e (flat_map (own_places s) (map number xs)) (flat_map (own_places s) (map number ys))
+    ap (words_of s e) (ap (flat_map (own_places s)) (map-append number xs ys)
+    ∙ flat_map-append (own_places s) (map number xs) (map number ys))
+    ∙ words-more s e (flat_map (own_places s) (map number xs)) (flat_map (own_places s) (map number ys))
 
 pub owners-next : {X : Type 0} (s : Schema) (e : ℕ) (number : X → ℕ) (xs : List X) (k : ℕ) (d : X) → k < length xs
-    → words_of s e (flat_map (own_places s) (map number (take (k + 1) xs))) ≡ words_of s e (flat_map (own_places s) (map number (take k xs))) ++ words_of s e (own_places s (number (get_or xs k d)))
+    → words_of s e (flat_map (own_places s) (map number (take (k + 1) xs))) ≡ words_of s e
+    (flat_map (own_places s) (map number (take k xs))) ++ words_of s e (own_places s (number (get_or xs k d)))
 owners-next {X} s e number xs k d below =
-    ap (λ (ys : List X). words_of s e (flat_map (own_places s) (map number ys))) (take_more xs k d below) ∙ owner-words s e number (take k xs) (get_or xs k d ∷ [])
-    ∙ ap (λ ps. words_of s e (flat_map (own_places s) (map number (take k xs))) ++ words_of s e ps) (append-nil (own_places s (number (get_or xs k d))))
+    ap (λ (ys : List X). words_of s e (flat_map (own_places s) (map number ys))) (take_more xs k d below)
+    ∙ owner-words s e number (take k xs) (get_or xs k d ∷ [])
+    ∙ ap (λ ps. words_of s e (flat_map (own_places s) (map number (take k xs))) ++ words_of s e ps)
+    (append-nil (own_places s (number (get_or xs k d))))
 
-pub owners-split : {X : Type 0} (s : Schema) (e : ℕ) (number : X → ℕ) (xs : List X) (k : ℕ) → words_of s e (flat_map (own_places s) (map number xs)) ≡ words_of s e (flat_map (own_places s) (map number (take k xs))) ++ words_of s e (flat_map (own_places s) (map number (drop k xs)))
-owners-split {X} s e number xs k = ap (λ (ys : List X). words_of s e (flat_map (own_places s) (map number ys))) (sym (take-append-drop k xs)) ∙ owner-words s e number (take k xs) (drop k xs)
+pub owners-split : {X : Type 0} (s : Schema) (e : ℕ) (number : X → ℕ) (xs : List X) (k : ℕ)
+    → words_of s e (flat_map (own_places s) (map number xs)) ≡ words_of s e (flat_map (own_places s) (map number (take k xs)))
+    ++ words_of s e (flat_map (own_places s) (map number (drop k xs)))
+owners-split {X} s e number xs k = ap (λ (ys : List X). words_of s e (flat_map (own_places s) (map number ys)))
+    (sym (take-append-drop k xs)) ∙ owner-words s e number (take k xs) (drop k xs)
 
 pub word-text : (b : Bool) (comma word other : List ℕ) → comma ≡ comma_if b → word ≡ other → comma ++ word ≡ joined b (other ∷ [])
 word-text b comma word other is same = ap (λ z. z ++ word) is ∙ ap (λ z. comma_if b ++ z) same ∙ one-joined b other
@@ -281,17 +321,22 @@ module _ (old now new : Option (List ℕ)) (w v : List ℕ) (b : Bool) (s : Sche
   next = word_of s e (record { entity = owner; index = k }) ∷ []
 
   module _ (puts : AppendsAllBut old now (w ++ joined b so_far) v) (after : Bool) (stand : after ≡ are_some b so_far) where
-    pub own-next : (u : List ℕ) → AppendsAllBut now new (v ++ joined after next) u → AppendsAllBut old new (w ++ joined b (words_of s e (places_from owner 0 (k + 1)))) u
+    pub own-next : (u : List ℕ) → AppendsAllBut now new (v ++ joined after next) u
+        → AppendsAllBut old new (w ++ joined b (words_of s e (places_from owner 0 (k + 1)))) u
     own-next u one =
         let P : List (List ℕ) → Type 0 = λ words. AppendsAllBut old new (w ++ joined b words) u in
-        subst P (sym (next-words s e owner k)) (all-joined old now new w b so_far next v u puts (subst (λ some. AppendsAllBut now new (v ++ joined some next) u) stand one))
+        subst P (sym (next-words s e owner k)) (all-joined old now new w b so_far next v u puts
+        (subst (λ some. AppendsAllBut now new (v ++ joined some next) u) stand one))
 
-    pub own-part : k < length (attributes_of s owner) → AppendsPartOf now new (v ++ joined after next) → AppendsPartOf old new (w ++ joined b (words_of s e (own_places s owner)))
+    pub own-part : k < length (attributes_of s owner) → AppendsPartOf now new (v ++ joined after next)
+        → AppendsPartOf old new (w ++ joined b (words_of s e (own_places s owner)))
     own-part below one =
         let P : List (List ℕ) → Type 0 = λ words. AppendsPartOf old new (w ++ joined b words) in
         let rest = words_of s e (places_from owner (0 + (k + 1)) (length (attributes_of s owner) - (k + 1))) in
-        let part = subst P (sym (next-words s e owner k)) (part-joined old now new w b so_far next v puts (subst (λ some. AppendsPartOf now new (v ++ joined some next)) stand one)) in
-        subst P (sym (own-split s e owner (k + 1) (omega (arith, below)))) (part-more old new w b (words_of s e (places_from owner 0 (k + 1))) rest part)
+        let part = subst P (sym (next-words s e owner k)) (part-joined old now new w b so_far next v puts
+        (subst (λ some. AppendsPartOf now new (v ++ joined some next)) stand one)) in
+        subst P (sym (own-split s e owner (k + 1) (omega (arith, below))))
+        (part-more old new w b (words_of s e (places_from owner 0 (k + 1))) rest part)
 
 -- a word more stands there
 pub some-next : (b : Bool) (s : Schema) (e owner k : ℕ) → true ≡ are_some b (words_of s e (places_from owner 0 (k + 1)))
@@ -301,7 +346,8 @@ some-next b s e owner k = more (words_of s e (places_from owner 0 k)) ∙ ap (ar
     more [] = refl
     more (word ∷ words) = refl
 
-module _ {X : Type 0} (old now new : Option (List ℕ)) (w v : List ℕ) (s : Schema) (e : ℕ) (number : X → ℕ) (xs : List X) (k : ℕ) (d : X) where
+module _ {X : Type 0} (old now new : Option (List ℕ)) (w v : List ℕ) (s : Schema) (e : ℕ) (number : X → ℕ) (xs : List X) (k : ℕ)
+    (d : X) where
   abbrev before : List (List ℕ)
   before = words_of s e (flat_map (own_places s) (map number (take k xs)))
 
@@ -311,31 +357,41 @@ module _ {X : Type 0} (old now new : Option (List ℕ)) (w v : List ℕ) (s : Sc
   abbrev owned : List (List ℕ)
   owned = words_of s e (own_places s (number (get_or xs k d)))
 
-  module _ (below : k < length xs) (puts : AppendsAllBut old now (w ++ joined false before) v) (some : Bool) (stand : some ≡ are_some false before) where
+  module _ (below : k < length xs) (puts : AppendsAllBut old now (w ++ joined false before) v) (some : Bool)
+      (stand : some ≡ are_some false before) where
     pub owner-next : (u : List ℕ) → AppendsAllBut now new (v ++ joined some owned) u → AppendsAllBut old new (w ++ joined false through) u
     owner-next u one =
         let P : List (List ℕ) → Type 0 = λ words. AppendsAllBut old new (w ++ joined false words) u in
-        subst P (sym (owners-next s e number xs k d below)) (all-joined old now new w false before owned v u puts (subst (λ b. AppendsAllBut now new (v ++ joined b owned) u) stand one))
+        subst P (sym (owners-next s e number xs k d below))
+        (all-joined old now new w false before owned v u puts (subst (λ b. AppendsAllBut now new (v ++ joined b owned) u) stand one))
 
     pub owner-some : (after : Bool) → after ≡ are_some some owned → after ≡ are_some false through
-    owner-some after is = is ∙ ap (λ b. are_some b owned) stand ∙ sym (some-append false before owned) ∙ ap (are_some false) (sym (owners-next s e number xs k d below))
+    owner-some after is = is ∙ ap (λ b. are_some b owned) stand ∙ sym (some-append false before owned)
+        ∙ ap (are_some false) (sym (owners-next s e number xs k d below))
 
-    pub owner-part : AppendsPartOf now new (v ++ joined some owned) → AppendsPartOf old new (w ++ joined false (words_of s e (flat_map (own_places s) (map number xs))))
+    pub owner-part : AppendsPartOf now new (v ++ joined some owned)
+        → AppendsPartOf old new (w ++ joined false (words_of s e (flat_map (own_places s) (map number xs))))
     owner-part one =
         let P : List (List ℕ) → Type 0 = λ words. AppendsPartOf old new (w ++ joined false words) in
-        let part = subst P (sym (owners-next s e number xs k d below)) (part-joined old now new w false before owned v puts (subst (λ b. AppendsPartOf now new (v ++ joined b owned)) stand one)) in
-        subst P (sym (owners-split s e number xs (k + 1))) (part-more old new w false through (words_of s e (flat_map (own_places s) (map number (drop (k + 1) xs)))) part)
+        let part = subst P (sym (owners-next s e number xs k d below))
+        (part-joined old now new w false before owned v puts (subst (λ b. AppendsPartOf now new (v ++ joined b owned)) stand one)) in
+        subst P (sym (owners-split s e number xs (k + 1)))
+        (part-more old new w false through (words_of s e (flat_map (own_places s) (map number (drop (k + 1) xs)))) part)
 
 -- the line of an entity, part by part
-pub line-text : (prefix name words : List ℕ) → (prefix ++ name) ++ (codes "(" ++ (words ++ codes ")\n")) ≡ prefix ++ (name ++ ((codes "(" ++ (words ++ codes ")")) ++ codes "\n"))
+pub line-text : (prefix name words : List ℕ) → (prefix ++ name) ++ (codes "(" ++ (words ++ codes ")\n")) ≡ prefix
+    ++ (name ++ ((codes "(" ++ (words ++ codes ")")) ++ codes "\n"))
 line-text prefix name words =
-    append_assoc prefix name (codes "(" ++ (words ++ codes ")\n")) ∙ ap (λ zs. prefix ++ (name ++ (codes "(" ++ zs))) (sym (append_assoc words (codes ")") (codes "\n")))
+    append_assoc prefix name (codes "(" ++ (words ++ codes ")\n"))
+    ∙ ap (λ zs. prefix ++ (name ++ (codes "(" ++ zs))) (sym (append_assoc words (codes ")") (codes "\n")))
 
 -- the text of an owner has its words
-pub own-words : (s : Schema) (texts : List (Option (std.Vec ℕ Global))) (e owner : ℕ) (found : Option (std.Vec ℕ Global)) (text : std.Vec ℕ Global) → AreOwnTexts s texts → owner < length s.entities → found ≡ get_or texts owner found → found ≡ Some text
+pub own-words : (s : Schema) (texts : List (Option (std.Vec ℕ Global))) (e owner : ℕ) (found : Option (std.Vec ℕ Global))
+    (text : std.Vec ℕ Global) → AreOwnTexts s texts → owner < length s.entities → found ≡ get_or texts owner found → found ≡ Some text
     → text.items ≡ with_commas (words_of s e (own_places s owner))
 own-words s texts e owner found text are known at is =
-    let there : slice_get texts owner ≡ Some (Some text) = slice_get_read texts (length texts) owner found refl (omega (arith, are.size, known)) at ∙ ap Some is in
+    let there : slice_get texts owner ≡ Some (Some text) =
+    slice_get_read texts (length texts) owner found refl (omega (arith, are.size, known)) at ∙ ap Some is in
     let (names, all, text_is) = are.each owner (Some text) there in
     text_is ∙ ap with_commas (words-are s e (own_places s owner) names (plain-words s e (own_places s owner) names all))
 

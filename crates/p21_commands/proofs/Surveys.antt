@@ -23,7 +23,6 @@ use Rattle.p21_commands.specs.declared.fault.CommandFault.{CommandFault}
 use Rattle.p21_commands.specs.declared.fault.CommandFault.TheVariants as command
 use Rattle.p21_commands.proofs.Reporting.{ends-unanswered, refuses-weaker}
 use Rattle.p21_spec_schema.specs.Schema.{Schema}
-use Rattle.p21_stream.proofs.SurveyEnding.{read-last}
 use Rattle.p21_stream.specs.Survey.{EndsByRead, ListsAtMost, SurveysInput, asked_for}
 use Rattle.p21_stream.specs.declared.listing.Refusals.{Refusals}
 use Rattle.p21_stream.specs.declared.listing.Surveyed.{Surveyed}
@@ -38,13 +37,20 @@ use Rattle.p21_stream_statements.specs.declared.refusal.Refusal.{Refusal}
 -- ---- what is found
 
 -- under the usual limits, of a variant
-surveys-as : (s : Schema) (limits : Limits) (old new : Option (List ℕ)) (found as_ : Surveyed) → limits ≡ usual → found ≡ as_ → SurveysInput s limits old new found → SurveysInput s usual old new as_
-surveys-as s limits old new found as_ are is surveys = subst (λ (l : Limits). SurveysInput s l old new as_) are (subst (λ (f : Surveyed). SurveysInput s limits old new f) is surveys)
+surveys-as : (s : Schema) (limits : Limits) (old new : Option (List ℕ)) (found as_ : Surveyed) → limits ≡ usual → found ≡ as_
+    → SurveysInput s limits old new found → SurveysInput s usual old new as_
+surveys-as s limits old new found as_ are is surveys =
+    subst (λ (l : Limits). SurveysInput s l old new as_) are (subst (λ (f : Surveyed). SurveysInput s limits old new f) is surveys)
 
-pub accepted-under : (schema old new : Option (List ℕ)) (s : Schema) (limits : Limits) (found : Surveyed) (output : Output) → DeclaresRead schema s → limits ≡ usual → found ≡ surveyed.Accepted output → SurveysInput s limits old new found → IsAcceptedUnder schema old new output
-accepted-under schema old new s limits found output declares are is surveys = record { declared = s; declares = declares; accepted = surveys-as s limits old new found (surveyed.Accepted output) are is surveys }
+pub accepted-under : (schema old new : Option (List ℕ)) (s : Schema) (limits : Limits) (found : Surveyed) (output : Output)
+    → DeclaresRead schema s → limits ≡ usual → found ≡ surveyed.Accepted output → SurveysInput s limits old new found
+    → IsAcceptedUnder schema old new output
+accepted-under schema old new s limits found output declares are is surveys =
+    record { declared = s; declares = declares; accepted = surveys-as s limits old new found (surveyed.Accepted output) are is surveys }
 
-surveyed-under : (most : ℕ) (schema old new : Option (List ℕ)) (s : Schema) (limits : Limits) (found : Surveyed) (refusals : Refusals) (text : List ℕ) → DeclaresRead schema s → limits ≡ usual → found ≡ surveyed.Refused refusals → SurveysInput s limits old new found → ListsAtMost (asked_for most) found → text ≡ listed_text refusals → IsSurveyed most schema old new refusals text
+surveyed-under : (most : ℕ) (schema old new : Option (List ℕ)) (s : Schema) (limits : Limits) (found : Surveyed) (refusals : Refusals)
+    (text : List ℕ) → DeclaresRead schema s → limits ≡ usual → found ≡ surveyed.Refused refusals → SurveysInput s limits old new found
+    → ListsAtMost (asked_for most) found → text ≡ listed_text refusals → IsSurveyed most schema old new refusals text
 surveyed-under most schema old new s limits found refusals text declares are is surveys counted text_is = record {
   declared = s;
   declares = declares;
@@ -67,29 +73,46 @@ none-read (refusal ∷ list) (other, none) some = elim (or_cases (is_read refusa
 ]
 
 -- where a list has one, it ends with it
-ends-by-read : (s : Schema) (limits : Limits) (old new : Option (List ℕ)) (refusals : Refusals) → SurveysInput s limits old new (surveyed.Refused refusals) → has_read_fault refusals.list.items ≡ true → EndsByRead (surveyed.Refused refusals)
-ends-by-read s limits old new refusals surveys some = elim (read-last s limits old new refusals surveys) [ inl ends ↦ ends | inr none ↦ absurd (none-read refusals.list.items none some) ]
+ends-by-read : (s : Schema) (limits : Limits) (old new : Option (List ℕ)) (refusals : Refusals)
+    → SurveysInput s limits old new (surveyed.Refused refusals) → has_read_fault refusals.list.items ≡ true
+    → EndsByRead (surveyed.Refused refusals)
+ends-by-read s limits old new refusals (first, lists) some =
+    elim lists.read_is_last [ inl ends ↦ ends | inr none ↦ absurd (none-read refusals.list.items none some) ]
 
 -- where it ends with one, it has it
 none-ends : (refusals : Refusals) → has_read_fault refusals.list.items ≡ false → EndsByRead (surveyed.Refused refusals) → ⊥
 none-ends refusals none (before, refusal, list_is, extent_is, fault_is) =
     let last : (is_read refusal.fault || false) ≡ true = ap (λ (fault : Fault). is_read fault || false) fault_is in
-    let some : has_read_fault refusals.list.items ≡ true = ap has_read_fault list_is ∙ list_any-append (λ (r : Refusal). is_read r.fault) before (refusal ∷ []) ∙ or_right (has_read_fault before) (is_read refusal.fault || false) last in
+    let some : has_read_fault refusals.list.items ≡ true = ap has_read_fault list_is
+    ∙ list_any-append (λ (r : Refusal). is_read r.fault) before (refusal ∷ [])
+    ∙ or_right (has_read_fault before) (is_read refusal.fault || false) last in
     cc
 
 -- ---- what is listed
 
-module _ (s : Schema) (limits : Limits) (old new : Option (List ℕ)) (found : Surveyed) (refusals : Refusals) (is : found ≡ surveyed.Refused refusals) (surveys : SurveysInput s limits old new found) where
+module _ (s : Schema) (limits : Limits) (old new : Option (List ℕ)) (found : Surveyed) (refusals : Refusals)
+    (is : found ≡ surveyed.Refused refusals) (surveys : SurveysInput s limits old new found) where
   ends : has_read_fault refusals.list.items ≡ true → EndsByRead (surveyed.Refused refusals)
   ends some = ends-by-read s limits old new refusals (subst (SurveysInput s limits old new) is surveys) some
 
-  pub answers-listed : (most : ℕ) (schema : Option (List ℕ)) (answer : Answer) → DeclaresRead schema s → limits ≡ usual → ListsAtMost (asked_for most) found → Lists refusals answer → Answers most schema old new answer
+  pub answers-listed : (most : ℕ) (schema : Option (List ℕ)) (answer : Answer) → DeclaresRead schema s → limits ≡ usual
+      → ListsAtMost (asked_for most) found → Lists refusals answer → Answers most schema old new answer
   answers-listed most schema (Accepted line) declares are counted lists = absurd lists
-  answers-listed most schema (Refused text) declares are counted lists = (refusals, surveyed-under most schema old new s limits found refusals (string_bytes text) declares are is surveys counted lists.0, lists.1)
-  answers-listed most schema (Unread text) declares are counted lists = (refusals, surveyed-under most schema old new s limits found refusals (string_bytes text) declares are is surveys counted lists.0, ends lists.1)
+  answers-listed most schema (Refused text) declares are counted lists = (
+    refusals,
+    surveyed-under most schema old new s limits found refusals (string_bytes text) declares are is surveys counted lists.0,
+    lists.1,
+  )
+  answers-listed most schema (Unread text) declares are counted lists = (
+    refusals,
+    surveyed-under most schema old new s limits found refusals (string_bytes text) declares are is surveys counted lists.0,
+    ends lists.1,
+  )
 
   -- which calls of the reader failed
-  pub listed-read : (file : Failures) (answer : Answer) → Lists refusals answer → (file.after ≡ file.before) ⊎ ((file.after ≡ one_call_more file.before) × EndsByRead found) → (EndsByRead found → file.after ≡ one_call_more file.before) → IsReadBy file answer
+  pub listed-read : (file : Failures) (answer : Answer) → Lists refusals answer → (file.after ≡ file.before)
+      ⊎ ((file.after ≡ one_call_more file.before) × EndsByRead found) → (EndsByRead found → file.after ≡ one_call_more file.before)
+      → IsReadBy file answer
   listed-read file (Accepted line) lists calls more = absurd lists
   listed-read file (Refused text) lists (inl same) more = (same, tt)
   listed-read file (Refused text) lists (inr failed) more = absurd (none-ends refusals lists.1 (subst EndsByRead is failed.1))
@@ -99,7 +122,8 @@ module _ (s : Schema) (limits : Limits) (old new : Option (List ℕ)) (found : S
 
 module _ (most : ℕ) (streams : Streams) (status : ℕ) where
   -- where no read of the file failed, it ends as others do
-  pub listing-ends : Ends (OfRead IsChecked streams) (OfRead (IsListedUnder most) streams) (streams.schema.failures ∷ []) streams.output streams.faults status → NoneFailed (streams.file.failures ∷ []) → EndsListing most streams status
+  pub listing-ends : Ends (OfRead IsChecked streams) (OfRead (IsListedUnder most) streams) (streams.schema.failures ∷ []) streams.output
+      streams.faults status → NoneFailed (streams.file.failures ∷ []) → EndsListing most streams status
   listing-ends ends none = record {
     status = ends.status;
     answered = ends.answered;
@@ -130,19 +154,24 @@ memory-fails faults status (inl r) = r.0
 memory-fails faults status (inr r) = r.0
 
 -- nothing was written to the output
-module _ (most : ℕ) (schema file faults : Stream) {W : Type 0} (bytes : W → Option (List ℕ)) (writer : Watch W) (unfailed : NoneFailed (schema.failures ∷ [])) where
+module _ (most : ℕ) (schema file faults : Stream) {W : Type 0} (bytes : W → Option (List ℕ)) (writer : Watch W)
+    (unfailed : NoneFailed (schema.failures ∷ [])) where
   abbrev pub unwritten_streams : Streams
   unwritten_streams = record { schema = schema; file = file; output = stream_of bytes writer writer; faults = faults }
 
-  pub refused-listing : (text : String Global) (status : ℕ) → IsListed most schema.before file.before file.behind (string_bytes text) → NoneFailed (file.failures ∷ []) → Reports (command.Refused text) status faults → EndsListing most unwritten_streams status
+  pub refused-listing : (text : String Global) (status : ℕ) → IsListed most schema.before file.before file.behind (string_bytes text)
+      → NoneFailed (file.failures ∷ []) → Reports (command.Refused text) status faults → EndsListing most unwritten_streams status
   refused-listing text status is none r =
       listing-ends most unwritten_streams status
-      (ends-unanswered (OfRead IsChecked unwritten_streams) (OfRead (IsListedUnder most) unwritten_streams) (schema.failures ∷ []) bytes writer faults (command.Refused text) status (inr is) (unfailed, tt) r) none
+      (ends-unanswered (OfRead IsChecked unwritten_streams) (OfRead (IsListedUnder most) unwritten_streams) (schema.failures ∷ []) bytes
+      writer faults (command.Refused text) status (inr is) (unfailed, tt) r) none
 
-  pub memory-listing : (status : ℕ) → IsLeftBy file.failures → Reports command.NoMemory status faults → EndsListing most unwritten_streams status
+  pub memory-listing : (status : ℕ) → IsLeftBy file.failures → Reports command.NoMemory status faults
+      → EndsListing most unwritten_streams status
   memory-listing status (inl none) r =
       listing-ends most unwritten_streams status
-      (ends-unanswered (OfRead IsChecked unwritten_streams) (OfRead (IsListedUnder most) unwritten_streams) (schema.failures ∷ []) bytes writer faults command.NoMemory status tt (unfailed, tt) r) none
+      (ends-unanswered (OfRead IsChecked unwritten_streams) (OfRead (IsListedUnder most) unwritten_streams) (schema.failures ∷ []) bytes
+      writer faults command.NoMemory status tt (unfailed, tt) r) none
   memory-listing status (inr one) r = listing-unread most unwritten_streams status (memory-fails faults status r) (record {
     text = fault_line command.NoMemory;
     is_text = inr refl;
@@ -154,10 +183,16 @@ module _ (most : ℕ) (schema file faults : Stream) {W : Type 0} (bytes : W → 
 
 -- the text of a file of which a read failed
 pub text-gets : (result : Result (Unit {0}) CommandFault) (faults : Stream) (text bytes : List ℕ) → bytes ≡ text
-    → OnOk result (Appends faults.before faults.behind bytes) → OnErr result (AppendsPartOf faults.before faults.behind bytes) → OnOk result (faults.failures.after ≡ faults.failures.before) → OnErr result (faults.failures.after ≡ one_call_more faults.failures.before) → Gets text faults
-text-gets (Ok done) faults text bytes is ok part none one = inl (subst (λ (bs : List ℕ). Appends faults.before faults.behind bs) is ok, (none, tt))
-text-gets (Err fault) faults text bytes is ok part none one = inr (subst (λ (bs : List ℕ). AppendsPartOf faults.before faults.behind bs) is part, inl (one, tt))
+    → OnOk result (Appends faults.before faults.behind bytes) → OnErr result (AppendsPartOf faults.before faults.behind bytes)
+    → OnOk result (faults.failures.after ≡ faults.failures.before)
+    → OnErr result (faults.failures.after ≡ one_call_more faults.failures.before) → Gets text faults
+text-gets (Ok done) faults text bytes is ok part none one =
+    inl (subst (λ (bs : List ℕ). Appends faults.before faults.behind bs) is ok, (none, tt))
+text-gets (Err fault) faults text bytes is ok part none one =
+    inr (subst (λ (bs : List ℕ). AppendsPartOf faults.before faults.behind bs) is part, inl (one, tt))
 
 -- the schema is refused, and the file isn't read
-pub schema-unlisted : (most : ℕ) (schema file : Option (List ℕ)) (fault : CommandFault) → RefusesRead schema fault → RefusesWith (IsListedUnder most schema file file) fault
-schema-unlisted most schema file fault refuses = refuses-weaker (IsSchemaRefused schema) (IsListedUnder most schema file file) (λ line is. inl (is, Keeps-refl file)) fault refuses
+pub schema-unlisted : (most : ℕ) (schema file : Option (List ℕ)) (fault : CommandFault) → RefusesRead schema fault
+    → RefusesWith (IsListedUnder most schema file file) fault
+schema-unlisted most schema file fault refuses = refuses-weaker (IsSchemaRefused schema) (IsListedUnder most schema file file)
+    (λ line is. inl (is, Keeps-refl file)) fault refuses

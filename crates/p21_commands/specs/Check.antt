@@ -5,7 +5,8 @@ use Rattle.p21_stream_output.specs.Output.{Output, output_text}
 
 -- `accepted, instances N, canonical bytes M` and a line feed
 abbrev pub check_answer_line : ℕ → ℕ → List ℕ
-check_answer_line instances bytes = codes "accepted, instances " ++ (decimal instances ++ (codes ", canonical bytes " ++ (decimal bytes ++ codes "\n")))
+check_answer_line instances bytes = codes "accepted, instances "
+    ++ (decimal instances ++ (codes ", canonical bytes " ++ (decimal bytes ++ codes "\n")))
 
 -- the line counts the instances of the file that is accepted, and the bytes of its canonical file
 pub record IsChecked (schema file_old file_new : Option (List ℕ)) (line : List ℕ) : Type 0 where

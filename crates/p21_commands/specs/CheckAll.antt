@@ -17,14 +17,14 @@ use Rattle.p21_commands.specs.declared.check_all.Answer.TheVariants.{Accepted, R
 use Rattle.p21_commands.specs.declared.fault.CommandFault.TheVariants as command
 use Rattle.p21_spec_schema.specs.Schema.{Schema}
 use Rattle.p21_stream.specs.Survey.{EndsByRead, ListsAtMost, SurveysInput, asked_for}
-use Rattle.p21_stream.specs.declared.listing.Extent.{Extent}
-use Rattle.p21_stream.specs.declared.listing.Extent.TheVariants.{Most, Part, Whole}
 use Rattle.p21_stream.specs.declared.listing.Refusals.{Refusals}
 use Rattle.p21_stream.specs.declared.listing.Surveyed.TheVariants as found
 use Rattle.p21_stream_io.specs.Transfer.{AppendsPartOf}
 use Rattle.p21_stream_statements.specs.declared.fault.Fault.{Fault}
 use Rattle.p21_stream_statements.specs.declared.fault.Fault.TheVariants.{Read}
 use Rattle.p21_stream_statements.specs.declared.refusal.Refusal.{Refusal}
+use Rattle.p21_stream_survey.specs.declared.listed.Extent.{Extent}
+use Rattle.p21_stream_survey.specs.declared.listed.Extent.TheVariants.{Most, ReadTo, Whole}
 
 -- ---- the text
 
@@ -45,10 +45,10 @@ listed_line refusal = if is_read refusal.fault then fault_line command.Read else
 abbrev pub listed_count : List Refusal → ℕ
 listed_count list = count_by (λ (refusal : Refusal). not (is_read refusal.fault)) list
 
--- `refusals N`, what is said of the rest of the file, and a line feed
+-- `refusals N`, how far the file was read where a refusal ended the list, or that no more were looked for, and a line feed
 abbrev pub count_line : ℕ → Extent → List ℕ
 count_line count Whole = codes "refusals " ++ (decimal count ++ codes "\n")
-count_line count Part = codes "refusals " ++ (decimal count ++ codes ", the rest was not read\n")
+count_line count (ReadTo bytes) = codes "refusals " ++ (decimal count ++ (codes ", read " ++ (decimal bytes ++ codes " bytes\n")))
 count_line count Most = codes "refusals " ++ (decimal count ++ codes ", no more were looked for\n")
 
 -- a line for each refusal, in the order of the list, and the line that counts them
@@ -68,21 +68,25 @@ pub record IsSurveyed (most : ℕ) (schema file_old file_new : Option (List ℕ)
 
 -- the text is about the refusals that a survey finds of the file, none of which is a read that failed
 abbrev pub IsListed : ℕ → Option (List ℕ) → Option (List ℕ) → Option (List ℕ) → List ℕ → Type 0
-IsListed most schema file_old file_new text = (refusals : Refusals) × IsSurveyed most schema file_old file_new refusals text × (has_read_fault refusals.list.items ≡ false)
+IsListed most schema file_old file_new text = (refusals : Refusals) × IsSurveyed most schema file_old file_new refusals text
+    × (has_read_fault refusals.list.items ≡ false)
 
 -- the line is of the schema, and the file isn't read; or the text is about what a survey finds of the file
 abbrev pub IsListedUnder : ℕ → Option (List ℕ) → Option (List ℕ) → Option (List ℕ) → List ℕ → Type 0
-IsListedUnder most schema file_old file_new text = (IsSchemaRefused schema text × Keeps file_old file_new) ⊎ IsListed most schema file_old file_new text
+IsListedUnder most schema file_old file_new text = (IsSchemaRefused schema text × Keeps file_old file_new)
+    ⊎ IsListed most schema file_old file_new text
 
 -- the text is about the refusals that a survey finds of the file, of which the last is a read that failed
 abbrev pub IsUnread : ℕ → Option (List ℕ) → Option (List ℕ) → Option (List ℕ) → List ℕ → Type 0
-IsUnread most schema file_old file_new text = (refusals : Refusals) × IsSurveyed most schema file_old file_new refusals text × EndsByRead (found.Refused refusals)
+IsUnread most schema file_old file_new text = (refusals : Refusals) × IsSurveyed most schema file_old file_new refusals text
+    × EndsByRead (found.Refused refusals)
 
 -- ---- a read that failed
 
 -- the writer got the text and didn't fail, or it failed and got only a part of the text
 abbrev pub Gets : List ℕ → Stream → Type 0
-Gets text writer = (Appends writer.before writer.behind text × NoneFailed (writer.failures ∷ [])) ⊎ (AppendsPartOf writer.before writer.behind text × OneFailed (writer.failures ∷ []))
+Gets text writer = (Appends writer.before writer.behind text × NoneFailed (writer.failures ∷ []))
+    ⊎ (AppendsPartOf writer.before writer.behind text × OneFailed (writer.failures ∷ []))
 
 -- One read of the file failed, and none of the schema: the fault output gets the text about what was found, or the line of want of
 -- memory. The output is as it was
@@ -96,7 +100,8 @@ pub record FailsToRead (most : ℕ) (streams : Streams) : Type 0 where
 
 -- no read of the file failed: a fault of memory, of the schema's reader or of the output, or lines that could not be written
 abbrev pub FailsToList : ℕ → Streams → Type 0
-FailsToList most streams = Fails (OfRead IsChecked streams) (OfRead (IsListedUnder most) streams) (streams.schema.failures ∷ []) streams.output streams.faults × NoneFailed (streams.file.failures ∷ [])
+FailsToList most streams = Fails (OfRead IsChecked streams) (OfRead (IsListedUnder most) streams) (streams.schema.failures ∷ [])
+    streams.output streams.faults × NoneFailed (streams.file.failures ∷ [])
 
 -- How the command ends, by its status, as `Ends` says of others; but a read of the file that fails leaves the lines of what was found
 pub record EndsListing (most : ℕ) (streams : Streams) (answer : ℕ) : Type 0 where
@@ -106,7 +111,8 @@ pub record EndsListing (most : ℕ) (streams : Streams) (answer : ℕ) : Type 0 
   pub refused : answer ≡ statuses.refused → Writes (OfRead (IsListedUnder most) streams) streams.faults.before streams.faults.behind
   pub unwritten : answer ≡ statuses.refused → Keeps streams.output.before streams.output.behind
   pub failed : answer ≡ statuses.failed → FailsToList most streams ⊎ FailsToRead most streams
-  pub unfailed : answer ≢ statuses.failed → NoneFailed (streams.schema.failures ∷ streams.file.failures ∷ streams.output.failures ∷ streams.faults.failures ∷ [])
+  pub unfailed : answer ≢ statuses.failed → NoneFailed
+      (streams.schema.failures ∷ streams.file.failures ∷ streams.output.failures ∷ streams.faults.failures ∷ [])
 
 -- ---- the steps of the command
 

@@ -22,7 +22,8 @@ pub record Checked : Type 0 where
 
 -- the two stored as numbers and lists, so that two of these can be told apart. Nothing that is claimed rests on it
 abbrev pub checked_code : Coded Checked
-checked_code = code_by (Schema × ℕ) (coded× schema_code coded_ℕ) (λ c. (c.declared, c.highest)) (λ p. record { declared = p.0; highest = p.1 }) (λ _. refl)
+checked_code = code_by (Schema × ℕ) (coded× schema_code coded_ℕ) (λ c. (c.declared, c.highest))
+    (λ p. record { declared = p.0; highest = p.1 }) (λ _. refl)
 
 abbrev pub IsOfCheck : ℕ → Type 0
 IsOfCheck status = (status ≡ done) ⊎ (status ≡ refused) ⊎ (status ≡ failed)
@@ -44,12 +45,15 @@ streams_of schema file output faults = record { schema = schema; file = file; ou
 
 -- of a file the same is said as `check` says of it alone, whichever reader the schema came from
 abbrev pub EndsChecking : Schema → Stream → Stream → Stream → ℕ → Type 0
-EndsChecking declared file output faults status = (schema : Stream) → Declares declared schema → EndsUnder IsChecked IsRefusedUnder (streams_of schema file output faults) status
+EndsChecking declared file output faults status = (schema : Stream) → Declares declared schema
+    → EndsUnder IsChecked IsRefusedUnder (streams_of schema file output faults) status
 
 -- the same as `check --names` says
 abbrev pub EndsCheckingApart : Schema → Stream → Stream → Stream → ℕ → Type 0
-EndsCheckingApart declared file output faults status = (schema : Stream) → Declares declared schema → EndsUnder IsCheckedApart IsUnnumberedUnder (streams_of schema file output faults) status
+EndsCheckingApart declared file output faults status = (schema : Stream) → Declares declared schema
+    → EndsUnder IsCheckedApart IsUnnumberedUnder (streams_of schema file output faults) status
 
 -- the same as `check --all` says
 abbrev pub EndsListingOf : ℕ → Schema → Stream → Stream → Stream → ℕ → Type 0
-EndsListingOf most declared file output faults status = (schema : Stream) → Declares declared schema → EndsListing most (streams_of schema file output faults) status
+EndsListingOf most declared file output faults status = (schema : Stream) → Declares declared schema
+    → EndsListing most (streams_of schema file output faults) status

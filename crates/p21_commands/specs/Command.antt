@@ -19,7 +19,8 @@ FailsBy IsAnswer IsRefusal old new Write = WritesPart IsAnswer old new
 
 -- the output has the answer and no call failed; or it failed and has only a part, and the fault output the line of a write fault
 abbrev pub AnswersWith : List ℕ → ℕ → Stream → Stream → Type 0
-AnswersWith line status output faults = ((status ≡ statuses.done) × Appends output.before output.behind line × Keeps faults.before faults.behind × NoneFailed (output.failures ∷ faults.failures ∷ []))
+AnswersWith line status output faults = ((status ≡ statuses.done) × Appends output.before output.behind line
+    × Keeps faults.before faults.behind × NoneFailed (output.failures ∷ faults.failures ∷ []))
     ⊎ (AppendsPartOf output.before output.behind line × OneFailed (output.failures ∷ []) × Reports Write status faults)
 
 -- a fault of memory, of a reader or of the output, or a refusal whose line could not be written
@@ -43,8 +44,11 @@ pub record Ends (IsAnswer IsRefusal : List ℕ → Type 0) (readers : List Failu
 
 -- the same of one that reads a text, by what a line says of the text
 abbrev pub EndsOver : (Option (List ℕ) → List ℕ → Type 0) → (Option (List ℕ) → List ℕ → Type 0) → TextStreams → ℕ → Type 0
-EndsOver IsAnswer IsRefusal streams answer = Ends (IsAnswer streams.input.before) (IsRefusal streams.input.before) (streams.input.failures ∷ []) streams.output streams.faults answer
+EndsOver IsAnswer IsRefusal streams answer = Ends (IsAnswer streams.input.before) (IsRefusal streams.input.before)
+    (streams.input.failures ∷ []) streams.output streams.faults answer
 
 -- the same of one that reads a file under a schema, by what a line says of both
-abbrev pub EndsUnder : (Option (List ℕ) → Option (List ℕ) → Option (List ℕ) → List ℕ → Type 0) → (Option (List ℕ) → Option (List ℕ) → Option (List ℕ) → List ℕ → Type 0) → Streams → ℕ → Type 0
-EndsUnder IsAnswer IsRefusal streams answer = Ends (OfRead IsAnswer streams) (OfRead IsRefusal streams) (streams.schema.failures ∷ streams.file.failures ∷ []) streams.output streams.faults answer
+abbrev pub EndsUnder : (Option (List ℕ) → Option (List ℕ) → Option (List ℕ) → List ℕ → Type 0)
+    → (Option (List ℕ) → Option (List ℕ) → Option (List ℕ) → List ℕ → Type 0) → Streams → ℕ → Type 0
+EndsUnder IsAnswer IsRefusal streams answer = Ends (OfRead IsAnswer streams) (OfRead IsRefusal streams)
+    (streams.schema.failures ∷ streams.file.failures ∷ []) streams.output streams.faults answer

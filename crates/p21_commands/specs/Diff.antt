@@ -14,7 +14,8 @@ use Rattle.p21_stream.specs.Answers.{Compares}
 -- the text lists what differs in what both files mean, and they are compared
 pub record Lists (form : RowForm) (s : Schema) (read : Read) (same : Bool) (text : List ℕ) : Type 0 where
   pub compares : Compares s usual read.first_old read.first_new read.second_old read.second_new same
-  pub list : (a b : FileMeaning) → Means s usual compares.first.bytes a → Means s usual compares.second.bytes b → IsList form s as_they_stand a b same text
+  pub list : (a b : FileMeaning) → Means s usual compares.first.bytes a → Means s usual compares.second.bytes b
+      → IsList form s as_they_stand a b same text
 
 -- the text lists what differs in both files, which are accepted under the schema that its reader declares
 pub record IsDifferenceList (form : RowForm) (read : Read) (same : Bool) (text : List ℕ) : Type 0 where

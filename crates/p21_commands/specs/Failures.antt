@@ -20,7 +20,8 @@ NoneFailed (first ∷ others) = (first.after ≡ first.before) × NoneFailed oth
 -- a call of one of these failed, and no call of the others
 abbrev pub OneFailed : List Failures → Type 0
 OneFailed [] = ⊥
-OneFailed (first ∷ others) = ((first.after ≡ one_call_more first.before) × NoneFailed others) ⊎ ((first.after ≡ first.before) × OneFailed others)
+OneFailed (first ∷ others) = ((first.after ≡ one_call_more first.before) × NoneFailed others)
+    ⊎ ((first.after ≡ first.before) × OneFailed others)
 
 -- a read fault comes where a reader failed, a write fault where a writer did, and any other fault where none did
 abbrev pub FailedBy : List Failures → List Failures → CommandFault → Type 0

@@ -23,5 +23,6 @@ fault_status fault = failed
 -- the fault output has the line of the fault, with its status; or it failed and has only a part of the line, with the
 -- status of a write fault
 abbrev pub Reports : CommandFault → ℕ → Stream → Type 0
-Reports fault status faults = ((status ≡ fault_status fault) × Appends faults.before faults.behind (fault_line fault) × NoneFailed (faults.failures ∷ []))
+Reports fault status faults = ((status ≡ fault_status fault) × Appends faults.before faults.behind (fault_line fault)
+    × NoneFailed (faults.failures ∷ []))
     ⊎ ((status ≡ failed) × AppendsPartOf faults.before faults.behind (fault_line fault) × OneFailed (faults.failures ∷ []))

@@ -27,4 +27,5 @@ pub record IsFileRefused (word : List ℕ) (schema file_old file_new : Option (L
 
 -- the line is of the schema, and the file isn't read; or it is of the file
 abbrev pub IsRefusedUnder : Option (List ℕ) → Option (List ℕ) → Option (List ℕ) → List ℕ → Type 0
-IsRefusedUnder schema file_old file_new line = (IsSchemaRefused schema line × Keeps file_old file_new) ⊎ IsFileRefused [] schema file_old file_new line
+IsRefusedUnder schema file_old file_new line = (IsSchemaRefused schema line × Keeps file_old file_new)
+    ⊎ IsFileRefused [] schema file_old file_new line

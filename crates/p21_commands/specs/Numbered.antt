@@ -63,7 +63,8 @@ pub record IsLongUnder (word : List ℕ) (schema file_old file_new : Option (Lis
 -- the line refuses as without `--names`; or the file has no numbered file, and the line says why
 abbrev pub IsUnnumberedUnder : Option (List ℕ) → Option (List ℕ) → Option (List ℕ) → List ℕ → Type 0
 IsUnnumberedUnder schema file_old file_new line =
-    IsRefusedUnder schema file_old file_new line ⊎ (IsLongUnder [] schema file_old file_new line ⊎ IsAlikeUnder [] schema file_old file_new line)
+    IsRefusedUnder schema file_old file_new line ⊎ (IsLongUnder [] schema file_old file_new line
+    ⊎ IsAlikeUnder [] schema file_old file_new line)
 
 -- what a command answers to a refusal; memory may run out for its line
 abbrev pub IsFaultOfNames : List ℕ → NumberingRefusal → CommandFault → Type 0

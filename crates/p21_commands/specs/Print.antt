@@ -9,7 +9,8 @@ use Rattle.p21_spec_schema.specs.Schema.{Schema, Place, EntityNamed, PlaceNamed,
 
 -- the name of a place, or `*` where it is derived in the entity's own set
 abbrev pub IsPlaceWord : Schema → ℕ → Place → List ℕ → Type 0
-IsPlaceWord s e place word = (IsDerivedIn s (order s e) place × (word ≡ codes "*")) ⊎ (¬ IsDerivedIn s (order s e) place × PlaceNamed s place word)
+IsPlaceWord s e place word = (IsDerivedIn s (order s e) place × (word ≡ codes "*"))
+    ⊎ (¬ IsDerivedIn s (order s e) place × PlaceNamed s place word)
 
 -- what stands in front of an abstract entity
 abbrev pub IsEntityPrefix : Schema → ℕ → List ℕ → Type 0

@@ -16,7 +16,8 @@ location_text (Instance name) = codes " in #" ++ decimal name
 
 -- a word for the file, `refused NUMBER NAME`, the location, and a line feed
 abbrev pub refusal_line : List ℕ → Refusal → List ℕ
-refusal_line file refusal = file ++ (codes "refused " ++ (decimal (fault_number refusal.fault) ++ (codes " " ++ (fault_name refusal.fault ++ (location_text refusal.at ++ codes "\n")))))
+refusal_line file refusal = file ++ (codes "refused "
+    ++ (decimal (fault_number refusal.fault) ++ (codes " " ++ (fault_name refusal.fault ++ (location_text refusal.at ++ codes "\n")))))
 
 -- the fault is of the file, and of no memory, reader or writer
 abbrev pub IsOfFile : Fault → Type 0

@@ -23,7 +23,8 @@ pub record Read : Type 0 where
   pub second_new : Option (List ℕ)
 
 abbrev pub read_of : Option (List ℕ) → Option (List ℕ) → Option (List ℕ) → Option (List ℕ) → Option (List ℕ) → Read
-read_of schema first_old first_new second_old second_new = record { schema = schema; first_old = first_old; first_new = first_new; second_old = second_old; second_new = second_new }
+read_of schema first_old first_new second_old second_new =
+    record { schema = schema; first_old = first_old; first_new = first_new; second_old = second_old; second_new = second_new }
 
 abbrev pub read_in : PairStreams → Read
 read_in streams = read_of streams.schema.before streams.first.before streams.first.behind streams.second.before streams.second.behind
@@ -86,8 +87,10 @@ pub record EndsBy (IsAnswer : Bool → List ℕ → Type 0) (IsRefusal : List �
   pub answered : answer ≡ statuses.done → Writes (IsAnswer true) streams.output.before streams.output.behind
   pub silent : answer ≡ statuses.done → Keeps streams.faults.before streams.faults.behind
   pub refused : answer ≡ statuses.refused → IsDifferentOrRefused IsAnswer IsRefusal streams
-  pub failed : answer ≡ statuses.failed → Fails (IsEither IsAnswer) IsRefusal (streams.schema.failures ∷ streams.first.failures ∷ streams.second.failures ∷ []) streams.output streams.faults
-  pub unfailed : answer ≢ statuses.failed → NoneFailed (streams.schema.failures ∷ streams.first.failures ∷ streams.second.failures ∷ streams.output.failures ∷ streams.faults.failures ∷ [])
+  pub failed : answer ≡ statuses.failed → Fails (IsEither IsAnswer) IsRefusal
+      (streams.schema.failures ∷ streams.first.failures ∷ streams.second.failures ∷ []) streams.output streams.faults
+  pub unfailed : answer ≢ statuses.failed → NoneFailed
+      (streams.schema.failures ∷ streams.first.failures ∷ streams.second.failures ∷ streams.output.failures ∷ streams.faults.failures ∷ [])
 
 abbrev pub EndsComparing : PairStreams → ℕ → Type 0
 EndsComparing streams answer = EndsBy (IsCompared (read_in streams)) (IsRefused (read_in streams)) streams answer

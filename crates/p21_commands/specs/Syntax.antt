@@ -14,7 +14,8 @@ use Rattle.p21_syntax_words.specs.KeywordCounts.{counts_text}
 
 -- `well formed, instances N, schema NAME` and a line feed
 abbrev pub syntax_answer_line : ℕ → List ℕ → List ℕ
-syntax_answer_line instances schema = codes "well formed, instances " ++ (decimal instances ++ (codes ", schema " ++ (schema ++ codes "\n")))
+syntax_answer_line instances schema = codes "well formed, instances "
+    ++ (decimal instances ++ (codes ", schema " ++ (schema ++ codes "\n")))
 
 -- behind a text more of it, where that is asked for
 abbrev pub behind : List ℕ → Bool → List ℕ → List ℕ
@@ -43,6 +44,8 @@ pub record IsIllFormedLine (old new : Option (List ℕ)) (line : List ℕ) : Typ
   pub line_is : line ≡ refusal_line [] refusal
 
 -- how a command ends that reads a file by itself, by what a line says of the file
-abbrev pub EndsReading : (Option (List ℕ) → Option (List ℕ) → List ℕ → Type 0) → (Option (List ℕ) → Option (List ℕ) → List ℕ → Type 0) → TextStreams → ℕ → Type 0
+abbrev pub EndsReading : (Option (List ℕ) → Option (List ℕ) → List ℕ → Type 0) → (Option (List ℕ) → Option (List ℕ) → List ℕ → Type 0)
+    → TextStreams → ℕ → Type 0
 EndsReading IsAnswer IsRefusal streams answer =
-    Ends (IsAnswer streams.input.before streams.input.behind) (IsRefusal streams.input.before streams.input.behind) (streams.input.failures ∷ []) streams.output streams.faults answer
+    Ends (IsAnswer streams.input.before streams.input.behind) (IsRefusal streams.input.before streams.input.behind)
+    (streams.input.failures ∷ []) streams.output streams.faults answer

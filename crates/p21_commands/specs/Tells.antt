@@ -36,7 +36,8 @@ CountsLast Json refusals text = Unit {0}
 abbrev pub WritesLines : List ℕ → Bool → Stream → ℕ → Type 0
 WritesLines text unread faults status =
     Gets text faults
-    × (((status ≡ refused) × (unread ≡ false) × NoneFailed (faults.failures ∷ [])) ⊎ ((status ≡ failed) × ((unread ≡ true) ⊎ OneFailed (faults.failures ∷ []))))
+    × (((status ≡ refused) × (unread ≡ false) × NoneFailed (faults.failures ∷ []))
+    ⊎ ((status ≡ failed) × ((unread ≡ true) ⊎ OneFailed (faults.failures ∷ []))))
 
 -- the fault output gets the text about the refusals, or memory ran out for it
 abbrev pub WritesRefused : Form → Refusals → Stream → ℕ → Type 0
@@ -46,8 +47,10 @@ WritesRefused form refusals faults status =
 
 -- what a survey found is told; where something is refused, the output is as it was
 abbrev pub TellsSurvey : Form → Surveyed → Stream → Stream → ℕ → Type 0
-TellsSurvey form (found.Accepted accepted) output faults status = TellsAccepted (length accepted.kept) (length (output_text accepted)) output faults status
-TellsSurvey form (found.Refused refusals) output faults status = WritesRefused form refusals faults status × Keeps output.before output.behind × NoneFailed (output.failures ∷ [])
+TellsSurvey form (found.Accepted accepted) output faults status =
+    TellsAccepted (length accepted.kept) (length (output_text accepted)) output faults status
+TellsSurvey form (found.Refused refusals) output faults status = WritesRefused form refusals faults status
+    × Keeps output.before output.behind × NoneFailed (output.failures ∷ [])
 
 -- a refusal with a number has a line of its own, unless memory runs out; any other fault has the line that it has by `check`
 abbrev pub IsToldBy : CommandFault → CommandFault → Type 0

@@ -50,14 +50,19 @@ fn write_canonical<S: Read, R: Read, W: Write>(
     file: &mut Watched<R>,
     output: &mut Watched<W>,
 ) -> Result<(), CommandFault>
-    ensures ok { OnOk result (Writes (IsCanonicalUnder (S.remaining schema.old.inner) (R.remaining file.old.inner) (R.remaining file.new.inner)) (W.contents output.old.inner) (W.contents output.new.inner)) }
-    ensures err { IfErr result (FailsBy (IsCanonicalUnder (S.remaining schema.old.inner) (R.remaining file.old.inner) (R.remaining file.new.inner)) (IsRefusedUnder (S.remaining schema.old.inner) (R.remaining file.old.inner) (R.remaining file.new.inner))
+    ensures ok { OnOk result (Writes (IsCanonicalUnder (S.remaining schema.old.inner) (R.remaining file.old.inner)
+        (R.remaining file.new.inner)) (W.contents output.old.inner) (W.contents output.new.inner)) }
+    ensures err { IfErr result (FailsBy (IsCanonicalUnder (S.remaining schema.old.inner) (R.remaining file.old.inner)
+        (R.remaining file.new.inner)) (IsRefusedUnder (S.remaining schema.old.inner) (R.remaining file.old.inner)
+        (R.remaining file.new.inner))
         (W.contents output.old.inner) (W.contents output.new.inner)) }
     ensures consumed_schema { text.ConsumesAtMost (S.remaining schema.old.inner) (S.remaining schema.new.inner) }
     ensures consumed_file { ConsumesAtMost usual (R.remaining file.old.inner) (R.remaining file.new.inner) }
 
-    ensures unfailed { OnOk result (NoneFailed (failures_of schema.old schema.new ∷ failures_of file.old file.new ∷ failures_of output.old output.new ∷ [])) }
-    ensures failed { IfErr result (FailedBy (failures_of schema.old schema.new ∷ failures_of file.old file.new ∷ []) (failures_of output.old output.new ∷ [])) }
+    ensures unfailed { OnOk result (NoneFailed (failures_of schema.old schema.new ∷ failures_of file.old file.new ∷ failures_of output.old
+        output.new ∷ [])) }
+    ensures failed { IfErr result (FailedBy (failures_of schema.old schema.new ∷ failures_of file.old file.new ∷ [])
+        (failures_of output.old output.new ∷ [])) }
 {
     let schema = load_schema(alloc, schema)?;
     match rewrite(alloc, &schema, Limits::usual(), file, output) {

@@ -187,7 +187,7 @@ pub(crate) fn count_text(alloc: Global, count: u64, extent: Extent) -> Result<St
 {
     match extent {
         Extent::Whole => format!(in alloc; "refusals {count}\n"),
-        Extent::Part => format!(in alloc; "refusals {count}, the rest was not read\n"),
+        Extent::ReadTo(bytes) => format!(in alloc; "refusals {count}, read {bytes} bytes\n"),
         Extent::Most => format!(in alloc; "refusals {count}, no more were looked for\n"),
     }
 }

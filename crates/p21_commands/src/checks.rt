@@ -195,11 +195,13 @@ impl Checks {
         file: &mut Watched<R>,
         most: u64,
     ) -> Result<LocatedSurvey, NoMemory>
-        ensures surveys { IfOk result (λ located. SurveysInput self.now.declared usual (R.remaining file.old.inner) (R.remaining file.new.inner) located.found) }
+        ensures surveys { IfOk result (λ located. SurveysInput self.now.declared usual (R.remaining file.old.inner)
+            (R.remaining file.new.inner) located.found) }
         ensures counted { IfOk result (λ located. ListsAtMost (asked_for most) located.found) }
         ensures consumed { ConsumesAtMost usual (R.remaining file.old.inner) (R.remaining file.new.inner) }
         ensures ends_by_read { IfOk result (λ located. EndsByRead located.found → file.new.failures ≡ one_call_more file.old.failures) }
-        ensures failed { IfOk result (λ located. (file.new.failures ≡ file.old.failures) ⊎ ((file.new.failures ≡ one_call_more file.old.failures) × EndsByRead located.found)) }
+        ensures failed { IfOk result (λ located. (file.new.failures ≡ file.old.failures)
+            ⊎ ((file.new.failures ≡ one_call_more file.old.failures) × EndsByRead located.found)) }
     {
         survey_located(alloc, &self.schema, Limits::usual(), most, file)
     }
@@ -250,7 +252,8 @@ impl Checks {
         faults: &mut Watched<F>,
     ) -> u8
         ensures status { IsOfCheck result }
-        ensures tells { TellsSurvey telling.now.form found.now.found (stream_of W.contents output.old output.new) (stream_of F.contents faults.old faults.new) result }
+        ensures tells { TellsSurvey telling.now.form found.now.found (stream_of W.contents output.old output.new)
+            (stream_of F.contents faults.old faults.new) result }
         ensures schema { self.new.declared ≡ self.old.declared }
         ensures highest { self.new.highest ≡ max self.old.highest result }
     {

@@ -35,7 +35,9 @@ pub fn diff_command<S: Read, A: Read, B: Read, W: Write, F: Write>(
     output: &mut Watched<W>,
     faults: &mut Watched<F>,
 ) -> u8
-    ensures order { (second.new ≡ second.old) ⊎ IsFirstAccepted (read_of (S.remaining schema.old.inner) (A.remaining first.old.inner) (A.remaining first.new.inner) (B.remaining second.old.inner) (B.remaining second.new.inner)) }
+    ensures order { (second.new ≡ second.old) ⊎ IsFirstAccepted
+        (read_of (S.remaining schema.old.inner) (A.remaining first.old.inner) (A.remaining first.new.inner) (B.remaining second.old.inner)
+        (B.remaining second.new.inner)) }
     ensures consumed_schema { text.ConsumesAtMost (S.remaining schema.old.inner) (S.remaining schema.new.inner) }
     ensures consumed_first { ConsumesAtMost usual (A.remaining first.old.inner) (A.remaining first.new.inner) }
     ensures consumed_second { ConsumesAtMost usual (B.remaining second.old.inner) (B.remaining second.new.inner) }
@@ -63,16 +65,23 @@ fn write_differences<S: Read, A: Read, B: Read, W: Write>(
     form: RowForm,
     output: &mut Watched<W>,
 ) -> Result<bool, CommandFault>
-    ensures ok { IfOk result (λ same. Writes (IsDifferenceList form (read_of (S.remaining schema.old.inner) (A.remaining first.old.inner) (A.remaining first.new.inner) (B.remaining second.old.inner) (B.remaining second.new.inner)) same) (W.contents output.old.inner) (W.contents output.new.inner)) }
-    ensures err { let read = read_of (S.remaining schema.old.inner) (A.remaining first.old.inner) (A.remaining first.new.inner) (B.remaining second.old.inner) (B.remaining second.new.inner) in
+    ensures ok { IfOk result (λ same. Writes (IsDifferenceList form
+        (read_of (S.remaining schema.old.inner) (A.remaining first.old.inner) (A.remaining first.new.inner) (B.remaining second.old.inner)
+        (B.remaining second.new.inner)) same) (W.contents output.old.inner) (W.contents output.new.inner)) }
+    ensures err { let read = read_of (S.remaining schema.old.inner) (A.remaining first.old.inner) (A.remaining first.new.inner)
+        (B.remaining second.old.inner) (B.remaining second.new.inner) in
         IfErr result (FailsBy (IsEither (IsDifferenceList form read)) (IsRefused read) (W.contents output.old.inner) (W.contents output.new.inner)) }
-    ensures order { (second.new ≡ second.old) ⊎ IsFirstAccepted (read_of (S.remaining schema.old.inner) (A.remaining first.old.inner) (A.remaining first.new.inner) (B.remaining second.old.inner) (B.remaining second.new.inner)) }
+    ensures order { (second.new ≡ second.old) ⊎ IsFirstAccepted
+        (read_of (S.remaining schema.old.inner) (A.remaining first.old.inner) (A.remaining first.new.inner) (B.remaining second.old.inner)
+        (B.remaining second.new.inner)) }
     ensures consumed_schema { text.ConsumesAtMost (S.remaining schema.old.inner) (S.remaining schema.new.inner) }
     ensures consumed_first { ConsumesAtMost usual (A.remaining first.old.inner) (A.remaining first.new.inner) }
     ensures consumed_second { ConsumesAtMost usual (B.remaining second.old.inner) (B.remaining second.new.inner) }
 
-    ensures unfailed { OnOk result (NoneFailed (failures_of schema.old schema.new ∷ failures_of first.old first.new ∷ failures_of second.old second.new ∷ failures_of output.old output.new ∷ [])) }
-    ensures failed { IfErr result (FailedBy (failures_of schema.old schema.new ∷ failures_of first.old first.new ∷ failures_of second.old second.new ∷ []) (failures_of output.old output.new ∷ [])) }
+    ensures unfailed { OnOk result (NoneFailed (failures_of schema.old schema.new ∷ failures_of first.old first.new ∷ failures_of second.old
+        second.new ∷ failures_of output.old output.new ∷ [])) }
+    ensures failed { IfErr result (FailedBy (failures_of schema.old schema.new ∷ failures_of first.old first.new ∷ failures_of second.old
+        second.new ∷ []) (failures_of output.old output.new ∷ [])) }
 {
     let schema = load_schema(alloc, schema)?;
     let found = match differences(alloc, &schema, form, first, second) {

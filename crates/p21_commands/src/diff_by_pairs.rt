@@ -17,25 +17,28 @@ use crate::same::word_of;
 use crate::status::{DONE, REFUSED};
 use crate::transfer::write_whole;
 use p21_difference_rows::RowForm;
-use p21_paired_differences::paired_differences;
+use p21_paired_differences::{PairRows, paired_differences};
 use p21_stream::Watched;
 use p21_values::Limits;
 use std::alloc::Global;
 use std::io::{Read, Write};
 
 /// Reads a schema and two files, the first to its end before the second, pairs their instances whatever their names are, and writes to
-/// `output` what differs by these pairs, a row for each difference, and how many these are, or that it isn't decided; or to `faults` one
-/// line that says why there is no list. Answers the exit status.
+/// `output` all pairs, if they are wanted, and what differs by these, a row for each difference, and how many these are, or that it isn't
+/// decided; or to `faults` one line that says why there is no list. Answers the exit status.
 pub fn diff_by_pairs_command<S: Read, A: Read, B: Read, W: Write, F: Write>(
     alloc: Global,
     schema: &mut Watched<S>,
     first: &mut Watched<A>,
     second: &mut Watched<B>,
     form: RowForm,
+    pairs: PairRows,
     output: &mut Watched<W>,
     faults: &mut Watched<F>,
 ) -> u8
-    ensures order { (second.new ≡ second.old) ⊎ IsFirstAccepted (read_of (S.remaining schema.old.inner) (A.remaining first.old.inner) (A.remaining first.new.inner) (B.remaining second.old.inner) (B.remaining second.new.inner)) }
+    ensures order { (second.new ≡ second.old) ⊎ IsFirstAccepted
+        (read_of (S.remaining schema.old.inner) (A.remaining first.old.inner) (A.remaining first.new.inner) (B.remaining second.old.inner)
+        (B.remaining second.new.inner)) }
     ensures consumed_schema { text.ConsumesAtMost (S.remaining schema.old.inner) (S.remaining schema.new.inner) }
     ensures consumed_first { ConsumesAtMost usual (A.remaining first.old.inner) (A.remaining first.new.inner) }
     ensures consumed_second { ConsumesAtMost usual (B.remaining second.old.inner) (B.remaining second.new.inner) }
@@ -45,9 +48,9 @@ pub fn diff_by_pairs_command<S: Read, A: Read, B: Read, W: Write, F: Write>(
       second = stream_of B.remaining second.old second.new;
       output = stream_of W.contents output.old output.new;
       faults = stream_of F.contents faults.old faults.new;
-    } in EndsBy (IsListByPairs form (read_in streams)) (IsUnpaired (read_in streams)) streams result }
+    } in EndsBy (IsListByPairs form pairs (read_in streams)) (IsUnpaired (read_in streams)) streams result }
 {
-    match write_by_pairs(alloc, schema, first, second, form, output) {
+    match write_by_pairs(alloc, schema, first, second, form, pairs, output) {
         Ok(true) => DONE,
         Ok(false) => REFUSED,
         Err(fault) => report(&fault, faults),
@@ -62,21 +65,37 @@ fn write_by_pairs<S: Read, A: Read, B: Read, W: Write>(
     first: &mut Watched<A>,
     second: &mut Watched<B>,
     form: RowForm,
+    pairs: PairRows,
     output: &mut Watched<W>,
 ) -> Result<bool, CommandFault>
-    ensures ok { IfOk result (λ same. Writes (IsListByPairs form (read_of (S.remaining schema.old.inner) (A.remaining first.old.inner) (A.remaining first.new.inner) (B.remaining second.old.inner) (B.remaining second.new.inner)) same) (W.contents output.old.inner) (W.contents output.new.inner)) }
-    ensures err { let read = read_of (S.remaining schema.old.inner) (A.remaining first.old.inner) (A.remaining first.new.inner) (B.remaining second.old.inner) (B.remaining second.new.inner) in
-        IfErr result (FailsBy (IsEither (IsListByPairs form read)) (IsUnpaired read) (W.contents output.old.inner) (W.contents output.new.inner)) }
-    ensures order { (second.new ≡ second.old) ⊎ IsFirstAccepted (read_of (S.remaining schema.old.inner) (A.remaining first.old.inner) (A.remaining first.new.inner) (B.remaining second.old.inner) (B.remaining second.new.inner)) }
+    ensures ok { IfOk result (λ same. Writes (IsListByPairs form pairs
+        (read_of (S.remaining schema.old.inner) (A.remaining first.old.inner) (A.remaining first.new.inner) (B.remaining second.old.inner)
+        (B.remaining second.new.inner)) same) (W.contents output.old.inner) (W.contents output.new.inner)) }
+    ensures err { let read = read_of (S.remaining schema.old.inner) (A.remaining first.old.inner) (A.remaining first.new.inner)
+        (B.remaining second.old.inner) (B.remaining second.new.inner) in
+        IfErr result (FailsBy (IsEither (IsListByPairs form pairs read)) (IsUnpaired read) (W.contents output.old.inner) (W.contents output.new.inner)) }
+    ensures order { (second.new ≡ second.old) ⊎ IsFirstAccepted
+        (read_of (S.remaining schema.old.inner) (A.remaining first.old.inner) (A.remaining first.new.inner) (B.remaining second.old.inner)
+        (B.remaining second.new.inner)) }
     ensures consumed_schema { text.ConsumesAtMost (S.remaining schema.old.inner) (S.remaining schema.new.inner) }
     ensures consumed_first { ConsumesAtMost usual (A.remaining first.old.inner) (A.remaining first.new.inner) }
     ensures consumed_second { ConsumesAtMost usual (B.remaining second.old.inner) (B.remaining second.new.inner) }
 
-    ensures unfailed { OnOk result (NoneFailed (failures_of schema.old schema.new ∷ failures_of first.old first.new ∷ failures_of second.old second.new ∷ failures_of output.old output.new ∷ [])) }
-    ensures failed { IfErr result (FailedBy (failures_of schema.old schema.new ∷ failures_of first.old first.new ∷ failures_of second.old second.new ∷ []) (failures_of output.old output.new ∷ [])) }
+    ensures unfailed { OnOk result (NoneFailed (failures_of schema.old schema.new ∷ failures_of first.old first.new ∷ failures_of second.old
+        second.new ∷ failures_of output.old output.new ∷ [])) }
+    ensures failed { IfErr result (FailedBy (failures_of schema.old schema.new ∷ failures_of first.old first.new ∷ failures_of second.old
+        second.new ∷ []) (failures_of output.old output.new ∷ [])) }
 {
     let schema = load_schema(alloc, schema)?;
-    let found = match paired_differences(alloc, &schema, Limits::usual(), form, first, second) {
+    let found = match paired_differences(
+        alloc,
+        &schema,
+        Limits::usual(),
+        form,
+        pairs,
+        first,
+        second,
+    ) {
         Ok(found) => found,
         Err((which, refusal)) => return Err(fault_of(alloc, word_of(which), refusal)),
     };

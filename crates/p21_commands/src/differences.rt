@@ -26,7 +26,8 @@ pub(crate) fn differences<A: Read, B: Read>(
     first: &mut Watched<A>,
     second: &mut Watched<B>,
 ) -> Result<DifferenceList, (Which, Refusal)>
-    ensures ok { (reader : Option (List ℕ)) → IfOk result (λ found. Lists form schema.now (read_of reader (A.remaining first.old.inner) (A.remaining first.new.inner)
+    ensures ok { (reader : Option (List ℕ)) → IfOk result
+        (λ found. Lists form schema.now (read_of reader (A.remaining first.old.inner) (A.remaining first.new.inner)
         (B.remaining second.old.inner) (B.remaining second.new.inner)) found.is_same found.text.items) }
     ensures err { IfErr result (λ answer. FailsToCompare schema.now usual (A.remaining first.old.inner) (A.remaining first.new.inner)
         (B.remaining second.old.inner) (B.remaining second.new.inner) answer.0 answer.1.fault) }

@@ -70,7 +70,7 @@ fn own_line(
     ensures { ((line : _) × (result ≡ CommandFault.Refused line)) ⊎ (result ≡ CommandFault.NoMemory) }
 {
     let mut line = String::new(alloc);
-    match push_line(alloc, schema, located, 0, telling, &mut line) {
+    match push_line(alloc, schema, located, telling, &mut line) {
         Ok(()) => CommandFault::Refused(line),
         Err(AllocError) => CommandFault::NoMemory,
     }
@@ -86,7 +86,8 @@ pub(crate) fn write_survey<W: Write, F: Write>(
     faults: &mut Watched<F>,
 ) -> u8
     ensures status { IsOfCheck result }
-    ensures tells { TellsSurvey telling.now.form found.now.found (stream_of W.contents output.old output.new) (stream_of F.contents faults.old faults.new) result }
+    ensures tells { TellsSurvey telling.now.form found.now.found (stream_of W.contents output.old output.new)
+        (stream_of F.contents faults.old faults.new) result }
 {
     match &found.found {
         Surveyed::Accepted(accepted) => {
@@ -125,7 +126,8 @@ pub(crate) fn write_accepted<W: Write, F: Write>(
     faults: &mut Watched<F>,
 ) -> u8
     ensures status { IsOfCheck result }
-    ensures tells { TellsAccepted instances bytes (stream_of W.contents output.old output.new) (stream_of F.contents faults.old faults.new) result }
+    ensures tells { TellsAccepted instances bytes (stream_of W.contents output.old output.new) (stream_of F.contents faults.old faults.new)
+        result }
 {
     match answer_line_of(alloc, instances, bytes) {
         Ok(line) => answer(line.as_bytes(), output, faults),

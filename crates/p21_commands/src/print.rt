@@ -35,7 +35,8 @@ fn place_word(schema: &Schema, entity: EntityId, place: Place) -> &[u8]
 /// Appends the name of a place behind a comma.
 fn push_name(schema: &Schema, place: Place, out: &mut Vec<u8>) -> Result<(), NoMemory>
     requires { IsPlace schema.now (place_of place) }
-    ensures { OnOk result ((name : List ℕ) × PlaceNamed schema.now (place_of place) name × (out.new.items ≡ out.old.items ++ (codes "," ++ name))) }
+    ensures { OnOk result ((name : List ℕ) × PlaceNamed schema.now (place_of place) name
+        × (out.new.items ≡ out.old.items ++ (codes "," ++ name))) }
 {
     out.push(b',')?;
     out.extend_from_slice(schema.place_name(place))?;
@@ -85,8 +86,10 @@ fn put_word<W: Write>(
 ) -> Result<(), WriteFault>
     requires entity { IsEntity schema.now entity.0 }
     requires place { IsPlace schema.now (place_of place) }
-    ensures ok { OnOk result (AppendsAllBut (W.contents writer.old.inner) (W.contents writer.new.inner) (waiting.old ++ joined some (words_of schema.now entity.0 (place_of place ∷ []))) waiting.new) }
-    ensures err { OnErr result (AppendsPartOf (W.contents writer.old.inner) (W.contents writer.new.inner) (waiting.old ++ joined some (words_of schema.now entity.0 (place_of place ∷ [])))) }
+    ensures ok { OnOk result (AppendsAllBut (W.contents writer.old.inner) (W.contents writer.new.inner)
+        (waiting.old ++ joined some (words_of schema.now entity.0 (place_of place ∷ []))) waiting.new) }
+    ensures err { OnErr result (AppendsPartOf (W.contents writer.old.inner) (W.contents writer.new.inner)
+        (waiting.old ++ joined some (words_of schema.now entity.0 (place_of place ∷ [])))) }
 
     ensures written { OnOk result (writer.new.failures ≡ writer.old.failures) }
     ensures failed { OnErr result (writer.new.failures ≡ one_call_more writer.old.failures) }
@@ -119,9 +122,11 @@ fn put_own<W: Write>(
 ) -> Result<bool, WriteFault>
     requires entity { IsEntity schema.now entity.0 }
     requires owner { IsEntity schema.now owner.0 }
-    ensures ok { OnOk result (AppendsAllBut (W.contents writer.old.inner) (W.contents writer.new.inner) (waiting.old ++ joined some (words_of schema.now entity.0 (own_places schema.now owner.0))) waiting.new) }
+    ensures ok { OnOk result (AppendsAllBut (W.contents writer.old.inner) (W.contents writer.new.inner)
+        (waiting.old ++ joined some (words_of schema.now entity.0 (own_places schema.now owner.0))) waiting.new) }
     ensures some { IfOk result (λ after. after ≡ are_some some (words_of schema.now entity.0 (own_places schema.now owner.0))) }
-    ensures err { OnErr result (AppendsPartOf (W.contents writer.old.inner) (W.contents writer.new.inner) (waiting.old ++ joined some (words_of schema.now entity.0 (own_places schema.now owner.0)))) }
+    ensures err { OnErr result (AppendsPartOf (W.contents writer.old.inner) (W.contents writer.new.inner)
+        (waiting.old ++ joined some (words_of schema.now entity.0 (own_places schema.now owner.0)))) }
 
     ensures written { OnOk result (writer.new.failures ≡ writer.old.failures) }
     ensures failed { OnErr result (writer.new.failures ≡ one_call_more writer.old.failures) }
@@ -153,9 +158,11 @@ fn put_owner<W: Write>(
     requires texts { AreOwnTexts schema.now texts.now }
     requires entity { IsEntity schema.now entity.0 }
     requires owner { IsEntity schema.now owner.0 }
-    ensures ok { OnOk result (AppendsAllBut (W.contents writer.old.inner) (W.contents writer.new.inner) (waiting.old ++ joined some (words_of schema.now entity.0 (own_places schema.now owner.0))) waiting.new) }
+    ensures ok { OnOk result (AppendsAllBut (W.contents writer.old.inner) (W.contents writer.new.inner)
+        (waiting.old ++ joined some (words_of schema.now entity.0 (own_places schema.now owner.0))) waiting.new) }
     ensures some { IfOk result (λ after. after ≡ are_some some (words_of schema.now entity.0 (own_places schema.now owner.0))) }
-    ensures err { OnErr result (AppendsPartOf (W.contents writer.old.inner) (W.contents writer.new.inner) (waiting.old ++ joined some (words_of schema.now entity.0 (own_places schema.now owner.0)))) }
+    ensures err { OnErr result (AppendsPartOf (W.contents writer.old.inner) (W.contents writer.new.inner)
+        (waiting.old ++ joined some (words_of schema.now entity.0 (own_places schema.now owner.0)))) }
 
     ensures written { OnOk result (writer.new.failures ≡ writer.old.failures) }
     ensures failed { OnErr result (writer.new.failures ≡ one_call_more writer.old.failures) }
@@ -174,9 +181,12 @@ fn put_text<W: Write>(
     text: &[u8],
     some: bool,
 ) -> Result<bool, WriteFault>
-    ensures ok { (words : List (List ℕ)) → text.now ≡ with_commas words → OnOk result (AppendsAllBut (W.contents writer.old.inner) (W.contents writer.new.inner) (waiting.old ++ joined some words) waiting.new) }
+    ensures ok { (words : List (List ℕ)) → text.now ≡ with_commas words
+        → OnOk result (AppendsAllBut (W.contents writer.old.inner) (W.contents writer.new.inner) (waiting.old ++ joined some words)
+        waiting.new) }
     ensures some { (words : List (List ℕ)) → text.now ≡ with_commas words → IfOk result (λ after. after ≡ are_some some words) }
-    ensures err { (words : List (List ℕ)) → text.now ≡ with_commas words → OnErr result (AppendsPartOf (W.contents writer.old.inner) (W.contents writer.new.inner) (waiting.old ++ joined some words)) }
+    ensures err { (words : List (List ℕ)) → text.now ≡ with_commas words
+        → OnErr result (AppendsPartOf (W.contents writer.old.inner) (W.contents writer.new.inner) (waiting.old ++ joined some words)) }
 
     ensures written { OnOk result (writer.new.failures ≡ writer.old.failures) }
     ensures failed { OnErr result (writer.new.failures ≡ one_call_more writer.old.failures) }
@@ -201,8 +211,10 @@ fn put_words<W: Write>(
 ) -> Result<(), WriteFault>
     requires texts { AreOwnTexts schema.now texts.now }
     requires entity { IsEntity schema.now entity.0 }
-    ensures ok { OnOk result (AppendsAllBut (W.contents writer.old.inner) (W.contents writer.new.inner) (waiting.old ++ with_commas_between (words_of schema.now entity.0 (places schema.now entity.0))) waiting.new) }
-    ensures err { OnErr result (AppendsPartOf (W.contents writer.old.inner) (W.contents writer.new.inner) (waiting.old ++ with_commas_between (words_of schema.now entity.0 (places schema.now entity.0)))) }
+    ensures ok { OnOk result (AppendsAllBut (W.contents writer.old.inner) (W.contents writer.new.inner)
+        (waiting.old ++ with_commas_between (words_of schema.now entity.0 (places schema.now entity.0))) waiting.new) }
+    ensures err { OnErr result (AppendsPartOf (W.contents writer.old.inner) (W.contents writer.new.inner)
+        (waiting.old ++ with_commas_between (words_of schema.now entity.0 (places schema.now entity.0)))) }
 
     ensures written { OnOk result (writer.new.failures ≡ writer.old.failures) }
     ensures failed { OnErr result (writer.new.failures ≡ one_call_more writer.old.failures) }
@@ -226,8 +238,10 @@ fn put_front<W: Write>(
     entity: EntityId,
 ) -> Result<(), WriteFault>
     requires { IsEntity schema.now entity.0 }
-    ensures ok { OnOk result (AppendsAllBut (W.contents writer.old.inner) (W.contents writer.new.inner) (waiting.old ++ (entity_prefix schema.now entity.0 ++ entity_name schema.now entity.0)) waiting.new) }
-    ensures err { OnErr result (AppendsPartOf (W.contents writer.old.inner) (W.contents writer.new.inner) (waiting.old ++ (entity_prefix schema.now entity.0 ++ entity_name schema.now entity.0))) }
+    ensures ok { OnOk result (AppendsAllBut (W.contents writer.old.inner) (W.contents writer.new.inner)
+        (waiting.old ++ (entity_prefix schema.now entity.0 ++ entity_name schema.now entity.0)) waiting.new) }
+    ensures err { OnErr result (AppendsPartOf (W.contents writer.old.inner) (W.contents writer.new.inner)
+        (waiting.old ++ (entity_prefix schema.now entity.0 ++ entity_name schema.now entity.0))) }
 
     ensures written { OnOk result (writer.new.failures ≡ writer.old.failures) }
     ensures failed { OnErr result (writer.new.failures ≡ one_call_more writer.old.failures) }
@@ -263,8 +277,10 @@ fn put_entity<W: Write>(
 ) -> Result<(), WriteFault>
     requires texts { AreOwnTexts schema.now texts.now }
     requires entity { IsEntity schema.now entity.0 }
-    ensures ok { OnOk result (AppendsAllBut (W.contents writer.old.inner) (W.contents writer.new.inner) (waiting.old ++ entity_line schema.now entity.0) waiting.new) }
-    ensures err { OnErr result (AppendsPartOf (W.contents writer.old.inner) (W.contents writer.new.inner) (waiting.old ++ entity_line schema.now entity.0)) }
+    ensures ok { OnOk result (AppendsAllBut (W.contents writer.old.inner) (W.contents writer.new.inner)
+        (waiting.old ++ entity_line schema.now entity.0) waiting.new) }
+    ensures err { OnErr result (AppendsPartOf (W.contents writer.old.inner) (W.contents writer.new.inner)
+        (waiting.old ++ entity_line schema.now entity.0)) }
 
     ensures written { OnOk result (writer.new.failures ≡ writer.old.failures) }
     ensures failed { OnErr result (writer.new.failures ≡ one_call_more writer.old.failures) }
@@ -292,8 +308,10 @@ fn put_entities<W: Write>(
     texts: &[Option<Vec<u8>>],
 ) -> Result<(), WriteFault>
     requires { AreOwnTexts schema.now texts.now }
-    ensures ok { OnOk result (AppendsAllBut (W.contents writer.old.inner) (W.contents writer.new.inner) (waiting.old ++ entity_lines schema.now) waiting.new) }
-    ensures err { OnErr result (AppendsPartOf (W.contents writer.old.inner) (W.contents writer.new.inner) (waiting.old ++ entity_lines schema.now)) }
+    ensures ok { OnOk result (AppendsAllBut (W.contents writer.old.inner) (W.contents writer.new.inner)
+        (waiting.old ++ entity_lines schema.now) waiting.new) }
+    ensures err { OnErr result (AppendsPartOf (W.contents writer.old.inner) (W.contents writer.new.inner)
+        (waiting.old ++ entity_lines schema.now)) }
 
     ensures written { OnOk result (writer.new.failures ≡ writer.old.failures) }
     ensures failed { OnErr result (writer.new.failures ≡ one_call_more writer.old.failures) }
@@ -314,8 +332,10 @@ fn put_name<W: Write>(
     writer: &mut Watched<W>,
     schema: &Schema,
 ) -> Result<(), WriteFault>
-    ensures ok { OnOk result (AppendsAllBut (W.contents writer.old.inner) (W.contents writer.new.inner) (waiting.old ++ (codes "SCHEMA " ++ (schema.now.name ++ codes "\n"))) waiting.new) }
-    ensures err { OnErr result (AppendsPartOf (W.contents writer.old.inner) (W.contents writer.new.inner) (waiting.old ++ (codes "SCHEMA " ++ (schema.now.name ++ codes "\n")))) }
+    ensures ok { OnOk result (AppendsAllBut (W.contents writer.old.inner) (W.contents writer.new.inner)
+        (waiting.old ++ (codes "SCHEMA " ++ (schema.now.name ++ codes "\n"))) waiting.new) }
+    ensures err { OnErr result (AppendsPartOf (W.contents writer.old.inner) (W.contents writer.new.inner)
+        (waiting.old ++ (codes "SCHEMA " ++ (schema.now.name ++ codes "\n")))) }
 
     ensures written { OnOk result (writer.new.failures ≡ writer.old.failures) }
     ensures failed { OnErr result (writer.new.failures ≡ one_call_more writer.old.failures) }

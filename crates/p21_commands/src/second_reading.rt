@@ -3,14 +3,18 @@
 //!
 //! That no instance serves a reference is known at the end of the file alone, and no place is kept of each reference till
 //! then; and of a refusal its place is kept, and not the keyword in front of it. So the file is read a second time. It is
-//! known by then to be an exchange structure as far as its refusals stand: strings, remarks, names and keywords are told
-//! apart by their signs (ISO 10303-21, 6 and 7). Where an instance refers to a target more than once, its refusals stand at
-//! the first of these references at whose attributes the instance is wanted that isn't served, one at each.
+//! known by then to be an exchange structure as far as its refusals stand, but for the statements that were passed over, which
+//! are passed over here too: strings, remarks, names and keywords are told apart by their signs (ISO 10303-21, 6 and 7). Where
+//! an instance refers to a target more than once, its refusals stand at the first of these references at whose attributes the
+//! instance is wanted that isn't served, one at each.
+//!
+//! A statement is read all the same as far as a part is looked for in it: an instance that is refused, in a string of which a
+//! statement seems to begin. Behind the part it is passed over.
 
 use crate::wants::could_want;
 use crate::way::Way;
 use p21_schema::Schema;
-use p21_stream::{At, Fault, Located, LocatedSurvey, Need, Place};
+use p21_stream::{At, Fault, Located, LocatedSurvey, Need, PassedOver, Place};
 use p21_tokens_automaton::{Action, Mode, TextMode, advance};
 use p21_values::{Name, NoMemory};
 use std::alloc::Global;
@@ -80,6 +84,9 @@ pub struct SecondReading {
     next_part: usize,
     part_byte: u64,
     next: usize,
+    // The statements that were passed over, and the number of the next one.
+    passed_over: Vec<PassedOver>,
+    next_passed: usize,
     // The part whose keyword is behind the bytes that were taken.
     pending: Option<usize>,
     taken: u64,
@@ -102,6 +109,8 @@ impl SecondReading {
             next_part: 0,
             part_byte: u64::MAX,
             next: 0,
+            passed_over: Vec::new(alloc),
+            next_passed: 0,
             pending: None,
             taken: 0,
             inside: Inside::Statement,
@@ -125,6 +134,12 @@ impl SecondReading {
                 break;
             };
             reading.want(number, &located, found.need(number))?;
+        }
+        for number in 0..usize::MAX {
+            let Some(statement) = found.passed_over(number) else {
+                break;
+            };
+            reading.passed_over.push(statement)?;
         }
         reading.begin();
         Ok(reading)
@@ -230,12 +245,40 @@ impl SecondReading {
             if self.is_over {
                 return;
             }
-            if self.taken == self.part_byte {
-                self.reach(*byte);
+            if !self.is_passed() {
+                if self.taken == self.part_byte {
+                    self.reach(*byte);
+                }
+                self.inside = self.behind(schema, *byte);
             }
-            self.inside = self.behind(schema, *byte);
             self.taken = self.taken.saturating_add(1);
         }
+    }
+
+    /// Whether the next byte is one of a statement that was passed over, and no part is looked for in it.
+    fn is_passed(&mut self) -> bool {
+        self.leave_passed();
+        match self.passed_over.get(self.next_passed) {
+            Some(PassedOver { begins, ends }) => {
+                self.taken >= *begins && self.part_byte >= *ends && self.pending.is_none()
+            }
+            None => false,
+        }
+    }
+
+    /// Stands between statements again where the next byte is the first one behind a statement that was passed over.
+    fn leave_passed(&mut self) {
+        let Some(PassedOver { ends, .. }) = self.passed_over.get(self.next_passed) else {
+            return;
+        };
+        if self.taken < *ends {
+            return;
+        }
+        self.next_passed = self.next_passed.saturating_add(1);
+        self.inside = Inside::Statement;
+        self.pending = None;
+        self.holder = None;
+        self.way.begin();
     }
 
     /// Stands in front of a part that is looked for, and of this byte.

@@ -11,7 +11,7 @@ use p21_express::SchemaFault;
 use p21_express_graph::Place as AttributePlace;
 use p21_express_places::SchemaPlace;
 use p21_schema::Schema;
-use p21_stream::{At, Extent, Fault, Located, LocatedSurvey, Place};
+use p21_stream::{At, Extent, Fault, Located, LocatedSurvey, PassedOver, Place, Surveyed};
 use p21_stream_numbered::NumberingRefusal;
 use p21_values::Name;
 use std::alloc::{AllocError, Global};
@@ -49,6 +49,14 @@ struct Subject<'s> {
     indices: &'s [u32],
 }
 
+/// What is told of a refusal: where it stands, what a second reading met of it, and its statement where that was passed over.
+#[derive(Clone, Copy)]
+struct Told<'r> {
+    located: &'r Located,
+    met: Option<Met<'r>>,
+    passed: Option<PassedOver>,
+}
+
 /// A line for each refusal of a survey, and for a read that failed.
 pub(crate) fn survey_lines(
     alloc: Global,
@@ -57,33 +65,70 @@ pub(crate) fn survey_lines(
     telling: &Telling<'_>,
 ) -> Result<String, AllocError> {
     let mut lines = String::new(alloc);
+    let mut next: usize = 0;
     for number in 0..usize::MAX {
         let Some(located) = found.located(number) else {
             return Ok(lines);
         };
-        push_line(alloc, schema, &located, number, telling, &mut lines)?;
+        let passed = passed_over(found, number, next);
+        if passed.is_some() {
+            next = next.saturating_add(1);
+        }
+        let told = Told {
+            located: &located,
+            met: telling.again.met(number),
+            passed,
+        };
+        push_told(alloc, schema, &told, telling, &mut lines)?;
     }
     Ok(lines)
 }
 
-/// Appends the line of the refusal of this number, or of a read that failed.
+/// The next of the statements that were passed over, if the refusal of this number is of it.
+fn passed_over(found: &LocatedSurvey, number: usize, next: usize) -> Option<PassedOver> {
+    let Surveyed::Refused(refusals) = &found.found else {
+        return None;
+    };
+    let statement = found.passed_over(next)?;
+    if statement.begins == *refusals.begins.get(number)? {
+        Some(statement)
+    } else {
+        None
+    }
+}
+
+/// Appends the line of the first refusal of a file, or of a read that failed.
 pub(crate) fn push_line(
     alloc: Global,
     schema: &Schema,
     located: &Located,
-    number: usize,
     telling: &Telling<'_>,
     lines: &mut String,
 ) -> Result<(), AllocError> {
-    if located.refusal.fault == Fault::Read {
+    let told = Told {
+        located,
+        met: telling.again.met(0),
+        passed: None,
+    };
+    push_told(alloc, schema, &told, telling, lines)
+}
+
+/// Appends the line of a refusal, or of a read that failed.
+fn push_told(
+    alloc: Global,
+    schema: &Schema,
+    told: &Told<'_>,
+    telling: &Telling<'_>,
+    lines: &mut String,
+) -> Result<(), AllocError> {
+    if told.located.refusal.fault == Fault::Read {
         push_front(telling, lines)?;
         lines.push_str("read fault\n")?;
         return Ok(());
     }
-    let met = telling.again.met(number);
     match telling.form {
-        Form::Text => push_text(alloc, schema, located, met, telling, lines),
-        Form::Json => push_object(alloc, schema, located, met, telling, lines),
+        Form::Text => push_text(alloc, schema, told, telling, lines),
+        Form::Json => push_object(alloc, schema, told, telling, lines),
     }
 }
 
@@ -100,13 +145,12 @@ pub(crate) fn push_front(telling: &Telling<'_>, lines: &mut String) -> Result<()
 fn push_text(
     alloc: Global,
     schema: &Schema,
-    located: &Located,
-    met: Option<Met<'_>>,
+    told: &Told<'_>,
     telling: &Telling<'_>,
     lines: &mut String,
 ) -> Result<(), AllocError> {
-    let refusal = &located.refusal;
-    match position_of(telling.lines, place_of(located, met)) {
+    let refusal = &told.located.refusal;
+    match position_of(telling.lines, place_of(told.located, told.met)) {
         Some(Position { line, column }) => {
             lines.push_str(telling.shown)?;
             lines.push_str(&format!(in alloc; ":{line}:{column}: ")?)?;
@@ -118,7 +162,7 @@ fn push_text(
     }
     let (number, name) = (refusal.number(), refusal.name());
     lines.push_str(&format!(in alloc; "{number} {name} {}", refusal.at)?)?;
-    if let Some(subject) = subject_of(schema, located, met) {
+    if let Some(subject) = subject_of(schema, told.located, told.met) {
         lines.push_str(": ")?;
         push_subject(subject, lines)?;
     }
@@ -129,23 +173,40 @@ fn push_text(
 fn push_object(
     alloc: Global,
     schema: &Schema,
-    located: &Located,
-    met: Option<Met<'_>>,
+    told: &Told<'_>,
     telling: &Telling<'_>,
     lines: &mut String,
 ) -> Result<(), AllocError> {
-    let refusal = &located.refusal;
+    let refusal = &told.located.refusal;
     lines.push_str("{\"file\":")?;
     push_json(alloc, telling.path, lines)?;
     let (number, name) = (refusal.number(), refusal.name());
     lines.push_str(&format!(in alloc; ",\"number\":{number},\"name\":\"{name}\"")?)?;
     push_location(alloc, refusal.at, lines)?;
-    push_place(alloc, telling.lines, place_of(located, met), lines)?;
-    if let Some(subject) = subject_of(schema, located, met) {
+    push_passed(alloc, told.passed, lines)?;
+    push_place(
+        alloc,
+        telling.lines,
+        place_of(told.located, told.met),
+        lines,
+    )?;
+    if let Some(subject) = subject_of(schema, told.located, told.met) {
         push_members(alloc, subject, lines)?;
     }
-    push_expected(located, lines)?;
+    push_expected(told.located, lines)?;
     lines.push_str("}\n")
+}
+
+/// Appends the member of a statement that was passed over: where it begins, and where the reading goes on.
+fn push_passed(
+    alloc: Global,
+    passed: Option<PassedOver>,
+    lines: &mut String,
+) -> Result<(), AllocError> {
+    let Some(PassedOver { begins, ends }) = passed else {
+        return Ok(());
+    };
+    lines.push_str(&format!(in alloc; ",\"passed\":[{begins},{ends}]")?)
 }
 
 /// Appends the member of the statement or the instance that a refusal names.
@@ -266,12 +327,14 @@ pub(crate) fn push_end(
         push_json(alloc, telling.path, lines)?;
         lines.push_str(",")?;
     }
-    let extent = match extent {
-        Extent::Whole => "whole",
-        Extent::Part => "part",
-        Extent::Most => "most",
-    };
-    lines.push_str(&format!(in alloc; "\"refusals\":{count},\"extent\":\"{extent}\"}}\n")?)
+    lines.push_str(&format!(in alloc; "\"refusals\":{count},\"extent\":")?)?;
+    match extent {
+        Extent::Whole => lines.push_str("\"whole\"}\n"),
+        Extent::ReadTo(bytes) => {
+            lines.push_str(&format!(in alloc; "\"part\",\"read\":{bytes}}}\n")?)
+        }
+        Extent::Most => lines.push_str("\"most\"}\n"),
+    }
 }
 
 /// Appends a text as a JSON string (RFC 8259, 7).

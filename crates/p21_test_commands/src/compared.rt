@@ -5,6 +5,7 @@ use crate::run::Row::{Compared, Leaves};
 use crate::run::{Rows, first_wrong};
 use crate::schemas::EMPTY;
 use crate::schemas::File::{self, Lines, Replaced, Text};
+use p21_commands::PairRows;
 use p21_commands::RowForm::{self, Json};
 
 const WITHOUT_INSTANCES: File = Text(EMPTY);
@@ -176,14 +177,16 @@ went #3 POINT\ncame #4 POINT\ndifferent: 3 changed, 1 came, 1 went\n",
     Leaves(
         DiffByPairs(
             RowForm::Text,
+            PairRows::Shown,
             Lines("#5=POINT($,1.,1.);#7=CLOUD((#5),(),(TALLY(1)));"),
         ),
         Lines("#1=CLOUD((#2),(),(TALLY(1)));#2=POINT($,1.,1.);"),
-        Answer("same\n"),
+        Answer("pair #2/#5\npair #1/#7\nsame\n"),
     ),
     Leaves(
         DiffByPairs(
             RowForm::Text,
+            PairRows::Hidden,
             Lines("#5=POINT($,1.,3.);#7=CLOUD((#5),(),(TALLY(1)));#1=ORIGIN($,*,1.);"),
         ),
         Lines(
@@ -195,7 +198,7 @@ different: 2 changed, 1 came, 1 went\n",
         ),
     ),
     Leaves(
-        DiffByPairs(RowForm::Text, DANGLING),
+        DiffByPairs(RowForm::Text, PairRows::Hidden, DANGLING),
         WITHOUT_INSTANCES,
         Refusal("second: refused 56 Dangling in #1\n"),
     ),

@@ -147,7 +147,7 @@ const BEGUN: &str =
 fn lists_before_it_fails(alloc: Global) -> bool {
     let schema = &mut DEMO.as_bytes();
     let run = check_all(alloc, schema, failing(BEGUN, 100), u64::MAX, AMPLE_ROOMS);
-    let lines = "refused 45 Count in #1\nread fault\nrefusals 1, the rest was not read\n";
+    let lines = "refused 45 Count in #1\nread fault\nrefusals 1, read 134 bytes\n";
     run.is(Failure("", lines))
 }
 

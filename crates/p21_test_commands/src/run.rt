@@ -2,8 +2,8 @@
 use crate::devices::{Behind, Full, SmallReader, SmallWriter};
 use crate::schemas::File;
 use p21_commands::{
-    Details, RowForm, canon_command, check_all_command, check_command, check_numbered_command,
-    diff_by_pairs_command, diff_command, numbered_command, param_command,
+    Details, PairRows, RowForm, canon_command, check_all_command, check_command,
+    check_numbered_command, diff_by_pairs_command, diff_command, numbered_command, param_command,
     same_but_for_names_command, same_command, schema_command, show_command, syntax_command,
 };
 use p21_stream::Watched;
@@ -261,7 +261,7 @@ fn lists_by_pairs(
     alloc: Global,
     schema: &str,
     first: &str,
-    (form, second): (RowForm, File),
+    (form, pairs, second): (RowForm, PairRows, File),
     rooms: Rooms,
     left: Left,
 ) -> bool {
@@ -276,6 +276,7 @@ fn lists_by_pairs(
         &mut Watched::new(first.as_bytes()),
         &mut Watched::new(second.as_bytes()),
         form,
+        pairs,
         &mut output,
         &mut faults,
     );
@@ -352,7 +353,7 @@ pub(crate) enum Command {
     /// With the form of rows and the second file.
     Diff(RowForm, File),
     /// The same, of instances that are paired.
-    DiffByPairs(RowForm, File),
+    DiffByPairs(RowForm, PairRows, File),
     Numbered,
     CheckNumbered,
     /// With the second file.
@@ -403,8 +404,8 @@ pub(crate) fn leaves_of(
         Command::Show(name) => show(alloc, &mut reader, bytes, name, rooms).is(left),
         Command::Same(second) => compares(alloc, declared, text, second, rooms, left),
         Command::Diff(form, second) => { lists(alloc, declared, text, (form, second), rooms, left) }
-        Command::DiffByPairs(form, second) => {
-            lists_by_pairs(alloc, declared, text, (form, second), rooms, left)
+        Command::DiffByPairs(form, pairs, second) => {
+            lists_by_pairs(alloc, declared, text, (form, pairs, second), rooms, left)
         }
         Command::Numbered => numbers(alloc, declared, text, rooms, left),
         Command::CheckNumbered => checks_numbers(alloc, declared, text, rooms, left),
@@ -545,7 +546,7 @@ impl Row {
             Row::Leaves(
                 Command::Same(file)
                 | Command::Diff(_, file)
-                | Command::DiffByPairs(_, file)
+                | Command::DiffByPairs(_, _, file)
                 | Command::SameButForNames(file),
                 _,
                 _,

@@ -64,23 +64,39 @@ const ROWS: Rows = &[
         Lines("#1=CLOUD((),(),(TALLY(1)));\n#1=POINT($,1.,1.);\n#3=CLOUD((#1),(),(TALLY(1)));\n"),
         Refusal("refused 40 DuplicateName in #1\nrefusals 1\n"),
     ),
-    // what ends the reading
+    // broken statements, which are passed over: then no name is missing
     Leaves(
         CheckAll(ALL),
         Lines("#1=CLOUD((#9),(),(TALLY(1)));\n#2=POINT($,1.);\n#3=POINT(;\n#4=FOO();\n"),
         Refusal(
-            "refused 45 Count in #2\nrefused 20 Unexpected at statement 10\nrefusals 2, the rest was not read\n",
+            "refused 45 Count in #2\nrefused 20 Unexpected at statement 10\nrefused 41 UnknownEntity in #4\nrefusals 3\n",
         ),
     ),
     Leaves(
         CheckAll(ALL),
         Lines("#1=point();\n"),
-        Refusal("refused 1 BadByte at statement 8\nrefusals 1, the rest was not read\n"),
+        Refusal("refused 1 BadByte at statement 8\nrefusals 1\n"),
     ),
+    Leaves(
+        CheckAll(2),
+        Lines("#1=point();\n#2=POINT('a'\n#3=POINT(;\n"),
+        Refusal(
+            "refused 1 BadByte at statement 8\nrefused 20 Unexpected at statement 9\nrefusals 2, no more were looked for\n",
+        ),
+    ),
+    // what ends the reading
     Leaves(
         CheckAll(ALL),
         Replaced("END-ISO-10303-21;\n", ""),
-        Refusal("refused 24 EndsEarly at statement 9\nrefusals 1, the rest was not read\n"),
+        Refusal("refused 24 EndsEarly at statement 9\nrefusals 1, read 134 bytes\n"),
+    ),
+    Leaves(
+        CheckAll(ALL),
+        Replaced(
+            "ENDSEC;\nEND-ISO-10303-21;\n",
+            "#1=point();\nEND-ISO-10303-21;\n",
+        ),
+        Refusal("refused 1 BadByte at statement 8\nrefusals 1, read 126 bytes\n"),
     ),
     // so many, of records and of references
     Leaves(

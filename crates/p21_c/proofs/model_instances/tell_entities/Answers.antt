@@ -15,14 +15,17 @@ loop-at-preserved c =
     let long = length-set c.loop-at.room c.loop-at.at c.in-Some.entity.0 in (
       long ∙ kept.0,
       omega (arith, long, within),
-      λ set told. one-told IsToldNumber (TellsEntities c.loop-at.left) (TellsEntities c.next.new.self) set c.loop-at.room c.loop-at.at c.in-Some.entity.0 within (kept.2 set told)
+      λ set told. one-told IsToldNumber (TellsEntities c.loop-at.left) (TellsEntities c.next.new.self) set c.loop-at.room c.loop-at.at
+          c.in-Some.entity.0 within (kept.2 set told)
           (λ rest left. entity-handed c.in-Some.entity c.next.new.self rest (c.in-Some.ensures.handed rest left)),
     )
 
 pub returns-in_default : goal.returns-in_default
 returns-in_default c set told =
-    all-told IsToldNumber (TellsEntities c.loop-at.left) set c.loop-at.room c.loop-at.at (c.loop-at.invariant.2 set told) (λ rest left. no-entity-left c.next.new.self rest (c.in_default.ensures.handed rest left))
+    all-told IsToldNumber (TellsEntities c.loop-at.left) set c.loop-at.room c.loop-at.at (c.loop-at.invariant.2 set told)
+    (λ rest left. no-entity-left c.next.new.self rest (c.in_default.ensures.handed rest left))
 
 pub returns : goal.returns
 returns c set told =
-    room-told IsToldNumber (TellsEntities c.loop-at.left) set c.loop-at.room (length c.loop-at.room) c.loop-at.at (omega (arith, c.loop-at.invariant.0, c.loop-at.invariant.1, c.loop-at-test.false)) refl (c.loop-at.invariant.2 set told)
+    room-told IsToldNumber (TellsEntities c.loop-at.left) set c.loop-at.room (length c.loop-at.room) c.loop-at.at
+    (omega (arith, c.loop-at.invariant.0, c.loop-at.invariant.1, c.loop-at-test.false)) refl (c.loop-at.invariant.2 set told)

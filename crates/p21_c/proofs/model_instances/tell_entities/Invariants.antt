@@ -6,4 +6,5 @@ use Rattle.p21_c.proofs.model_instances.tell_entities.Given as goal
 
 -- so many are told, and the others are left
 abbrev pub invariant-loop-at : goal.invariant-loop-at
-invariant-loop-at l = (length l.room ≡ length l.fn.room) × (l.at ≤ length l.room) × ((set : List ℕ) → TellsEntities l.fn.entities set → AreTold IsToldNumber (TellsEntities l.left) set l.room l.at)
+invariant-loop-at l = (length l.room ≡ length l.fn.room) × (l.at ≤ length l.room)
+    × ((set : List ℕ) → TellsEntities l.fn.entities set → AreTold IsToldNumber (TellsEntities l.left) set l.room l.at)

@@ -15,14 +15,18 @@ loop-at-preserved c =
     let long = length-set c.loop-at.room c.loop-at.at c.told.result in (
       long ∙ kept.0,
       omega (arith, long, within),
-      λ rows told. one-told IsToldRow (TellsRows c.loop-at.left) (TellsRows c.next.new.self) rows c.loop-at.room c.loop-at.at c.told.result within (kept.2 rows told)
-          (λ rest left. row-handed c.in-Some.attribute c.next.new.self c.told.result c.told.ensures rest (c.in-Some.ensures.handed rest left)),
+      λ rows told. one-told IsToldRow (TellsRows c.loop-at.left) (TellsRows c.next.new.self) rows c.loop-at.room c.loop-at.at c.told.result
+          within (kept.2 rows told)
+          (λ rest left. row-handed c.in-Some.attribute c.next.new.self c.told.result c.told.ensures rest
+          (c.in-Some.ensures.handed rest left)),
     )
 
 pub returns-in_default : goal.returns-in_default
 returns-in_default c rows told =
-    all-told IsToldRow (TellsRows c.loop-at.left) rows c.loop-at.room c.loop-at.at (c.loop-at.invariant.2 rows told) (λ rest left. no-row c.next.new.self rest (c.in_default.ensures.handed rest left))
+    all-told IsToldRow (TellsRows c.loop-at.left) rows c.loop-at.room c.loop-at.at (c.loop-at.invariant.2 rows told)
+    (λ rest left. no-row c.next.new.self rest (c.in_default.ensures.handed rest left))
 
 pub returns : goal.returns
 returns c rows told =
-    room-told IsToldRow (TellsRows c.loop-at.left) rows c.loop-at.room (length c.loop-at.room) c.loop-at.at (omega (arith, c.loop-at.invariant.0, c.loop-at.invariant.1, c.loop-at-test.false)) refl (c.loop-at.invariant.2 rows told)
+    room-told IsToldRow (TellsRows c.loop-at.left) rows c.loop-at.room (length c.loop-at.room) c.loop-at.at
+    (omega (arith, c.loop-at.invariant.0, c.loop-at.invariant.1, c.loop-at-test.false)) refl (c.loop-at.invariant.2 rows told)

@@ -15,8 +15,10 @@ loop-at-preserved c =
     let long = length-set c.loop-at.room c.loop-at.at c.told.result in (
       long ∙ kept.0,
       omega (arith, long, within),
-      one-told IsToldUse (λ left. left ≡ c.loop-at.left) (λ left. left ≡ c.next.new.self) c.args.uses c.loop-at.room c.loop-at.at c.told.result within kept.2
-          (λ rest same. use-handed c.in-Some.found c.told.result rest c.next.new.self c.told.ensures (subst (λ old. HandsOutUse old (Some c.in-Some.found) c.next.new.self) (sym same) c.in-Some.ensures)),
+      one-told IsToldUse (λ left. left ≡ c.loop-at.left) (λ left. left ≡ c.next.new.self) c.args.uses c.loop-at.room c.loop-at.at
+          c.told.result within kept.2
+          (λ rest same. use-handed c.in-Some.found c.told.result rest c.next.new.self c.told.ensures
+          (subst (λ old. HandsOutUse old (Some c.in-Some.found) c.next.new.self) (sym same) c.in-Some.ensures)),
     )
 
 pub returns-in_default : goal.returns-in_default
@@ -26,4 +28,5 @@ returns-in_default c =
 
 pub returns : goal.returns
 returns c =
-    room-told IsToldUse (λ left. left ≡ c.loop-at.left) c.args.uses c.loop-at.room (length c.loop-at.room) c.loop-at.at (omega (arith, c.loop-at.invariant.0, c.loop-at.invariant.1, c.loop-at-test.false)) refl c.loop-at.invariant.2
+    room-told IsToldUse (λ left. left ≡ c.loop-at.left) c.args.uses c.loop-at.room (length c.loop-at.room) c.loop-at.at
+    (omega (arith, c.loop-at.invariant.0, c.loop-at.invariant.1, c.loop-at-test.false)) refl c.loop-at.invariant.2

@@ -8,4 +8,5 @@ use Rattle.p21_c.proofs.model_values.tell_characters.Given as goal
 abbrev pub invariant-loop-at : goal.invariant-loop-at
 invariant-loop-at l =
     (length l.room ≡ length l.fn.room) × (l.at ≤ length l.room)
-    × ((cs : List ℕ) → AreLeftCharacters cs l.fn.characters.rest.now → AreTold IsToldNumber (λ left. AreLeftCharacters left l.left.rest.now) cs l.room l.at)
+    × ((cs : List ℕ) → AreLeftCharacters cs l.fn.characters.rest.now
+    → AreTold IsToldNumber (λ left. AreLeftCharacters left l.left.rest.now) cs l.room l.at)

@@ -4,4 +4,10 @@ use Rattle.p21_c.specs.declared.contents.Content.{Content}
 use Rattle.p21_c.proofs.names.name_under.Goals as goal
 
 pub returns-in-Some : goal.returns-in-Some
-returns-in-Some c = inl (c.in-Ok.text.items, c.in-Ok.ensures, subst (λ (held : Content). HoldsText (Some held) c.in-Ok.text.items) (sym c.in-Some.ensures) refl, refl)
+returns-in-Some c = inl (
+  c.in-Ok.text.items,
+  c.in-Ok.ensures,
+  subst (λ (held : Content). HoldsText (Some held) c.in-Ok.text.items)
+      (sym c.in-Some.ensures) refl,
+  refl,
+)

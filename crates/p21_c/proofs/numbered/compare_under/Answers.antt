@@ -7,7 +7,8 @@ use Rattle.p21_c.proofs.numbered.compare_under.Goals as goal
 
 pub returns-in-Err-canonical_text : goal.returns-in-Err-canonical_text
 returns-in-Err-canonical_text c =
-    second-refused c.args.schema.now c.numbering_claim.ensures.formed c.args.first.now c.args.second.now c.in-Ok.text.items c.in-Ok.ensures.ok c.numbering_claim.ensures.claim c.in-Err-canonical_text.placed.answer c.in-Err-canonical_text.ensures.err
+    second-refused c.args.schema.now c.numbering_claim.ensures.formed c.args.first.now c.args.second.now c.in-Ok.text.items
+    c.in-Ok.ensures.ok c.numbering_claim.ensures.claim c.in-Err-canonical_text.placed.answer c.in-Err-canonical_text.ensures.err
 
 pub are_same_but_for_names-requires-clause-one : goal.are_same_but_for_names-requires-clause-one
 are_same_but_for_names-requires-clause-one c =
@@ -29,14 +30,16 @@ returns-in-Ok-are_same_but_for_names c =
     let L : Limits → Type 0 = λ limits. TellsTexts s limits c.deref.result.now c.deref-2.result.now (Ok same) in
     let A : List ℕ → Type 0 = λ one. TellsTexts s usual one c.deref-2.result.now (Ok same) in
     let B : List ℕ → Type 0 = λ other. TellsTexts s usual c.in-Ok.text.items other (Ok same) in
-    let tells = subst B c.deref-2.ensures.value (subst A c.deref.ensures.value (subst L c.usual.ensures c.in-Ok-are_same_but_for_names.ensures)) in (
+    let tells = subst B c.deref-2.ensures.value (subst A c.deref.ensures.value
+    (subst L c.usual.ensures c.in-Ok-are_same_but_for_names.ensures)) in (
       c.numbering_claim.ensures.claim,
       inl (
         same,
         refl,
         source-accepted s formed c.args.first.now c.in-Ok.text.items c.in-Ok.ensures.ok,
         source-accepted s formed c.args.second.now c.in-Ok-canonical_text.text.items c.in-Ok-canonical_text.ensures.ok,
-        sources-told s formed c.args.first.now c.args.second.now c.in-Ok.text.items c.in-Ok-canonical_text.text.items c.in-Ok.ensures.ok c.in-Ok-canonical_text.ensures.ok same tells,
+        sources-told s formed c.args.first.now c.args.second.now c.in-Ok.text.items c.in-Ok-canonical_text.text.items c.in-Ok.ensures.ok
+            c.in-Ok-canonical_text.ensures.ok same tells,
         c.placeless.ensures ∙ c.done.ensures,
       ),
     )
@@ -48,7 +51,8 @@ returns c =
     let L : Limits → Type 0 = λ limits. TellsTexts s limits c.deref.result.now c.deref-2.result.now (Err fault) in
     let A : List ℕ → Type 0 = λ one. TellsTexts s usual one c.deref-2.result.now (Err fault) in
     let B : List ℕ → Type 0 = λ other. TellsTexts s usual c.in-Ok.text.items other (Err fault) in
-    let tells = subst B c.deref-2.ensures.value (subst A c.deref.ensures.value (subst L c.usual.ensures c.in-Err-are_same_but_for_names.ensures)) in (
+    let tells = subst B c.deref-2.ensures.value (subst A c.deref.ensures.value
+    (subst L c.usual.ensures c.in-Err-are_same_but_for_names.ensures)) in (
       c.numbering_claim.ensures.claim,
       inr
           (
@@ -57,7 +61,8 @@ returns c =
           inr (
             fault,
             c.statement_behind.result,
-            sources-untold s c.numbering_claim.ensures.formed c.args.first.now c.args.second.now c.in-Ok.text.items c.in-Ok-canonical_text.text.items c.in-Ok.ensures.ok c.in-Ok-canonical_text.ensures.ok fault tells,
+            sources-untold s c.numbering_claim.ensures.formed c.args.first.now c.args.second.now c.in-Ok.text.items
+                c.in-Ok-canonical_text.text.items c.in-Ok.ensures.ok c.in-Ok-canonical_text.ensures.ok fault tells,
             c.placeless-in-Err-are_same_but_for_names.ensures ∙ c.untold.ensures,
             refl,
           )

@@ -20,8 +20,15 @@ returns-in-Ok-numbered_text c =
     let text = output_text c.in-Ok-numbered_text.output in
     let L : Limits → Type 0 = λ limits. IsNumberedFile s limits (ranking_of s) c.deref-2.result.now text in
     let N : List ℕ → Type 0 = λ bytes. IsNumberedFile s usual (ranking_of s) bytes text in
-    let numbered = subst N c.deref-2.ensures.value (subst L c.usual.ensures c.in-Ok-numbered_text.ensures) in
-    (c.numbering_claim.ensures.claim, inl (c.in-Ok-numbered_text.output, source-numbered s c.numbering_claim.ensures.formed c.args.file.now c.in-Ok.text.items text c.in-Ok.ensures.ok numbered, c.held.ensures))
+    let numbered = subst N c.deref-2.ensures.value (subst L c.usual.ensures c.in-Ok-numbered_text.ensures) in (
+      c.numbering_claim.ensures.claim,
+      inl (
+        c.in-Ok-numbered_text.output,
+        source-numbered s c.numbering_claim.ensures.formed c.args.file.now
+            c.in-Ok.text.items text c.in-Ok.ensures.ok numbered,
+        c.held.ensures,
+      ),
+    )
 
 pub returns : goal.returns
 returns c =
@@ -29,5 +36,14 @@ returns c =
     let fault = c.in-Err-numbered_text.fault in
     let L : Limits → Type 0 = λ limits. HasNone s limits c.deref-2.result.now fault in
     let N : List ℕ → Type 0 = λ bytes. HasNone s usual bytes fault in
-    let none = subst N c.deref-2.ensures.value (subst L c.usual.ensures c.in-Err-numbered_text.ensures) in
-    (c.numbering_claim.ensures.claim, inr (inr (fault, c.statement_behind-statement.result, source-none s c.numbering_claim.ensures.formed c.args.file.now c.in-Ok.text.items fault c.in-Ok.ensures.ok none, c.placeless.ensures ∙ c.untold.ensures, refl)))
+    let none = subst N c.deref-2.ensures.value (subst L c.usual.ensures c.in-Err-numbered_text.ensures) in (
+      c.numbering_claim.ensures.claim,
+      inr (inr (
+        fault,
+        c.statement_behind-statement.result,
+        source-none s c.numbering_claim.ensures.formed
+            c.args.file.now c.in-Ok.text.items fault c.in-Ok.ensures.ok none,
+        c.placeless.ensures ∙ c.untold.ensures,
+        refl,
+      )),
+    )

@@ -6,7 +6,8 @@ use Rattle.p21_c.proofs.sessions.feed.Goals as goal
 
 pub returns : goal.returns
 returns c =
-    subst (λ (held : Option SessionHeld). Feeds held c.args.piece.now c.answer_to_feed-answer.result (boxed_content c.args.held) (boxed_content c.put_session.result))
+    subst (λ (held : Option SessionHeld). Feeds held c.args.piece.now c.answer_to_feed-answer.result (boxed_content c.args.held)
+    (boxed_content c.put_session.result))
     (sym (ap session_in c.in-Session.ensures)) (
       c.feed.result,
       c.feed.new.self,

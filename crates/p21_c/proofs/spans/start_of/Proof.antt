@@ -36,11 +36,17 @@ start_of_spec 𝓤 𝓛 𝓜 𝓡 wired =
     proved 𝓛 F.ended stayed c 𝓜 𝓡 (Goes-dropped 𝓛 1 From yes (λ κs x f. refl), tt) #self code.function (code.unfolded 𝓤 𝓛.H 𝓜 𝓡 wired)
     (λ κs. (shr_slice_vals, tt)) (λ κs. (shr_slice_Tells (named 0) κs.0 u8, tt)) (λ κs qs bounds a n are.
     let b = a.0.ref_ptr.0 in let o = a.0.ref_ptr.1 in
-    let y : (walk_of 𝓛 F.ended stayed c).Ghost = ((κs, qs, bounds, a, (shr_slice_vals a.0, tt)), tt) in let Post : Val → SProp 𝓤 = (walk_of 𝓛 F.ended stayed c).post y in
-    let exits : ent 𝓤 (sep 𝓤 (alive 𝓛 (F.ended).signature κs qs) (sem 𝓛 (RawPtr.own_val (block_ptr b o) (vptr b o ∷ [])))) (Post (vptr b o)) =
-    qed 𝓛 (raw (alive 𝓛 (F.ended).signature κs qs) ∷ ‵ (RawPtr.own_val (block_ptr b o) (vptr b o ∷ [])) ∷ []) ∵ suffices ! _ (ends_at 𝓛 F.ended stayed c y (vptr b o) (block_ptr b o) (tt, tt) (tt, tt)) $ says ! refl $
+    let y : (walk_of 𝓛 F.ended stayed c).Ghost = ((κs, qs, bounds, a, (shr_slice_vals a.0, tt)), tt) in let Post : Val
+    → SProp 𝓤 = (walk_of 𝓛 F.ended stayed c).post y in
+    let exits : ent 𝓤 (sep 𝓤 (alive 𝓛 (F.ended).signature κs qs) (sem 𝓛 (RawPtr.own_val (block_ptr b o) (vptr b o ∷ []))))
+    (Post (vptr b o)) =
+    qed 𝓛 (raw (alive 𝓛 (F.ended).signature κs qs) ∷ ‵ (RawPtr.own_val (block_ptr b o) (vptr b o ∷ [])) ∷ []) ∵ suffices ! _
+    (ends_at 𝓛 F.ended stayed c y (vptr b o) (block_ptr b o) (tt, tt) (tt, tt)) $ says ! refl $
     nothing ! $ nothing ! $ fjoin ! $ move ! (0 ∷ 2 ∷ []) $ join ! $ move ! (1 ∷ 0 ∷ []) $ join ! $ done ! in
-    qed 𝓛 ((raw (alive 𝓛 (F.ended).signature κs qs) ⊛ ‵ (owns (types_at (F.ended).signature.params κs) a (shr_slice_vals a.0, tt))) ∷ raw ((c κs a).requires n) ∷ []) ∵ split ! $ keep ! (0 ∷ []) $
-    enter ! 𝓣.C 𝓣.Λ code.function (slice_val (b, o) (length a.0.now) ∷ []) Post $ alloc_all ! (λ l. pass_all ! refl ((tt, (tt, (record { fits = are.0.0.1.0 }, tt))), tt) $
+    qed 𝓛 ((raw (alive 𝓛 (F.ended).signature κs qs) ⊛ ‵ (owns (types_at (F.ended).signature.params κs) a (shr_slice_vals a.0, tt))) ∷ raw
+    ((c κs a).requires n) ∷ []) ∵ split ! $ keep ! (0 ∷ []) $
+    enter ! 𝓣.C 𝓣.Λ code.function (slice_val (b, o) (length a.0.now) ∷ []) Post $ alloc_all !
+    (λ l. pass_all ! refl ((tt, (tt, (record { fits = are.0.0.1.0 }, tt))), tt) $
     sets ! (addr ! (from ! (fld ! refl (hop ! (look_in_at ! 1 (sub ! 0 refl (whole !))) (stop !))))) refl (tt, tt) $
-    returns ! (look_at ! 0 refl) $ free_all ! refl $ feq_i ! (List Val) (vptr b o ∷ []) (vptr b o ∷ []) refl $ keep ! (1 ∷ 0 ∷ []) $ by ! exits))
+    returns ! (look_at ! 0 refl) $ free_all ! refl $ feq_i ! (List Val) (vptr b o ∷ []) (vptr b o ∷ []) refl $ keep ! (1 ∷ 0 ∷ []) $ by !
+    exits))

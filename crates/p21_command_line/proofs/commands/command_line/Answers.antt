@@ -15,4 +15,5 @@ returns c =
     let same = adds show c.in_ok-same.ensures.app c.in_ok-same.ensures.local c.in_ok-subcommand-7.ensures in
     let diff_is = c.in_ok-diff.ensures.app in
     let diff = adds same diff_is.2 c.in_ok-diff.ensures.local c.in_ok-subcommand-8.ensures in
-    IfOk-weaker _ _ _ (λ new added. of_all_forms new program_app (record { of_check = check_is.0; of_diff = diff_is.0 }) (check_is.1, diff_is.1) (adds diff c.in_ok-faults.ensures.app c.in_ok-faults.ensures.local added)) c.subcommand-9.ensures
+    IfOk-weaker _ _ _ (λ new added. of_all_forms new program_app (record { of_check = check_is.0; of_diff = diff_is.0 })
+    (check_is.1, diff_is.1) (adds diff c.in_ok-faults.ensures.app c.in_ok-faults.ensures.local added)) c.subcommand-9.ensures

@@ -10,8 +10,11 @@ pub returns-in-Err-clause-ends : goal.returns-in-Err-clause-ends
 returns-in-Err-clause-ends g c =
     let schema = failures_of c.args.schema.now c.load_schema.new.reader in
     let file = failures_of c.args.file.now c.args.file.now in
-    ends-unanswered _ _ (schema ∷ file ∷ []) g.W.Write.contents c.args.output.now _ c.in-Err.fault _ (schema-refused _ _ c.in-Err.fault c.in-Err.ensures.err) (before_reading schema (file ∷ []) [] c.in-Err.fault c.in-Err.ensures.failed (refl, tt)) c.report.ensures
+    ends-unanswered _ _ (schema ∷ file ∷ []) g.W.Write.contents c.args.output.now _ c.in-Err.fault _
+    (schema-refused _ _ c.in-Err.fault c.in-Err.ensures.err)
+    (before_reading schema (file ∷ []) [] c.in-Err.fault c.in-Err.ensures.failed (refl, tt)) c.report.ensures
 
 pub returns-in-Ok-clause-ends : goal.returns-in-Ok-clause-ends
 returns-in-Ok-clause-ends g c =
-    c.check_file_located.ensures.ends (stream_of g.S.Read.remaining c.args.schema.now c.load_schema.new.reader) (record { declares = c.in-Ok.ensures.ok; unfailed = (c.in-Ok.ensures.read, tt) })
+    c.check_file_located.ensures.ends (stream_of g.S.Read.remaining c.args.schema.now c.load_schema.new.reader)
+    (record { declares = c.in-Ok.ensures.ok; unfailed = (c.in-Ok.ensures.read, tt) })

@@ -12,7 +12,8 @@ returns-in-Ok-Accepted-clause-ends g c = λ schema declares.
     let line = rw c.in-Ok-Accepted.field-0-is at said in
     let read = rw c.in-Ok-Accepted.field-0-is at c.in-Ok-Accepted.ensures.read in
     let IsAnswer = IsChecked schema.before (g.R.Read.remaining c.args.file.now.inner) (g.R.Read.remaining c.find_answer.new.file.inner) in
-    listing-ends _ _ _ (ends-with IsAnswer _ (schema.failures ∷ []) _ _ _ _ (subst IsAnswer (sym c.as_bytes.ensures.value) line) declares.unfailed c.answer.ensures) read
+    listing-ends _ _ _ (ends-with IsAnswer _ (schema.failures ∷ []) _ _ _ _ (subst IsAnswer (sym c.as_bytes.ensures.value) line)
+    declares.unfailed c.answer.ensures) read
 
 pub returns-in-Ok-Refused-clause-ends : goal.returns-in-Ok-Refused-clause-ends
 returns-in-Ok-Refused-clause-ends g c = λ schema declares.
@@ -30,11 +31,13 @@ returns-in-Ok-Unread-clause-ends g c = λ schema declares.
     listing-unread _ _ _ refl (record {
       text = string_bytes c.in-Ok-Unread.lines;
       is_text = inl text;
-      gets = text-gets w.result (stream_of g.F.Write.contents c.args.faults.now w.new.writer) _ _ c.as_bytes-in-Ok-Unread.ensures.value w.ensures.ok w.ensures.err w.ensures.written w.ensures.failed;
+      gets = text-gets w.result (stream_of g.F.Write.contents c.args.faults.now w.new.writer) _ _ c.as_bytes-in-Ok-Unread.ensures.value
+          w.ensures.ok w.ensures.err w.ensures.written w.ensures.failed;
       unwritten = Keeps-refl _;
       failed = read;
       others = (declares.unfailed.0, (refl, tt));
     })
 
 pub returns-in-Err-clause-ends : goal.returns-in-Err-clause-ends
-returns-in-Err-clause-ends g c = λ schema declares. memory-listing _ schema _ _ g.W.Write.contents c.args.output.now declares.unfailed _ c.in-Err.ensures.failed c.report-in-Err.ensures
+returns-in-Err-clause-ends g c = λ schema declares. memory-listing _ schema _ _ g.W.Write.contents c.args.output.now declares.unfailed _
+    c.in-Err.ensures.failed c.report-in-Err.ensures

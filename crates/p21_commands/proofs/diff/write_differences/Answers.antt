@@ -10,42 +10,54 @@ use Rattle.p21_commands.proofs.Differing.{first-listed}
 use Rattle.p21_commands.proofs.diff.write_differences.Goals as goal
 
 pub returns-in-Err-clause-err : goal.returns-in-Err-clause-err
-returns-in-Err-clause-err g c = comparing-fails _ _ _ _ _ _ _ _ usual _ _ _ _ refl c.in_ok-schema.ensures.ok c.word_of.ensures c.fault_of.ensures c.in-Err.ensures.err
+returns-in-Err-clause-err g c = comparing-fails _ _ _ _ _ _ _ _ usual _ _ _ _ refl c.in_ok-schema.ensures.ok c.word_of.ensures
+    c.fault_of.ensures c.in-Err.ensures.err
 
 pub returns-in-Ok-write_whole-clause-ok : goal.returns-in-Ok-write_whole-clause-ok
 returns-in-Ok-write_whole-clause-ok g c =
     let schema = g.S.Read.remaining c.args.schema.now.inner in
-    let read = read_of schema (g.A.Read.remaining c.args.first.now.inner) (g.A.Read.remaining c.differences.new.first.inner) (g.B.Read.remaining c.args.second.now.inner) (g.B.Read.remaining c.differences.new.second.inner) in
+    let read = read_of schema (g.A.Read.remaining c.args.first.now.inner) (g.A.Read.remaining c.differences.new.first.inner)
+    (g.B.Read.remaining c.args.second.now.inner) (g.B.Read.remaining c.differences.new.second.inner) in
     let IsText : List ℕ → Type 0 = λ text. IsDifferenceList c.args.form read c.in-Ok.found.is_same text in
     record {
       line = c.deref.result.now;
-      is_line = subst IsText (sym c.deref.ensures.value) (record { declared = c.in_ok-schema.schema; declares = c.in_ok-schema.ensures.ok; lists = c.in-Ok.ensures.ok schema });
+      is_line = subst IsText (sym c.deref.ensures.value)
+          (record { declared = c.in_ok-schema.schema; declares = c.in_ok-schema.ensures.ok; lists = c.in-Ok.ensures.ok schema });
       appended = c.in-Ok-write_whole.ensures.ok;
     }
 
 pub returns-clause-err : goal.returns-clause-err
 returns-clause-err g c =
     let schema = g.S.Read.remaining c.args.schema.now.inner in
-    let read = read_of schema (g.A.Read.remaining c.args.first.now.inner) (g.A.Read.remaining c.differences.new.first.inner) (g.B.Read.remaining c.args.second.now.inner) (g.B.Read.remaining c.differences.new.second.inner) in
+    let read = read_of schema (g.A.Read.remaining c.args.first.now.inner) (g.A.Read.remaining c.differences.new.first.inner)
+    (g.B.Read.remaining c.args.second.now.inner) (g.B.Read.remaining c.differences.new.second.inner) in
     let IsText : List ℕ → Type 0 = λ text. IsDifferenceList c.args.form read c.in-Ok.found.is_same text in
-    answer-fails (IsEither (IsDifferenceList c.args.form read)) (IsRefused read) _ _ c.deref.result.now c.in-Err-write_whole.fault
-    (c.in-Ok.found.is_same, subst IsText (sym c.deref.ensures.value) (record { declared = c.in_ok-schema.schema; declares = c.in_ok-schema.ensures.ok; lists = c.in-Ok.ensures.ok schema }))
+    answer-fails (IsEither (IsDifferenceList c.args.form read)) (IsRefused read) _ _ c.deref.result.now c.in-Err-write_whole.fault (
+      c.in-Ok.found.is_same,
+      subst IsText (sym c.deref.ensures.value)
+          (record { declared = c.in_ok-schema.schema; declares = c.in_ok-schema.ensures.ok; lists = c.in-Ok.ensures.ok schema }),
+    )
     c.in-Err-write_whole.ensures.err c.in-Err-write_whole.ensures.fault
 
 pub returns-in-Err-clause-failed : goal.returns-in-Err-clause-failed
 returns-in-Err-clause-failed g c =
     let first = failures_of c.args.first.now c.differences.new.first in
     let second = failures_of c.args.second.now c.differences.new.second in
-    let compared_failed = comparing-failed _ usual _ _ _ _ c.word_of.result.now first second c.in-Err.which c.in-Err.refusal c.fault_of.result c.fault_of.ensures c.in-Err.ensures.err c.in-Err.ensures.failed_first c.in-Err.ensures.failed_second in
+    let compared_failed = comparing-failed _ usual _ _ _ _ c.word_of.result.now first second c.in-Err.which c.in-Err.refusal
+    c.fault_of.result c.fault_of.ensures c.in-Err.ensures.err c.in-Err.ensures.failed_first c.in-Err.ensures.failed_second in
     let loaded = failures_of c.args.schema.now c.load_schema.new.reader in
     let read_failed = after_reading loaded (first ∷ second ∷ []) [] c.fault_of.result c.in_ok-schema.ensures.read compared_failed in
-    before_writing (loaded ∷ first ∷ second ∷ []) (failures_of c.args.output.now c.args.output.now ∷ []) c.fault_of.result read_failed (refl, tt)
+    before_writing (loaded ∷ first ∷ second ∷ []) (failures_of c.args.output.now c.args.output.now ∷ []) c.fault_of.result read_failed
+    (refl, tt)
 
 pub returns-in-Err-clause-order : goal.returns-in-Err-clause-order
-returns-in-Err-clause-order g c = first-or_accepted (c.differences.new.second ≡ c.args.second.now) _ _ _ _ _ _ usual _ _ refl c.in_ok-schema.ensures.ok c.in-Err.ensures.err c.in-Err.ensures.order
+returns-in-Err-clause-order g c = first-or_accepted (c.differences.new.second ≡ c.args.second.now) _ _ _ _ _ _ usual _ _ refl
+    c.in_ok-schema.ensures.ok c.in-Err.ensures.err c.in-Err.ensures.order
 
 pub returns-in-Ok-write_whole-clause-order : goal.returns-in-Ok-write_whole-clause-order
-returns-in-Ok-write_whole-clause-order g c = inr (first-listed _ _ _ _ _ _ _ _ _ c.in_ok-schema.ensures.ok (c.in-Ok.ensures.ok (g.S.Read.remaining c.args.schema.now.inner)))
+returns-in-Ok-write_whole-clause-order g c = inr (first-listed _ _ _ _ _ _ _ _ _ c.in_ok-schema.ensures.ok
+    (c.in-Ok.ensures.ok (g.S.Read.remaining c.args.schema.now.inner)))
 
 pub returns-clause-order : goal.returns-clause-order
-returns-clause-order g c = inr (first-listed _ _ _ _ _ _ _ _ _ c.in_ok-schema.ensures.ok (c.in-Ok.ensures.ok (g.S.Read.remaining c.args.schema.now.inner)))
+returns-clause-order g c = inr (first-listed _ _ _ _ _ _ _ _ _ c.in_ok-schema.ensures.ok
+    (c.in-Ok.ensures.ok (g.S.Read.remaining c.args.schema.now.inner)))

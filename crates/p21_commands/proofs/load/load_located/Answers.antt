@@ -6,5 +6,6 @@ pub returns-in-Ok-declared_schema-clause-ok : goal.returns-in-Ok-declared_schema
 returns-in-Ok-declared_schema-clause-ok g c = record {
   text = c.in-Ok.text.items;
   gives = c.in-Ok.ensures.text;
-  declares = subst (λ (text : List ℕ). Declares text c.in-Ok-declared_schema.declared) c.as_slice.ensures.value c.in-Ok-declared_schema.ensures;
+  declares = subst (λ (text : List ℕ). Declares text c.in-Ok-declared_schema.declared) c.as_slice.ensures.value
+      c.in-Ok-declared_schema.ensures;
 }

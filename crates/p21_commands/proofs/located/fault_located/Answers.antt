@@ -8,7 +8,8 @@ pub returns : goal.returns
 returns c =
     let told : IsToldBy c.fault_of.result c.match-fault_of.result = elim c.match-fault_of.branch [
       | in-Refused w ↦
-          subst (IsToldBy c.fault_of.result) (sym w.result-is) (subst (λ (fault : CommandFault). IsToldBy fault w.own_line.result) (sym w.in-Refused.is) w.own_line.ensures)
+          subst (IsToldBy c.fault_of.result) (sym w.result-is)
+          (subst (λ (fault : CommandFault). IsToldBy fault w.own_line.result) (sym w.in-Refused.is) w.own_line.ensures)
       | in-NoMemory w ↦ subst (λ (fault : CommandFault). IsToldBy fault c.match-fault_of.result) (sym w.in-NoMemory.is) w.result-is
       | in-Read w ↦ subst (λ (fault : CommandFault). IsToldBy fault c.match-fault_of.result) (sym w.in-Read.is) w.result-is
       | in-Write w ↦ subst (λ (fault : CommandFault). IsToldBy fault c.match-fault_of.result) (sym w.in-Write.is) w.result-is

@@ -11,7 +11,11 @@ returns-in-Ok g c =
     let faults = stream_of g.F.Write.contents c.args.faults.now c.write_refused.new.faults in
     let list = c.deref.ensures.value in
     let last = counts-last c.args.telling.now.form c.args.refusals.now text (λ is.
-    let (front, same) = c.in-Ok.ensures is in
-    (front, subst (λ (n : ℕ). text ≡ front ++ count_line n c.args.refusals.now.extent) (c.count_of-count.ensures.count ∙ ap listed_count list) same)) in
-    let writes = subst (λ (unread : Bool). WritesLines text unread faults c.write_refused.result) (c.count_of-count.ensures.unread ∙ ap has_read_fault list) c.write_refused.ensures in
+    let (front, same) = c.in-Ok.ensures is in (
+      front,
+      subst (λ (n : ℕ). text ≡ front ++ count_line n c.args.refusals.now.extent)
+          (c.count_of-count.ensures.count ∙ ap listed_count list) same,
+    )) in
+    let writes = subst (λ (unread : Bool). WritesLines text unread faults c.write_refused.result)
+    (c.count_of-count.ensures.unread ∙ ap has_read_fault list) c.write_refused.ensures in
     inl (text, last, writes)

@@ -7,4 +7,5 @@ pub returns-in-Ok-clause-tells : goal.returns-in-Ok-clause-tells
 returns-in-Ok-clause-tells g c =
     let output = stream_of g.W.Write.contents c.args.output.now c.answer.new.output in
     let faults = stream_of g.F.Write.contents c.args.faults.now c.answer.new.faults in
-    inl (subst (λ (line : List ℕ). AnswersWith line c.answer.result output faults) (c.as_bytes.ensures.value ∙ c.in-Ok.ensures) c.answer.ensures)
+    inl (subst (λ (line : List ℕ). AnswersWith line c.answer.result output faults) (c.as_bytes.ensures.value ∙ c.in-Ok.ensures)
+    c.answer.ensures)

@@ -7,7 +7,9 @@ use Rattle.p21_commands.proofs.param.param_command.Goals as goal
 pub returns-in-Ok-clause-ends : goal.returns-in-Ok-clause-ends
 returns-in-Ok-clause-ends g c =
     let IsAnswer = IsAnswered (g.R.Read.remaining c.args.input.now.inner) in
-    ends-with IsAnswer _ (failures_of c.args.input.now c.param_line.new.input ∷ []) _ _ _ _ (subst IsAnswer (sym c.deref.ensures.value) c.in-Ok.ensures.ok) (c.in-Ok.ensures.read, tt) c.answer.ensures
+    ends-with IsAnswer _ (failures_of c.args.input.now c.param_line.new.input ∷ []) _ _ _ _
+    (subst IsAnswer (sym c.deref.ensures.value) c.in-Ok.ensures.ok) (c.in-Ok.ensures.read, tt) c.answer.ensures
 
 pub returns-in-Err-clause-ends : goal.returns-in-Err-clause-ends
-returns-in-Err-clause-ends g c = ends-unanswered _ _ (failures_of c.args.input.now c.param_line.new.input ∷ []) g.W.Write.contents c.args.output.now _ c.in-Err.fault _ c.in-Err.ensures.err c.in-Err.ensures.failed c.report.ensures
+returns-in-Err-clause-ends g c = ends-unanswered _ _ (failures_of c.args.input.now c.param_line.new.input ∷ []) g.W.Write.contents
+    c.args.output.now _ c.in-Err.fault _ c.in-Err.ensures.err c.in-Err.ensures.failed c.report.ensures

@@ -25,6 +25,7 @@ loop-number-preserved c =
 
 pub returns : goal.returns
 returns c = record {
-  size = c.loop-number.invariant.0 ∙ (let end : c.loop-number.number ≡ length c.args.schema.now.entities = omega (arith, c.entities-number-end.ensures, c.loop-number-test.false, c.loop-number.auto.number-end) in end);
+  size = c.loop-number.invariant.0 ∙ (let end : c.loop-number.number ≡ length c.args.schema.now.entities =
+      omega (arith, c.entities-number-end.ensures, c.loop-number-test.false, c.loop-number.auto.number-end) in end);
   each = c.loop-number.invariant.1;
 }

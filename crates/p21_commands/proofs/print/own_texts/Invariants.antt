@@ -7,4 +7,5 @@ use Rattle.p21_commands.proofs.print.own_texts.Given as goal
 
 -- the texts so far
 abbrev pub invariant-loop-number : goal.invariant-loop-number
-invariant-loop-number l = (length l.texts.items ≡ l.number) × ((e : ℕ) (text : Option (std.Vec ℕ Global)) → slice_get l.texts.items e ≡ Some text → IsOwnText l.schema e text)
+invariant-loop-number l = (length l.texts.items ≡ l.number)
+    × ((e : ℕ) (text : Option (std.Vec ℕ Global)) → slice_get l.texts.items e ≡ Some text → IsOwnText l.schema e text)

@@ -7,6 +7,8 @@ use Rattle.p21_commands.proofs.print.put_entities.Given as goal
 -- the lines so far are put
 abbrev pub invariant-loop-number : goal.invariant-loop-number
 invariant-loop-number g l = record {
-  puts : AppendsAllBut (g.W.Write.contents l.fn.writer.inner) (g.W.Write.contents l.writer.inner) (l.fn.waiting ++ flat_map (λ line. line) (map (entity_line l.schema) (take l.number (range_with_len 0 (length l.schema.entities))))) l.waiting;
+  puts : AppendsAllBut (g.W.Write.contents l.fn.writer.inner) (g.W.Write.contents l.writer.inner)
+      (l.fn.waiting ++ flat_map (λ line. line) (map (entity_line l.schema) (take l.number (range_with_len 0 (length l.schema.entities)))))
+      l.waiting;
   failures : l.writer.failures ≡ l.fn.writer.failures;
 }

@@ -13,8 +13,10 @@ returns-in_default-clause-err g c =
     let e = c.args.entity.0 in
     let w : List ℕ = c.args.waiting.now in
     let words : List ℕ = with_commas_between (words_of s e (places s e)) in
-    let P : List ℕ → Type 0 = λ z. AppendsPartOf (g.W.Write.contents c.args.writer.now.inner) (g.W.Write.contents c.put_front.new.writer.inner) (w ++ z) in
-    subst P (line-text (entity_prefix s e) (entity_name s e) words) (part_more _ _ w (entity_prefix s e ++ entity_name s e) (codes "(" ++ (words ++ codes ")\n")) c.in_default.ensures.err)
+    let P : List ℕ → Type 0 = λ z. AppendsPartOf (g.W.Write.contents c.args.writer.now.inner)
+    (g.W.Write.contents c.put_front.new.writer.inner) (w ++ z) in
+    subst P (line-text (entity_prefix s e) (entity_name s e) words)
+    (part_more _ _ w (entity_prefix s e ++ entity_name s e) (codes "(" ++ (words ++ codes ")\n")) c.in_default.ensures.err)
 
 pub returns-in_default-put-clause-err : goal.returns-in_default-put-clause-err
 returns-in_default-put-clause-err g c =
@@ -22,9 +24,11 @@ returns-in_default-put-clause-err g c =
     let e = c.args.entity.0 in
     let w : List ℕ = c.args.waiting.now in
     let words : List ℕ = with_commas_between (words_of s e (places s e)) in
-    let P : List ℕ → Type 0 = λ z. AppendsPartOf (g.W.Write.contents c.args.writer.now.inner) (g.W.Write.contents c.put.new.writer.inner) (w ++ z) in
+    let P : List ℕ → Type 0 = λ z. AppendsPartOf (g.W.Write.contents c.args.writer.now.inner) (g.W.Write.contents c.put.new.writer.inner)
+    (w ++ z) in
     subst P (line-text (entity_prefix s e) (entity_name s e) words)
-    (then_part _ _ _ w (entity_prefix s e ++ entity_name s e) c.put_front.new.waiting (codes "(" ++ (words ++ codes ")\n")) c.in-Ok.ensures.ok (part_more _ _ c.put_front.new.waiting (codes "(") (words ++ codes ")\n") c.in_default-put.ensures.err))
+    (then_part _ _ _ w (entity_prefix s e ++ entity_name s e) c.put_front.new.waiting (codes "(" ++ (words ++ codes ")\n"))
+    c.in-Ok.ensures.ok (part_more _ _ c.put_front.new.waiting (codes "(") (words ++ codes ")\n") c.in_default-put.ensures.err))
 
 pub returns-in_default-put_words-clause-err : goal.returns-in_default-put_words-clause-err
 returns-in_default-put_words-clause-err g c =
@@ -32,10 +36,13 @@ returns-in_default-put_words-clause-err g c =
     let e = c.args.entity.0 in
     let w : List ℕ = c.args.waiting.now in
     let words : List ℕ = with_commas_between (words_of s e (places s e)) in
-    let P : List ℕ → Type 0 = λ z. AppendsPartOf (g.W.Write.contents c.args.writer.now.inner) (g.W.Write.contents c.put_words.new.writer.inner) (w ++ z) in
+    let P : List ℕ → Type 0 = λ z. AppendsPartOf (g.W.Write.contents c.args.writer.now.inner)
+    (g.W.Write.contents c.put_words.new.writer.inner) (w ++ z) in
     subst P (line-text (entity_prefix s e) (entity_name s e) words)
-    (then_part _ _ _ w (entity_prefix s e ++ entity_name s e) c.put_front.new.waiting (codes "(" ++ (words ++ codes ")\n")) c.in-Ok.ensures.ok
-    (then_part _ _ _ c.put_front.new.waiting (codes "(") c.put.new.self (words ++ codes ")\n") c.in-Ok-put.ensures.ok (part_more _ _ c.put.new.self words (codes ")\n") c.in_default-put_words.ensures.err)))
+    (then_part _ _ _ w (entity_prefix s e ++ entity_name s e) c.put_front.new.waiting (codes "(" ++ (words ++ codes ")\n"))
+    c.in-Ok.ensures.ok
+    (then_part _ _ _ c.put_front.new.waiting (codes "(") c.put.new.self (words ++ codes ")\n") c.in-Ok-put.ensures.ok
+    (part_more _ _ c.put.new.self words (codes ")\n") c.in_default-put_words.ensures.err)))
 
 pub returns-in_default-put-2-clause-err : goal.returns-in_default-put-2-clause-err
 returns-in_default-put-2-clause-err g c =
@@ -43,10 +50,14 @@ returns-in_default-put-2-clause-err g c =
     let e = c.args.entity.0 in
     let w : List ℕ = c.args.waiting.now in
     let words : List ℕ = with_commas_between (words_of s e (places s e)) in
-    let P : List ℕ → Type 0 = λ z. AppendsPartOf (g.W.Write.contents c.args.writer.now.inner) (g.W.Write.contents c.put-2.new.writer.inner) (w ++ z) in
+    let P : List ℕ → Type 0 = λ z. AppendsPartOf (g.W.Write.contents c.args.writer.now.inner) (g.W.Write.contents c.put-2.new.writer.inner)
+    (w ++ z) in
     subst P (line-text (entity_prefix s e) (entity_name s e) words)
-    (then_part _ _ _ w (entity_prefix s e ++ entity_name s e) c.put_front.new.waiting (codes "(" ++ (words ++ codes ")\n")) c.in-Ok.ensures.ok
-    (then_part _ _ _ c.put_front.new.waiting (codes "(") c.put.new.self (words ++ codes ")\n") c.in-Ok-put.ensures.ok (then_part _ _ _ c.put.new.self words c.put_words.new.waiting (codes ")\n") c.in-Ok-put_words.ensures.ok c.in_default-put-2.ensures.err)))
+    (then_part _ _ _ w (entity_prefix s e ++ entity_name s e) c.put_front.new.waiting (codes "(" ++ (words ++ codes ")\n"))
+    c.in-Ok.ensures.ok
+    (then_part _ _ _ c.put_front.new.waiting (codes "(") c.put.new.self (words ++ codes ")\n") c.in-Ok-put.ensures.ok
+    (then_part _ _ _ c.put.new.self words c.put_words.new.waiting (codes ")\n") c.in-Ok-put_words.ensures.ok
+    c.in_default-put-2.ensures.err)))
 
 pub returns-clause-ok : goal.returns-clause-ok
 returns-clause-ok g c =
@@ -54,7 +65,11 @@ returns-clause-ok g c =
     let e = c.args.entity.0 in
     let w : List ℕ = c.args.waiting.now in
     let words : List ℕ = with_commas_between (words_of s e (places s e)) in
-    let P : List ℕ → Type 0 = λ z. AppendsAllBut (g.W.Write.contents c.args.writer.now.inner) (g.W.Write.contents c.put-2.new.writer.inner) (w ++ z) c.put-2.new.self in
+    let P : List ℕ → Type 0 = λ z. AppendsAllBut (g.W.Write.contents c.args.writer.now.inner) (g.W.Write.contents c.put-2.new.writer.inner)
+    (w ++ z) c.put-2.new.self in
     subst P (line-text (entity_prefix s e) (entity_name s e) words)
-    (then_all _ _ _ w (entity_prefix s e ++ entity_name s e) c.put_front.new.waiting (codes "(" ++ (words ++ codes ")\n")) _ c.in-Ok.ensures.ok
-    (then_all _ _ _ c.put_front.new.waiting (codes "(") c.put.new.self (words ++ codes ")\n") _ c.in-Ok-put.ensures.ok (then_all _ _ _ c.put.new.self words c.put_words.new.waiting (codes ")\n") _ c.in-Ok-put_words.ensures.ok c.in-Ok-put-2.ensures.ok)))
+    (then_all _ _ _ w (entity_prefix s e ++ entity_name s e) c.put_front.new.waiting (codes "(" ++ (words ++ codes ")\n")) _
+    c.in-Ok.ensures.ok
+    (then_all _ _ _ c.put_front.new.waiting (codes "(") c.put.new.self (words ++ codes ")\n") _ c.in-Ok-put.ensures.ok
+    (then_all _ _ _ c.put.new.self words c.put_words.new.waiting (codes ")\n") _ c.in-Ok-put_words.ensures.ok
+    c.in-Ok-put-2.ensures.ok)))

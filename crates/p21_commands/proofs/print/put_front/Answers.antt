@@ -12,7 +12,8 @@ returns-in_default-put-clause-err g c =
     let prefix = c.prefix.result.now in
     let name = c.entity_name.result.now in
     let is = name-is c.args.schema.now c.args.entity.0 name c.entity_name.ensures in
-    subst (λ (z : List ℕ). AppendsPartOf old new (c.args.waiting.now ++ z)) (ap (λ (z : List ℕ). z ++ name) c.prefix.ensures ∙ ap (λ (z : List ℕ). entity_prefix c.args.schema.now c.args.entity.0 ++ z) is)
+    subst (λ (z : List ℕ). AppendsPartOf old new (c.args.waiting.now ++ z))
+    (ap (λ (z : List ℕ). z ++ name) c.prefix.ensures ∙ ap (λ (z : List ℕ). entity_prefix c.args.schema.now c.args.entity.0 ++ z) is)
     (then_part old _ new c.args.waiting.now prefix c.put.new.self name c.in-Ok.ensures.ok c.in_default-put.ensures.err)
 
 pub returns-clause-ok : goal.returns-clause-ok
@@ -22,5 +23,6 @@ returns-clause-ok g c =
     let prefix = c.prefix.result.now in
     let name = c.entity_name.result.now in
     let is = name-is c.args.schema.now c.args.entity.0 name c.entity_name.ensures in
-    subst (λ (z : List ℕ). AppendsAllBut old new (c.args.waiting.now ++ z) c.put-2.new.self) (ap (λ (z : List ℕ). z ++ name) c.prefix.ensures ∙ ap (λ (z : List ℕ). entity_prefix c.args.schema.now c.args.entity.0 ++ z) is)
+    subst (λ (z : List ℕ). AppendsAllBut old new (c.args.waiting.now ++ z) c.put-2.new.self)
+    (ap (λ (z : List ℕ). z ++ name) c.prefix.ensures ∙ ap (λ (z : List ℕ). entity_prefix c.args.schema.now c.args.entity.0 ++ z) is)
     (then_all old _ new c.args.waiting.now prefix c.put.new.self name c.put-2.new.self c.in-Ok.ensures.ok c.in-Ok-put.ensures.ok)

@@ -8,7 +8,10 @@ use Rattle.p21_commands.proofs.print.put_words.Given as goal
 -- the words of the owners so far are put
 abbrev pub invariant-loop-owner : goal.invariant-loop-owner
 invariant-loop-owner g l = record {
-  puts : AppendsAllBut (g.W.Write.contents l.fn.writer.inner) (g.W.Write.contents l.writer.inner) (l.fn.waiting ++ joined false (words_of l.schema l.entity.0 (flat_map (own_places l.schema) (map (λ e. e.0) (take l.owner-index l.owner-items))))) l.waiting;
-  stand : l.some ≡ are_some false (words_of l.schema l.entity.0 (flat_map (own_places l.schema) (map (λ e. e.0) (take l.owner-index l.owner-items))));
+  puts : AppendsAllBut (g.W.Write.contents l.fn.writer.inner) (g.W.Write.contents l.writer.inner)
+      (l.fn.waiting ++ joined false (words_of l.schema l.entity.0
+      (flat_map (own_places l.schema) (map (λ e. e.0) (take l.owner-index l.owner-items))))) l.waiting;
+  stand : l.some ≡ are_some false (words_of l.schema l.entity.0
+      (flat_map (own_places l.schema) (map (λ e. e.0) (take l.owner-index l.owner-items))));
   failures : l.writer.failures ≡ l.fn.writer.failures;
 }

@@ -11,25 +11,32 @@ returns-in_default-clause-err g c =
     let s = c.args.schema.now in
     let w : List ℕ = c.new-waiting.result in
     let front : List ℕ = codes "SCHEMA " ++ (s.name ++ codes "\n") in
-    let P : List ℕ → Type 0 = λ z. AppendsPartOf (g.W.Write.contents c.args.writer.now.inner) (g.W.Write.contents c.put_name.new.writer.inner) z in
-    subst P (head-text s) (part_unput _ _ w (front ++ entity_lines s) c.new-waiting.ensures (part_more _ _ w front (entity_lines s) c.in_default.ensures.err))
+    let P : List ℕ → Type 0 = λ z. AppendsPartOf (g.W.Write.contents c.args.writer.now.inner)
+    (g.W.Write.contents c.put_name.new.writer.inner) z in
+    subst P (head-text s) (part_unput _ _ w (front ++ entity_lines s) c.new-waiting.ensures
+    (part_more _ _ w front (entity_lines s) c.in_default.ensures.err))
 
 pub returns-in_default-put_entities-clause-err : goal.returns-in_default-put_entities-clause-err
 returns-in_default-put_entities-clause-err g c =
     let s = c.args.schema.now in
     let w : List ℕ = c.new-waiting.result in
     let front : List ℕ = codes "SCHEMA " ++ (s.name ++ codes "\n") in
-    let P : List ℕ → Type 0 = λ z. AppendsPartOf (g.W.Write.contents c.args.writer.now.inner) (g.W.Write.contents c.put_entities.new.writer.inner) z in
-    subst P (head-text s) (part_unput _ _ w (front ++ entity_lines s) c.new-waiting.ensures (then_part _ _ _ w front c.put_name.new.waiting (entity_lines s) c.in-Ok.ensures.ok c.in_default-put_entities.ensures.err))
+    let P : List ℕ → Type 0 = λ z. AppendsPartOf (g.W.Write.contents c.args.writer.now.inner)
+    (g.W.Write.contents c.put_entities.new.writer.inner) z in
+    subst P (head-text s) (part_unput _ _ w (front ++ entity_lines s) c.new-waiting.ensures
+    (then_part _ _ _ w front c.put_name.new.waiting (entity_lines s) c.in-Ok.ensures.ok c.in_default-put_entities.ensures.err))
 
 pub returns-in_default-flush-clause-err : goal.returns-in_default-flush-clause-err
 returns-in_default-flush-clause-err g c =
     let s = c.args.schema.now in
     let w : List ℕ = c.new-waiting.result in
     let front : List ℕ = codes "SCHEMA " ++ (s.name ++ codes "\n") in
-    let P : List ℕ → Type 0 = λ z. AppendsPartOf (g.W.Write.contents c.args.writer.now.inner) (g.W.Write.contents c.flush.new.writer.inner) z in
+    let P : List ℕ → Type 0 = λ z. AppendsPartOf (g.W.Write.contents c.args.writer.now.inner) (g.W.Write.contents c.flush.new.writer.inner)
+    z in
     subst P (head-text s)
-    (part_flushed _ _ _ w (front ++ entity_lines s) c.put_entities.new.waiting c.new-waiting.ensures (then_all _ _ _ w front c.put_name.new.waiting (entity_lines s) c.put_entities.new.waiting c.in-Ok.ensures.ok c.in-Ok-put_entities.ensures.ok) c.in_default-flush.ensures.err)
+    (part_flushed _ _ _ w (front ++ entity_lines s) c.put_entities.new.waiting c.new-waiting.ensures
+    (then_all _ _ _ w front c.put_name.new.waiting (entity_lines s) c.put_entities.new.waiting c.in-Ok.ensures.ok
+    c.in-Ok-put_entities.ensures.ok) c.in_default-flush.ensures.err)
 
 pub returns-clause-ok : goal.returns-clause-ok
 returns-clause-ok g c =
@@ -38,4 +45,6 @@ returns-clause-ok g c =
     let front : List ℕ = codes "SCHEMA " ++ (s.name ++ codes "\n") in
     let P : List ℕ → Type 0 = λ z. Appends (g.W.Write.contents c.args.writer.now.inner) (g.W.Write.contents c.flush.new.writer.inner) z in
     subst P (head-text s)
-    (all_flushed _ _ _ w (front ++ entity_lines s) c.put_entities.new.waiting c.new-waiting.ensures (then_all _ _ _ w front c.put_name.new.waiting (entity_lines s) c.put_entities.new.waiting c.in-Ok.ensures.ok c.in-Ok-put_entities.ensures.ok) c.in-Ok-flush.ensures.ok.0)
+    (all_flushed _ _ _ w (front ++ entity_lines s) c.put_entities.new.waiting c.new-waiting.ensures
+    (then_all _ _ _ w front c.put_name.new.waiting (entity_lines s) c.put_entities.new.waiting c.in-Ok.ensures.ok
+    c.in-Ok-put_entities.ensures.ok) c.in-Ok-flush.ensures.ok.0)

@@ -10,7 +10,9 @@ returns-in-Ok-clause-ends g c =
     let readers = failures_of c.args.reader.now c.write_schema.new.reader ∷ [] in
     let output = failures_of c.args.output.now c.write_schema.new.output in
     let faults = failures_of c.args.faults.now c.args.faults.now in
-    ends-answered _ _ readers _ _ c.in-Ok.ensures.ok (Keeps-refl _) (none_more (readers ++ output ∷ []) (faults ∷ []) c.in-Ok.ensures.unfailed (refl, tt))
+    ends-answered _ _ readers _ _ c.in-Ok.ensures.ok (Keeps-refl _)
+    (none_more (readers ++ output ∷ []) (faults ∷ []) c.in-Ok.ensures.unfailed (refl, tt))
 
 pub returns-in-Err-clause-ends : goal.returns-in-Err-clause-ends
-returns-in-Err-clause-ends g c = ends-reported _ _ (failures_of c.args.reader.now c.write_schema.new.reader ∷ []) _ _ _ _ c.in-Err.ensures.err c.in-Err.ensures.failed c.report.ensures
+returns-in-Err-clause-ends g c = ends-reported _ _ (failures_of c.args.reader.now c.write_schema.new.reader ∷ []) _ _ _ _
+    c.in-Err.ensures.err c.in-Err.ensures.failed c.report.ensures

@@ -5,7 +5,8 @@ use Rattle.p21_commands.proofs.transfer.read_text.Goals as goal
 
 pub returns-then-count-eq0-clause-text : goal.returns-then-count-eq0-clause-text
 returns-then-count-eq0-clause-text g c =
-    gives_all most_read _ _ _ (consumes_nothing _ _ _ _ _ _ _ c.loop-piece.invariant.0 c.in-Ok.ensures.bytes.0 c.if-count-eq0.true) (c.in-Ok.ensures.bytes.1 c.if-count-eq0.true (search rules))
+    gives_all most_read _ _ _ (consumes_nothing _ _ _ _ _ _ _ c.loop-piece.invariant.0 c.in-Ok.ensures.bytes.0 c.if-count-eq0.true)
+    (c.in-Ok.ensures.bytes.1 c.if-count-eq0.true (search rules))
 
 pub returns-in_err-extend_from_slice-clause-consumed : goal.returns-in_err-extend_from_slice-clause-consumed
 returns-in_err-extend_from_slice-clause-consumed g c =

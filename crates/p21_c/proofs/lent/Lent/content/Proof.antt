@@ -42,37 +42,51 @@ content_spec 𝓤 𝓛 𝓜 𝓡 wired =
     let c = F.clauses 𝓛 𝓜.mem 𝓡.returns in let 𝓣 = tables 𝓤 𝓛.H 𝓜 𝓡 𝓡.env in
     proved 𝓛 F.ended stayed c 𝓜 𝓡 (Goes-dropped 𝓛 1 From yes (λ κs x f. refl), tt) #self code.function (code.unfolded 𝓤 𝓛.H 𝓜 𝓡 wired)
     (λ κs. (shr_vals, tt)) (λ κs. (shr_Tells (named 0) κs.0 Lent.the_row, tt)) (λ κs qs bounds a n are.
-    let κ : Lft = κs.0 in let q = qs.0 in let b = a.0.ref_ptr.0 in let o = a.0.ref_ptr.1 in let d = a.0.now in let X : RattleType = type_at {n = 1} (RefOf (0 ∷ []) tt (plain (λ _. Content.the_row)) (λ _. tt)) κs in
-    let y : (walk_of 𝓛 F.ended stayed c).Ghost = ((κs, qs, bounds, a, (shr_vals a.0, tt)), tt) in let Post : Val → SProp 𝓤 = (walk_of 𝓛 F.ended stayed c).post y in
+    let κ : Lft = κs.0 in let q = qs.0 in let b = a.0.ref_ptr.0 in let o = a.0.ref_ptr.1 in let d = a.0.now in let X : RattleType =
+    type_at {n = 1} (RefOf (0 ∷ []) tt (plain (λ _. Content.the_row)) (λ _. tt)) κs in
+    let y : (walk_of 𝓛 F.ended stayed c).Ghost = ((κs, qs, bounds, a, (shr_vals a.0, tt)), tt) in let Post : Val
+    → SProp 𝓤 = (walk_of 𝓛 F.ended stayed c).post y in
     qed 𝓛 (((‵ (flft κ q) ⊛ ‵ ftrue) ⊛ ‵ ((ShrRef (named 0) κ Lent.the_row).own_val a.0 (vptr b o ∷ [])) ⊛ ‵ ftrue) ∷ ‵ ftrue ∷ []) ∵
-    split ! $ split ! $ move ! (2 ∷ []) $ split ! $ keep ! (0 ∷ 2 ∷ []) $ fsplit ! $ drop ! $ use1 𝓛 (‵ (fshr_bor κ (held 𝓛 d b o))) (id⊢ 𝓤 _) $ shr_bor_dup ! $ move ! (0 ∷ 2 ∷ []) $
-    enter ! 𝓣.C 𝓣.Λ code.function (vptr b o ∷ []) Post $ alloc_all ! (λ l. pass_all ! refl ((tt, tt), tt) $ let Ev = env code.function.locals l in
+    split ! $ split ! $ move ! (2 ∷ []) $ split ! $ keep ! (0 ∷ 2 ∷ []) $ fsplit ! $ drop ! $ use1 𝓛 (‵ (fshr_bor κ (held 𝓛 d b o)))
+    (id⊢ 𝓤 _) $ shr_bor_dup ! $ move ! (0 ∷ 2 ∷ []) $
+    enter ! 𝓣.C 𝓣.Λ code.function (vptr b o ∷ []) Post $ alloc_all !
+    (λ l. pass_all ! refl ((tt, tt), tt) $ let Ev = env code.function.locals l in
     use2 𝓛 (later (‵ (seen κ d.at d.value) ⊛ ‵ (flft κ q))) (knows 𝓛 d b o κ q) $ await ! tt $ split ! $
     -- [what is seen; the token; the reference; the locals]
     seen_cases ! κ d.at d.value
     (λ at_is value_is. let v₀ : Val = live 0 vnil in
-    move ! (1 ∷ 0 ∷ []) $ shr_bor-open ! tt (held_halves 𝓛 d b o) (λ q'. move ! (1 ∷ []) $ use1 𝓛 (‵ (fat q' word_ty b o (word d.at)) ⊛ ‵ (lent_owns d.at d.value)) (cell_out 𝓛 d b o q') $ split ! $
+    move ! (1 ∷ 0 ∷ []) $ shr_bor-open ! tt (held_halves 𝓛 d b o)
+    (λ q'. move ! (1 ∷ []) $ use1 𝓛 (‵ (fat q' word_ty b o (word d.at)) ⊛ ‵ (lent_owns d.at d.value)) (cell_out 𝓛 d b o q') $ split ! $
     rewrite ! 0 (λ (r : Ptr). ‵ (fat q' word_ty b o (word r))) at_is refl $
-    sets ! (of_opd ! (load ! (through ! refl (fld ! refl (stop !))) (look_in ! 0 (sub ! 0 refl (whole !))))) refl (tt, record { fits = lit< tt }) $
-    rewrite ! 0 (λ (r : Ptr). ‵ (fat q' word_ty b o (word r))) (sym at_is) refl $ use2 𝓛 (‵ (held 𝓛 d b o q')) (cell_in 𝓛 d b o q') $ move ! (1 ∷ 0 ∷ []) $ obor_close ! tt $ drop ! $
+    sets ! (of_opd ! (load ! (through ! refl (fld ! refl (stop !))) (look_in ! 0 (sub ! 0 refl (whole !))))) refl
+    (tt, record { fits = lit< tt }) $
+    rewrite ! 0 (λ (r : Ptr). ‵ (fat q' word_ty b o (word r))) (sym at_is) refl $ use2 𝓛 (‵ (held 𝓛 d b o q')) (cell_in 𝓛 d b o q') $ move !
+    (1 ∷ 0 ∷ []) $ obor_close ! tt $ drop ! $
     sets ! (bin ! (get ! refl) (lit ! tt) tt) refl (tt, tt) $ first ! $ branches ! (get ! refl)
-    (λ _. sets ! (agg ! (and_then ! (lit ! tt) (no_more !))) refl (tt, (record { fits = lit< tt }, tt)) $ returns_within ! Post refl (look_at ! 0 refl) $ free_all ! refl $
+    (λ _. sets ! (agg ! (and_then ! (lit ! tt) (no_more !))) refl (tt, (record { fits = lit< tt }, tt)) $ returns_within ! Post refl
+    (look_at ! 0 refl) $ free_all ! refl $
     use0 𝓛 (‵ ((type_at (F.signature).result κs).own_val None (v₀ ∷ []))) (none_of 𝓛 X) $
     suffices ! _ (ends_at 𝓛 F.ended stayed c y v₀ None (tt, tt) (tt, tt)) $ says ! value_is $
     nothing ! $ nothing ! $ fjoin ! $ join ! $ nothing ! $ move ! (2 ∷ 0 ∷ []) $ join ! $ join ! $ done !)
     (λ wrong. absurd wrong)))
     (λ b' o' x at_is value_is test. let v₁ : Val = live 1 (vcons (vptr b' o') vnil) in
     -- [what is lent; the token; the reference; the locals]
-    move ! (2 ∷ 1 ∷ []) $ shr_bor-open ! tt (held_halves 𝓛 d b o) (λ q'. move ! (1 ∷ []) $ use1 𝓛 (‵ (fat q' word_ty b o (word d.at)) ⊛ ‵ (lent_owns d.at d.value)) (cell_out 𝓛 d b o q') $ split ! $
+    move ! (2 ∷ 1 ∷ []) $ shr_bor-open ! tt (held_halves 𝓛 d b o)
+    (λ q'. move ! (1 ∷ []) $ use1 𝓛 (‵ (fat q' word_ty b o (word d.at)) ⊛ ‵ (lent_owns d.at d.value)) (cell_out 𝓛 d b o q') $ split ! $
     rewrite ! 0 (λ (r : Ptr). ‵ (fat q' word_ty b o (word r))) at_is refl $
     sets ! (of_opd ! (load ! (through ! refl (fld ! refl (stop !))) (look_in ! 0 (sub ! 0 refl (whole !))))) refl (tt, tt) $
-    rewrite ! 0 (λ (r : Ptr). ‵ (fat q' word_ty b o (word r))) (sym at_is) refl $ use2 𝓛 (‵ (held 𝓛 d b o q')) (cell_in 𝓛 d b o q') $ move ! (1 ∷ 0 ∷ []) $ obor_close ! tt $ drop ! $
-    sets ! (bin ! (get ! refl) (lit ! tt) (tests_null (block_ptr b' o') test)) refl (tt, tt) $ first ! $ branches ! (get ! refl) (λ wrong. absurd wrong)
+    rewrite ! 0 (λ (r : Ptr). ‵ (fat q' word_ty b o (word r))) (sym at_is) refl $ use2 𝓛 (‵ (held 𝓛 d b o q')) (cell_in 𝓛 d b o q') $ move !
+    (1 ∷ 0 ∷ []) $ obor_close ! tt $ drop ! $
+    sets ! (bin ! (get ! refl) (lit ! tt) (tests_null (block_ptr b' o') test)) refl (tt, tt) $ first ! $ branches ! (get ! refl)
+    (λ wrong. absurd wrong)
     (λ _. skips ! $ exec ! 𝓣.C 𝓣.Λ Ev code.Mir.t-4 (at_ret Ev Post) $ first ! $ blocks ! $ sets ! (of_opd ! (get ! refl)) refl (tt, tt) $
-    sets_last ! (addr ! (through ! refl (stop !))) refl (tt, tt) $ exec ! 𝓣.C 𝓣.Λ Ev code.Mir.t-5 (at_ret Ev Post) $ sets ! (of_opd ! (get ! refl)) refl (tt, tt) $
-    sets ! (agg ! (and_then ! (lit ! tt) (and_then ! (get ! refl) (no_more !)))) refl (tt, (record { fits = lit< tt }, (tt, tt))) $ returns ! (look_at ! 0 refl) $ free_all ! refl $
+    sets_last ! (addr ! (through ! refl (stop !))) refl (tt, tt) $ exec ! 𝓣.C 𝓣.Λ Ev code.Mir.t-5 (at_ret Ev Post) $ sets !
+    (of_opd ! (get ! refl)) refl (tt, tt) $
+    sets ! (agg ! (and_then ! (lit ! tt) (and_then ! (get ! refl) (no_more !)))) refl (tt, (record { fits = lit< tt }, (tt, tt))) $ returns
+    ! (look_at ! 0 refl) $ free_all ! refl $
     -- [the token; what is lent]
     move ! (1 ∷ []) $ feq_i ! (List Val) (vptr b' o' ∷ []) (vptr b' o' ∷ []) refl $ fjoin ! $
-    use1 𝓛 (‵ ((type_at (F.signature).result κs).own_val (Some (record { ref_ptr = (b', o'); now = x })) (v₁ ∷ []))) (Some-of 𝓛 X (record { ref_ptr = (b', o'); now = x }) (vptr b' o')) $
+    use1 𝓛 (‵ ((type_at (F.signature).result κs).own_val (Some (record { ref_ptr = (b', o'); now = x })) (v₁ ∷ [])))
+    (Some-of 𝓛 X (record { ref_ptr = (b', o'); now = x }) (vptr b' o')) $
     suffices ! _ (ends_at 𝓛 F.ended stayed c y v₁ (Some (record { ref_ptr = (b', o'); now = x })) (tt, tt) (tt, tt)) $ says ! value_is $
     nothing ! $ nothing ! $ fjoin ! $ join ! $ nothing ! $ move ! (2 ∷ 0 ∷ []) $ join ! $ join ! $ done !)))))
