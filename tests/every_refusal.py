@@ -1,7 +1,8 @@
 #!/usr/bin/env python3
 """Files that are broken by hand: each refusal of an instance or a reference alone, each two of them, ten at a time, and all of them; with
-what ends the reading behind some. `p21 check --all` has to list those that were put in, in the order of the file, those of references
-last; `--most` the first of them; and `check` the first. Each file of examples/refused is refused first by what `check` says.
+a broken statement behind some, or what ends the reading. `p21 check --all` has to list those that were put in, in the order of the file,
+those of references last, of which 56 isn't listed where a statement is broken; `--most` the first of them; and `check` the first. Each
+file of examples/refused is refused first by what `check` says.
 
 The environment variable P21 names the program.
 """
@@ -102,13 +103,18 @@ LARGE_REFERENCES = [
 AGAIN = ("#1=POINT($,2.,2.);", "40 DuplicateName in #1")
 LARGE_AGAIN = ("#1=MANY(1);", "40 DuplicateName in #1")
 
-# Statements that end the reading.
-ENDS = [
+# Statements that are broken, and that end the reading.
+BROKEN = [
     ("#9=point();", "1 BadByte"),
     ("#9=POINT('\\q',1.,1.);", "4 BadDirective"),
     ("#9=POINT($,1.EX,1.);", "7 BadNumber"),
     ("#9=POINT(;", "20 Unexpected"),
     ("#9=&SCOPE", "26 LeftOut(Scope)"),
+]
+ENDS = [
+    ("ENDSEC\n#9=POINT($,1.,1.);", "20 Unexpected"),
+    ("END-ISO-10303-21;", "20 Unexpected"),
+    ("ISO-10303-21;", "20 Unexpected"),
 ]
 
 
@@ -134,7 +140,8 @@ def expect(found, wanted, text):
 
 
 def broken(rows, end=None):
-    """A file with an instance of each of the rows, and the lines that list them."""
+    """A file with an instance of each of the rows, and behind them perhaps a statement that is broken or ends the reading; and the lines
+    that list them."""
     statements, records, references = [], [], []
     for number, row in enumerate(rows, 101):
         if row in (AGAIN, LARGE_AGAIN):
@@ -143,13 +150,17 @@ def broken(rows, end=None):
             continue
         statements.append(f"#{number}={row[0]};")
         (references if row in REFERENCES + LARGE_REFERENCES else records).append(f"refused {row[1]} in #{number}")
+    lines = records + references
     if end:
         # The statements in front of the instances, and the two that stand.
         place = 7 + 2 + len(statements) + 1
+        front = FRONT + "".join(f"{statement}\n" for statement in statements)
         lines = [*records, f"refused {end[1]} at statement {place}"]
-        text = FRONT + "\n".join([*statements, end[0], ""]) + BACK
-        return text, lines, [*lines, f"refusals {len(lines)}, the rest was not read"]
-    lines = records + references
+        behind = f", read {len(front)} bytes"
+        if end in BROKEN:
+            lines += [line for line in references if "56 Dangling" not in line]
+            behind = ""
+        return f"{front}{end[0]}\n{BACK}", lines, [*lines, f"refusals {len(lines)}{behind}"]
     return FRONT + "\n".join([*statements, ""]) + BACK, lines, [*lines, f"refusals {len(lines)}"]
 
 
@@ -186,7 +197,7 @@ def main():
         for some in chosen:
             one(folder, some)
             files += 1
-        for end in ENDS:
+        for end in BROKEN + ENDS:
             for some in [[], *chosen[-51:]]:
                 one(folder, some, end)
                 files += 1

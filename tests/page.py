@@ -229,6 +229,28 @@ def many(page):
     page.tests.judge("an opened row", ["line 407, column 17", "'two'"], found)
 
 
+def going_on(page):
+    """A list goes on behind broken statements, and says what was passed over and how far it goes."""
+    shutil.copy(ROOT / "examples" / "demo.exp", page.folder)
+    rows = ["#1=POINT($,1.);", "#2=POINT($,1.,2.)", "#3=POINT($,1.,'two');", "#4=POINT($,1.,'/*;", "#5=POINT(1.);", "#6=POINT('six',1.,2);"]
+    text = file_of("\n".join(rows), [("PRODUCT_MODEL", "DEMO")])
+    cut = text[: text.rindex("ENDSEC") + len("END")]
+    read, size = text.rindex("ENDSEC"), len(cut)
+    passed = "2 broken statements were passed over, and the list goes on behind them. Instances may stand in them, so no reference is said to have no target."
+    ends = f"The list ends at statement 14: {read:,} of the {size:,} bytes of the file stand in front of it, and nothing is known of what stands behind."
+    for name, shape, count, extent in (("broken.step", text, 6, [passed]), ("cut.step", cut, 7, [passed, ends])):
+        page.tests.make(name, shape)
+        shown = page.dropped("demo.exp", name)["files"][0]
+        page.judge_file("broken statements", shown, "demo.exp", name)
+        found = page.browser.ask("[...document.querySelectorAll('.extent')].map((found) => found.textContent)")
+        page.tests.judge(f"how far the list of {name} goes", (count, extent), (int(shown["count"].split()[0]), found))
+    page.browser.ask("document.querySelectorAll('.refusals > li > details').forEach((row) => { row.open = true; })")
+    page.browser.wait("[...document.querySelectorAll('.refusals > li > details')].every((row) => row.querySelector('.said') !== null)")
+    rows = """[...document.querySelectorAll('.refusals > li > details')].filter((row) => /was passed over/.test(row.textContent))
+        .map((row) => row.querySelector('summary code').textContent)"""
+    page.tests.judge("rows of what was passed over", ["at statement 11", "at statement 9"], sorted(page.browser.ask(rows)))
+
+
 def stopped_on_the_way(page):
     """Many refusals by a large schema: the answer comes before all places are found, and stays where the search is stopped."""
     demo = (ROOT / "examples" / "demo.exp").read_text()
@@ -281,16 +303,15 @@ def up_to_names(page):
     page.tests.make("alike.step", file_of(ALIKE))
     page.tests.make("renamed.step", file_of(ALIKE.replace("#", "#1")))
     shown = page.dropped("product.exp", "alike.step", "renamed.step")
-    said = "Whether they are the same up to names isn’t decided: the first one’s model doesn’t tell #1 from another instance."
-    wanted = f"Different10 differences by the names of instances. {said}"
+    wanted = f"DifferentThe same but for numbering. 10 differences by the names of instances. {words}"
     page.tests.judge("a model that doesn't tell instances apart", wanted, shown["verdict"])
     known = page.browser.ask("document.querySelector('.known').textContent")
-    page.tests.judge("and what a pairing finds", page.tool("p21-diff", "--names", "product.exp", "alike.step", "renamed.step"), [known])
+    page.tests.judge("and what differs by pairs", page.tool("p21-diff", "--names", "product.exp", "alike.step", "renamed.step"), [known])
 
 
 def large_up_to_names(page):
     """Larger files: those that are numbered otherwise are told by what they say unasked, others by their names; and where both have
-    more than 16 MiB, what may be had by asking is said."""
+    more than 4 MiB, what may be had by asking is said."""
     rows = "\n".join(f"#{number}=POINT($,{number}.,1.);" for number in range(1, 40001))
     text = file_of(rows, [("PRODUCT_MODEL", "DEMO")])
     half = "\n".join(f"#{number}=POINT($,{number}.,{1 + (number > 20000)}.);" for number in range(1, 40001))
@@ -1245,7 +1266,7 @@ def main():
     page.path = path
     page.is_unproved = "unproved" in said
     try:
-        groups = [alone, examples, chance, many, stopped_on_the_way, up_to_names, large_up_to_names, asked_otherwise, fitted, shelf, others, large, people, network, in_firefox]
+        groups = [alone, examples, chance, many, going_on, stopped_on_the_way, up_to_names, large_up_to_names, asked_otherwise, fitted, shelf, others, large, people, network, in_firefox]
         groups += [mended_files, words, hostile_names, taken_along, on_paper, packed, without_schema, accessible, large_in_both]
         for group in (*groups, want_of_memory, without_memory):
             group(page)

@@ -31,7 +31,7 @@ import p21_pages  # pylint: disable=wrong-import-position
 import p21_reading  # pylint: disable=wrong-import-position
 import p21_shelf  # pylint: disable=wrong-import-position
 
-PAIRS = 100
+PAIRS = 30
 
 
 def as_program(tests, node, module, name="p21"):
@@ -178,7 +178,7 @@ def pairs_of_files(tests):
 # What is asked of p21-diff, as its command line has it and as the page does.
 OPTIONS = (([], {}), (["--data"], {"data": True}), (["--tolerance", "0.5"], {"tolerance": "0.5"}), (["--data", "--tolerance", "1E-7"], {"data": True, "tolerance": "1E-7"}))
 # Of so many pairs the reports are compared too.
-REPORTS = 40
+REPORTS = 20
 
 
 def differences(tests, node):
@@ -205,7 +205,7 @@ def differences(tests, node):
             output, _, _ = tests.run([*options, *paths])
             left_out, _, rest = output.partition("\n") if words else ("", "", output)
             tests.judge(f"what is left out by {options}", left_out, found["leftOut"])
-            table, _, lines = rest.partition("\n\n")
+            table, _, lines = rest.partition("\n\n") if "\n\n" in rest else ("", "", rest)
             tests.judge(" ".join([*options, *paths]), lines.splitlines(), [*found["lines"], found["verdict"]])
             rows = [[row[0], *map(int, row[1:])] for row in map(str.split, table.splitlines()[1:-1])]
             tests.judge(f"the table of {' '.join([*options, *paths])}", rows, found["table"])
@@ -214,6 +214,29 @@ def differences(tests, node):
                 output, _, _ = tests.run([*options, *paths])
                 tests.judge(f"the report, {' '.join([*options, *paths])}", output, found["report"])
     tests.tool = "p21-where"
+
+
+CHANGED = '{"kind":"changed","what":"instance","a":1,"b":2,"entity":"A","attribute":"X","keywords":"A","before":"1","after":"2"}\n'
+COUNTED = '{"kind":"verdict","verdict":"different","changed":1,"came":0,"went":0}\n'
+UNDECIDED = '{"kind":"verdict","verdict":"undecided"}\n'
+# Each row: what the program writes by pairs, behind a `!` why it has no answer, how many differences the page shows, and what it says.
+NO_ANSWERS = (
+    (f"{CHANGED}{COUNTED}", 1, "different: 1 changed, 0 came, 0 went", True),
+    (UNDECIDED, 0, "not decided: too many instances are alike to be paired", False),
+    ("!out of memory", 0, "no answer: out of memory", False),
+    (f"{CHANGED}!the browser stopped the program: out of memory", 0, "no answer: the browser stopped the program: out of memory", False),
+    (CHANGED, 0, "no answer: the list of what differs isn’t whole", False),
+    (f"{CHANGED}{COUNTED[:20]}", 0, "no answer: the list of what differs isn’t whole", False),
+    ("", 0, "no answer: the list of what differs isn’t whole", False),
+)
+
+
+def no_answers(tests, node):
+    """Where the program doesn't say what differs, or not to its end, nothing is listed, and that is said."""
+    command = [*node, "tests/web/no_answers.mjs"]
+    done = subprocess.run(command, input=json.dumps([text for text, *_ in NO_ANSWERS]), capture_output=True, text=True, check=True)
+    for (text, count, verdict, is_listed), found in zip(NO_ANSWERS, json.loads(done.stdout), strict=True):
+        tests.judge(f"no answer, {text!r}", [count, count, count, verdict, is_listed], found)
 
 
 def adapting(tests, node):
@@ -373,7 +396,7 @@ def main():
     needs.wanted("rt")
     tests = Tests("p21-where")
     making.make_page(tests.here / "p21.html")
-    for group in (marks, program_rows, want_of_memory, growth, places, differences, shelves, adapting, alone):
+    for group in (marks, program_rows, want_of_memory, growth, places, differences, no_answers, shelves, adapting, alone):
         group(tests, node)
     tests.end()
 

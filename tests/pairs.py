@@ -102,6 +102,9 @@ OBJECTS = (
 
 # More instances than pairs may be chosen: equal but for a value that tells no pair.
 MANY = 1200
+# The name of the one that differs among as many copies.
+COPY = 3 * MANY + 1
+ONE_CHANGED = "different: 1 changed, 0 came, 0 went"
 
 
 # --- Files that are edited, named anew and written in another order ---
@@ -155,10 +158,26 @@ class Edited:
         counts = f"different: {len(self.changes)} changed, {len(self.came)} came, {len(gone)} went"
         return [*lines, counts] if lines else ["same"]
 
+    def pairs(self):
+        """The pairs, by rising names of the second file."""
+        first, second = self.names
+        both = sorted((second[key], name) for key, name in first.items() if key in second)
+        return [f"pair #{name}" if name == other else f"pair #{name}/#{other}" for other, name in both]
+
 
 def many(value):
     """Persons of which nothing but this value differs, behind one that has no other."""
     return file_of("\n".join(f"#{number}=PERSON('x','{value}',$,$);" for number in range(1, MANY + 1)))
+
+
+def copies(value):
+    """As many copies of a placement with its own points, and one point more with this coordinate."""
+    lines = []
+    for number in range(1, 3 * MANY + 1, 3):
+        lines.append(f"#{number}=CARTESIAN_POINT('',(0.,0.,0.));")
+        lines.append(f"#{number + 1}=DIRECTION('',(0.,0.,1.));")
+        lines.append(f"#{number + 2}=AXIS2_PLACEMENT_3D('',#{number},#{number + 1},$);")
+    return file_of("\n".join([*lines, f"#{COPY}=CARTESIAN_POINT('',({value},0.,0.));"]))
 
 
 class Compared:
@@ -177,9 +196,9 @@ class Compared:
         self.passed += found == wanted
         self.failed += [] if found == wanted else [f"{name}: {found} and not {wanted}"]
 
-    def expect_lines(self, name, texts, lines):
+    def expect_lines(self, name, texts, lines, words=()):
         """The same, of lines."""
-        self.expect(name, texts, [], ("".join(line + "\n" for line in lines), "", int(lines != ["same"])))
+        self.expect(name, texts, words, ("".join(line + "\n" for line in lines), "", int(lines[-1] != "same")))
 
 
 def main():
@@ -192,13 +211,20 @@ def main():
         one, other, rows = OBJECTS
         text = "".join(json.dumps(row, separators=(",", ":")) + "\n" for row in rows)
         compared.expect("objects", (file_of(one), file_of(other)), ["--format", "jsonl"], (text, "", 1))
+        pairs = "".join(json.dumps({"kind": "pair", "a": a, "b": b}, separators=(",", ":")) + "\n" for a, b in ((1, 11), (3, 13)))
+        compared.expect("objects with pairs", (file_of(one), file_of(other)), ["--pairs", "--format", "jsonl"], (pairs + text, "", 1))
         chance = random.Random(SEED)
         for number in range(PAIRS):
             edited = Edited(chance)
-            compared.expect_lines(f"pair {number}", (edited.text(0), edited.text(1)), edited.rows())
+            texts, rows = (edited.text(0), edited.text(1)), edited.rows()
+            compared.expect_lines(f"pair {number}", texts, rows)
+            compared.expect_lines(f"pair {number}, with all pairs", texts, edited.pairs() + rows, ["--pairs"])
+        texts = copies("4."), copies("5.")
+        compared.expect_lines("many copies, of which one differs", texts, [f"changed #{COPY} CARTESIAN_POINT.COORDINATES [1] 4. 5.", ONE_CHANGED])
         texts = many("a"), many("b")
         compared.expect_lines("too many choices, of files that are the same", (texts[0], texts[0]), ["same"])
         compared.expect_lines("too many choices", texts, ["not decided"])
+        compared.expect_lines("too many choices, with all pairs", texts, ["not decided"], ["--pairs"])
         verdict = '{"kind":"verdict","verdict":"undecided"}\n'
         compared.expect("too many choices as an object", texts, ["--format", "jsonl"], (verdict, "", 1))
     for line in compared.failed:

@@ -41,7 +41,7 @@ PARTS = [
     Part("page_module.py", behind=("page.py",)),
     Part("release.py", behind=("platforms.py", "bindings.sh", "page.py", "page_module.py")),
     *map(Part, ["fail_alloc.sh", "want_of_memory.sh", "numbering.py", "tools_where.py", "tools_names.py", "hostile/calls.py"]),
-    *map(Part, ["hostile/allocations.py", "tools_diff.py", "tools_table.py", "edges.py", "hostile/larger.py"]),
+    *map(Part, ["hostile/allocations.py", "tools_diff.py", "tools_table.py", "going_on.py", "edges.py", "hostile/larger.py"]),
     Part("fuzz.py", ("--cases", "10000", "--seed", "1")),
     *map(Part, ["clusters.py", "published.py", "two_ways.py", "worked_cases.py", "lint.sh", "hostile/transfers.py", "guided.sh"]),
     *map(Part, ["program.sh", "texts.py", "canonical_form.py", "definitions.py", "edits.py"]),

@@ -103,8 +103,6 @@ TOOLS = [
     ["p21-diff", "--format", "html", PRODUCT, "examples/product.step", "examples/product-changed.step"],
     ["p21-diff", "--names", PRODUCT, "examples/product.step", "{here}/renamed.step"],
     ["p21-diff", "--names", "--pairing", "{here}/pairs", PRODUCT, "examples/product.step", "{here}/renamed.step"],
-    ["p21-renumber", PRODUCT, "examples/product.step", "{here}/pairs"],
-    ["p21-renumber", PRODUCT, "examples/product.step", "{here}/ünïcode name.step"],
     ["p21-table", PRODUCT, "examples"],
     ["p21-table", "--names", "--format", "jsonl", PRODUCT, "examples"],
     ["p21-table", "--schemas", "{here}/shelf", "--format", "tsv", "examples/product.step", "{here}/ünïcode name.step"],
@@ -119,11 +117,10 @@ BY_A_PIPE = [["p21-where", PRODUCT, "-"], ["p21-table", PRODUCT, "-"], ["p21-whe
 UNREAD = [
     ["p21-where", "--all", "--format", "json", PRODUCT, "examples/refused/WrongKind.step"],
     ["p21-diff", PRODUCT, "examples/product.step", "examples/product-changed.step"],
-    ["p21-renumber", PRODUCT, "examples/product.step", "{here}/pairs"],
     ["p21-table", PRODUCT, "examples"],
     ["p21-adapt", PRODUCT],
 ]
-TROUBLE = {"p21-where": 3, "p21-diff": 2, "p21-renumber": 2, "p21-table": 2, "p21-adapt": 3}
+TROUBLE = {"p21-where": 3, "p21-diff": 2, "p21-table": 2, "p21-adapt": 3}
 
 # What tries the tools on Linux tries them as on Windows too, with the program for Linux; and the rows that are otherwise there, of
 # programs that a signal ends and of devices.

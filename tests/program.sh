@@ -171,6 +171,7 @@ expect 'a file refused at a statement' 1 '' 'refused 24 EndsEarly at statement 1
 file '#1=POINT($,1.,1.);' '#2=POINT($,1.);' '#3=CLOUD((#1,#2,#9),(),(TALLY(1)));' '#1=POINT($,2.,2.);' '#4=CLOUD((#3),(),(TALLY(1)));' \
     '#2=POINT($,1.,1.);' '#5=CLOUD((#6),(),(TALLY(1)));' > "$here/several"
 file '#1=POINT($,1.);' '#2=POINT($,1.,1.);;' > "$here/broken"
+file '#1=POINT($,1.);' '#2=POINT($,1.,1.);;' '#3=POINT($,1.,1.)' | head -n 10 > "$here/cut"
 
 run check --all "$demo" "$here/point"
 expect 'every refusal of a file that has none' 0 'accepted, instances 1, canonical bytes 171' ''
@@ -206,13 +207,19 @@ $(seq 1001 1150 | sed 's/.*/refused 56 Dangling in #&/')
 refusals 300"
 
 run check --all "$demo" "$here/broken"
+expect 'a broken statement' 1 '' 'refused 45 Count in #1
+refused 20 Unexpected at statement 10
+refusals 2'
+
+run check --all "$demo" "$here/cut"
 expect 'a refusal that ends the reading' 1 '' 'refused 45 Count in #1
 refused 20 Unexpected at statement 10
-refusals 2, the rest was not read'
+refused 24 EndsEarly at statement 11
+refusals 3, read 162 bytes'
 
 run check --all "$demo" "$here"
 expect 'every refusal of a folder' 3 '' 'read fault
-refusals 0, the rest was not read
+refusals 0, read 0 bytes
 note: '"$here: a folder"
 
 run check --all "$here/schema" "$here/point"
@@ -295,7 +302,13 @@ expect 'no place in a file that is accepted' 0 'accepted, instances 1, canonical
 run check --where --all "$demo" "$here/broken"
 expect 'places in a list' 1 '' "$here/broken:8:14: 45 Count in #1: POINT.Y
 $here/broken:9:19: 20 Unexpected at statement 10
-refusals 2, the rest was not read"
+refusals 2"
+
+run check --where --all "$demo" "$here/cut"
+expect 'places in a list that a refusal ends' 1 '' "$here/cut:8:14: 45 Count in #1: POINT.Y
+$here/cut:9:19: 20 Unexpected at statement 10
+$here/cut:11:1: 24 EndsEarly at statement 11
+refusals 3, read 162 bytes"
 
 run check --where --most 1 "$demo" "$here/broken"
 expect 'the place of the one that is asked for' 1 '' "$here/broken:8:14: 45 Count in #1: POINT.Y
@@ -307,8 +320,8 @@ expect 'no places in a list of a file that is accepted' 0 'accepted, instances 1
 run check --all --format jsonl "$demo" "$here/broken"
 expect 'a list as JSON' 1 '' \
     "{\"file\":\"$here/broken\",\"number\":45,\"name\":\"Count\",\"instance\":1,\"byte\":139,\"line\":8,\"column\":14,\"entity\":\"POINT\",\"attribute\":\"Y\"}
-{\"file\":\"$here/broken\",\"number\":20,\"name\":\"Unexpected\",\"statement\":10,\"byte\":160,\"line\":9,\"column\":19,\"expected\":\[\"ENDSEC\",\"instance name\"\]}
-{\"refusals\":2,\"extent\":\"part\"}"
+{\"file\":\"$here/broken\",\"number\":20,\"name\":\"Unexpected\",\"statement\":10,\"passed\":\[160,162\],\"byte\":160,\"line\":9,\"column\":19,\"expected\":\[\"ENDSEC\",\"instance name\"\]}
+{\"refusals\":2,\"extent\":\"whole\"}"
 
 run check --format jsonl "$demo" "$here/broken"
 expect 'a refusal as JSON' 1 '' \
@@ -322,7 +335,7 @@ expect 'no such form' 2 '' "error: invalid value 'json' for '--format <FORM>'*"
 
 run check --all --format jsonl "$demo" "$here"
 expect 'JSON of a read that failed' 3 '' 'read fault
-{"refusals":0,"extent":"part"}
+{"refusals":0,"extent":"part","read":0}
 note: '"$here: a folder"
 
 run check --where "$demo" "$here/twice" "$here/empty"
@@ -401,7 +414,7 @@ run check --all "$demo" "$here/twice" "$here/point" "$here"
 expect 'every refusal of several files' 3 "$one" "$refused
 $here/twice: refusals 1
 $here: read fault
-$here: refusals 0, the rest was not read
+$here: refusals 0, read 0 bytes
 $here: note: a folder"
 
 run check "$here/schema" "$here/point" "$here/none"

@@ -18,7 +18,6 @@ RUNS = [
     ("p21-where", ["--format", "json"], [SCHEMA, COUNT]),
     ("p21-diff", [], [SCHEMA, BLOCK, CHANGED]),
     ("p21-diff", ["--names"], [SCHEMA, BLOCK, CHANGED]),
-    ("p21-renumber", [], [SCHEMA, BLOCK, "{here}/pairs"]),
     ("p21-table", ["--format", "tsv"], [SCHEMA, BLOCK]),
     ("p21-table", ["--names", "--format", "tsv"], [SCHEMA, BLOCK]),
     ("p21-table", ["--format", "tsv", SCHEMA, "--files-from"], ["{here}/list"]),
@@ -35,7 +34,6 @@ def timeless(text):
 
 def inputs(tests):
     """What is read from standard input is read as the file of that text, but for its name."""
-    tests.make("pairs", "#1\t#71\n")
     tests.make("list", f"{BLOCK}\n{CHANGED}\n")
     for tool, words, names in RUNS:
         tests.tool = tool
@@ -128,8 +126,6 @@ def forbidden(tests):
         ("p21-diff", [SCHEMA, BLOCK, path], f"p21-diff: {path}: cannot open {path}: it may not be read"),
         ("p21-diff", ["--names", SCHEMA, inside, BLOCK], f"p21-diff: {inside}: cannot open {inside}: it may not be read"),
         ("p21-diff", ["--names", "--pairing", copy, SCHEMA, BLOCK, BLOCK], f"p21-diff: cannot open {copy}: it may not be written"),
-        ("p21-renumber", [SCHEMA, BLOCK, path], f"p21-renumber: cannot open {path}: it may not be read"),
-        ("p21-renumber", [SCHEMA, path, "/dev/null"], f"p21-renumber: {path}: cannot open {path}: it may not be read"),
         ("p21-adapt", [path], f"p21-adapt: cannot open {path}: it may not be read"),
         ("p21-adapt", ["-o", copy, SCHEMA], f"p21-adapt: cannot open {copy}: it may not be written"),
         ("p21-adapt", ["-o", str(closed / "copy"), SCHEMA], f"p21-adapt: cannot open {closed}/copy: it may not be read"),

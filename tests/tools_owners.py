@@ -12,10 +12,8 @@ import sys
 
 ROOT = pathlib.Path(__file__).resolve().parent.parent
 sys.path.insert(0, str(ROOT / "tools"))
-from p21_models import Graph  # noqa: E402
-from p21_owners import Owners  # noqa: E402
-from p21_schemas import AttributeNames, Outline  # noqa: E402
-from p21_sets import Sets  # noqa: E402
+from p21_owners import Graph, Owners  # noqa: E402
+from p21_schemas import Outline  # noqa: E402
 
 # Two parts in an assembly, of which the second one's solid stands in a representation that a relationship leads to.
 OF_AP = """SCHEMA s;
@@ -107,22 +105,16 @@ IFC_OWNERS = {
     "11": (f"{NORTH}, {SECOND}", PSET), "10": (f"{NORTH}, {SECOND}", PSET), "12": (f"{NORTH}, {SECOND}", ""),
 }  # fmt: skip
 ROWS = [(OF_AP, AP_FILE, AP_OWNERS), (OF_IFC, IFC_FILE, IFC_OWNERS)]
-BY_NODE = f"""import {{ Graph }} from "{ROOT}/web/models.mjs";
-import {{ Owners }} from "{ROOT}/web/owners.mjs";
+BY_NODE = f"""import {{ Graph, Owners }} from "{ROOT}/web/owners.mjs";
 import {{ Outline }} from "{ROOT}/web/schemas.mjs";
-import {{ Sets }} from "{ROOT}/web/sets.mjs";
 let text = "";
 for await (const piece of process.stdin) text += piece;
 const bytesOf = (lines) => new TextEncoder().encode(lines);
 const owners = ([schema, file]) => {{
-  const outline = new Outline(bytesOf(schema));
-  const attributes = new Map([...outline.entities.keys()].map((name) => [name, outline.places(name).map((place) => place.attribute)]));
-  const graph = new Graph(new Sets(outline));
-  for (let side = 0; side < 2; side++) graph.add(bytesOf(file), () => {{}});
-  graph.close();
-  const found = new Owners({{ graph, partner: (node) => node + graph.sides[0].end }}, outline, attributes);
-  const said = (node) => [graph.name(node), found.owner(node)];
-  return Object.fromEntries(graph.ofSide(0).map(said).map(([name, {{ products, parts }}]) => [name, [products, parts]]));
+  const graph = new Graph([bytesOf(file), bytesOf(file)]);
+  const found = new Owners(graph, new Outline(bytesOf(schema)), (name) => name);
+  const said = (name) => [name, found.of(0, name)];
+  return Object.fromEntries([...graph.nodes[0].keys()].map(said).map(([name, {{ products, parts }}]) => [name, [products, parts]]));
 }};
 console.log(JSON.stringify(JSON.parse(text).map(owners)));
 """
@@ -135,13 +127,9 @@ def canonical(lines):
 
 def by_tools(schema, file):
     """What the tools say: the owners of each instance."""
-    outline = Outline(schema.encode())
-    graph = Graph(Sets(Outline(schema.encode())))
-    for _ in range(2):
-        graph.add(file.encode())
-    graph.close()
-    owners = Owners(graph, outline, AttributeNames(outline), lambda node: node + graph.sides[0].end)
-    return {str(graph.names[node]): list(owners.owner(node)) for node in graph.of_side(0)}
+    graph = Graph(file.encode(), file.encode())
+    owners = Owners(graph, Outline(schema.encode()), lambda name: name)
+    return {str(name): list(owners.of(0, name)) for name in graph.names[: graph.end_of_first]}
 
 
 def by_chance(chance):

@@ -15,7 +15,6 @@ sys.path.insert(0, str(ROOT / "tools"))
 import p21_plainly  # noqa: E402
 import p21_units  # noqa: E402
 from p21_schemas import Outline  # noqa: E402
-from p21_sets import Sets  # noqa: E402
 
 # A canonical value, what people write, and whether the first has what nobody writes.
 VALUES = [
@@ -90,12 +89,11 @@ PIECES = ["'", "''", "\\\\", "1.", "5.25E1", "-2.E-3", "E", "A1", ".T.", ",", "(
 # What the page's scripts say, of values, files, lengths and attributes.
 BY_NODE = f"""import {{ isSpelled, plainly }} from "{ROOT}/web/plainly.mjs";
 import {{ Outline }} from "{ROOT}/web/schemas.mjs";
-import {{ Sets }} from "{ROOT}/web/sets.mjs";
 import {{ Lengths, Units, withUnit }} from "{ROOT}/web/units.mjs";
 let text = "";
 for await (const piece of process.stdin) text += piece;
 const given = JSON.parse(text);
-const lengthsOf = (schema) => new Lengths(new Sets(new Outline(new TextEncoder().encode(schema))));
+const lengthsOf = (schema) => new Lengths(new Outline(new TextEncoder().encode(schema)));
 const unitOf = (lines) => {{
   const units = new Units();
   for (const line of lines) units.hear(line);
@@ -124,7 +122,7 @@ def by_tools(given):
         "values": [(p21_plainly.plainly(value), p21_plainly.is_spelled(value)) for value in given["values"]],
         "files": [p21_units.unit_of("".join(f"{line}\n" for line in ["DATA;", *lines, "ENDSEC;"]).encode()) for lines, _ in given["files"]],
         "lengths": [p21_units.with_unit(value, p21_plainly.plainly(value), unit) for value, unit, _ in given["lengths"]],
-        "attributes": [p21_units.Lengths(Sets(Outline(schema.encode()))).at(*place) for schema, *place, _ in given["attributes"]],
+        "attributes": [p21_units.Lengths(Outline(schema.encode())).at(*place) for schema, *place, _ in given["attributes"]],
     }
 
 

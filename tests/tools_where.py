@@ -117,7 +117,7 @@ VALUES = [
     ("the second reference", "#1=CLOUD((#2,«#3»),(),(TALLY(1)));\n#2=POINT($,1.,1.);"),
     ("the third reference", "#2=POINT($,1.,1.);\n#1=CLOUD((#2,#4),(),(«#3»));\n#3=MARKED($,.RED.);\n#4=ORIGIN($,*,1.);"),
     ("an instance behind a remark", "/* #1=POINT();; ' */ #1 /**/ = POINT($,1.,«''»);"),
-    ("signs in strings", "#1=POINT(';#1=(''\\S\\'',1.,«2»);"),
+    ("signs in strings", "#1=POINT(';#1,=(''\\S\\'',1.,«2»);"),
     ("a name with zeros", "#0001=POINT($,1.,«.T.»);"),
     ("a sign of a page behind its alphabet", "#1=POINT('\\PA\\\\S\\' 4; (',1.,«2»);"),
     ("a sign of a page behind numbers", "#1=POINT('\\X2\\00C4\\X0\\\\S\\' (;3',1.,«2»);"),
@@ -515,10 +515,16 @@ SEVERAL = [
         "refusals 5",
     ),
     (
+        "a broken statement",
+        "#1=POINT($,1.,«2»);\n#2=POINT($,1.,#9);\n#3=POINT($,1.,2.) «#4»=POINT($,1.,«3»);",
+        [(49, "#1", 0), (49, "#2", None), (20, "at statement 10", 1), (49, "#4", 2)],
+        "refusals 4",
+    ),
+    (
         "one that ends the reading",
-        "#1=POINT($,1.,«2»);\n#2=POINT($,1.,#9);\n#3=POINT($,1.,2.) «#4»=POINT($,1.,3);",
+        "#1=POINT($,1.,«2»);\n#2=POINT($,1.,#9);\nENDSEC\n«#4»=POINT($,1.,3);",
         [(49, "#1", 0), (49, "#2", None), (20, "at statement 10", 1)],
-        "refusals 3, the rest was not read",
+        "refusals 3, read {} bytes",
     ),
     (
         "lists in lists, and types",
@@ -538,6 +544,7 @@ def several(tests):
         for marked, behind in zip(rest[::2], rest[1::2]):
             places.append((front.count("\n") + 1, len(front) - front.rfind("\n"), marked))
             front += marked + behind
+        count = count.format(front.find("ENDSEC\n"))
         path = tests.make("several.step", front)
         output, error, status = tests.run(["--all", "--format", "json", DEMO, path])
         rows = [json.loads(line) for line in output.splitlines()]
@@ -556,6 +563,20 @@ def several(tests):
         tests.judge(f"{name}: two of them", (2, True, "", 1), (len(lines), lines[1].endswith("; no more were looked for"), error, status))
 
 
+def behind_broken(tests):
+    """Behind statements that were passed over an instance is shown by itself, with its own attributes: one lost an apostrophe, one its `;`."""
+    instances = "#1=POINT('a,1.,1.);\n#2=POINT('b',1.,1.)\n#3=POINT($,1.,2);\n#4=CLOUD((#3),(),(TALLY(1)));\n#5=CLOUD((#4),(),(TALLY(1)));"
+    path = tests.make("behind.step", file_of(instances, [("PRODUCT_MODEL", "DEMO")]))
+    output, error, status = tests.run(["--all", DEMO, path])
+    lines = output.splitlines()
+    refusals = ["1 BadByte at statement 8", "20 Unexpected at statement 9", "49 WrongKind in #3", "57 WrongTarget in #5"]
+    found = [line for line in lines if line.startswith("refus")]
+    tests.judge("behind broken statements", ([*(f"refused {line}" for line in refusals), "refusals 4"], "", 1), (found, error, status))
+    behind = lines[lines.index("refused 49 WrongKind in #3") :]
+    tests.judge("behind broken statements: the text", ["  #3=POINT($,1.,2);"], behind[2:3])
+    tests.judge("behind broken statements: the attribute", True, [">", "Y", "2"] in [line.split() for line in behind])
+
+
 def first_of_all(tests):
     """The first of all refusals is the one that is shown alone, with all that is said of it."""
     paths = ["examples/refused", "examples/product.step", f"{tests.here}/none"]
@@ -568,7 +589,7 @@ def first_of_all(tests):
         tests.judge(f"the first of all in {row['file']}", row, {**rows.pop(row["file"]), "rest": None})
     tests.judge("files with refusals", (set(), alone[1:]), (set(rows), together[1:]))
     lines = tests.run(["--all", SCHEMA, "examples/refused"])[0].splitlines()
-    counts = [line.partition(": ")[0] for line in lines if re.search(r": refusals 1(, the rest was not read)?$", line)]
+    counts = [line.partition(": ")[0] for line in lines if re.search(r": refusals 1(, read \d+ bytes)?$", line)]
     tests.judge("a folder alone", [f"examples/refused/{name}.step" for name in sorted(REFUSED)], counts)
     found = tests.run(["--most", "1", DEMO, f"{tests.here}/several.step"])
     tests.judge("--most alone", tests.run(["--all", "--most", "1", DEMO, f"{tests.here}/several.step"]), found)
@@ -1020,7 +1041,7 @@ def references(tests):
 # and values that are no word.
 PLAIN = """#1=POINT($,1.,2);#2=POINT('a''b',1.,$);
 #03 /*#4=POINT(*/ = POINT ( 'a;''#3=' , 1. , .T. ) ;
-#4=POINT('\\S\\' ;#4=ORIGIN(',1.,3);
+#4=POINT('\\S\\' ;#4,=ORIGIN(',1.,3);
 #5=CLOUD((),((1.),(2.,3)),(TALLY(1.)));
 #6=POINT('\u00e9',1.,'b\u00e4h');\t#7=POINT('\u00e9',1., 7 );
 #8=(MARKED(.BLUE.)POINT(1.,1.)SHAPE('a'));#9=MARKED($,.BLUE.);
@@ -1179,7 +1200,7 @@ def limits(tests):
 def main():
     tests = Tests("p21-where")
     groups = [faults, refused, values, schemas, attributes, explained, hints, kinds, others, renaming, changed]
-    groups += [expected, documented, missing, forms, several, first_of_all, many, helps, counts, seeking, columns, equals]
+    groups += [expected, documented, missing, forms, several, behind_broken, first_of_all, many, helps, counts, seeking, columns, equals]
     groups += [strings, unfinished, silent, cut_short, references, plain_lines, unplaced, lists, strange, controls, limits, memory, speed]
     for group in groups:
         group(tests)

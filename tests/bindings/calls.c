@@ -513,21 +513,30 @@ static void test_lines(void) {
     }
 }
 
+/* The front and the end of a file. */
+#define FRONT "ISO-10303-21;\nHEADER;\nFILE_DESCRIPTION((''),'2;1');\nFILE_NAME('','',(''),(''),'','','');\n" \
+              "FILE_SCHEMA(('PRODUCT_MODEL'));\nENDSEC;\nDATA;\n"
+#define END "ENDSEC;\nEND-ISO-10303-21;\n"
+
 /* A file that is refused in many places, and its lines end in three ways. */
-static const char broken[] = "ISO-10303-21;\nHEADER;\nFILE_DESCRIPTION((''),'2;1');\nFILE_NAME('','',(''),(''),'','','');\n"
-                             "FILE_SCHEMA(('PRODUCT_MODEL'));\nENDSEC;\nDATA;\n#1=PERSON($,$,$,$);\n#2=DIRECTION('');\r\n"
-                             "#3=CARTESIAN_POINT('',(1.,2,3.));\r#4=AXIS2_PLACEMENT_3D('',#9,$,$);\nENDSEC;\nEND-ISO-10303-21;\n";
+static const char broken[] = FRONT "#1=PERSON($,$,$,$);\n#2=DIRECTION('');\r\n"
+                                   "#3=CARTESIAN_POINT('',(1.,2,3.));\r#4=AXIS2_PLACEMENT_3D('',#9,$,$);\n" END;
+
+/* A file with a statement that has lost a parenthesis and one that has lost its end. */
+static const char passed[] = FRONT "#1=PERSON($,$,$,$);\n#2=DIRECTION('';\n#3=DIRECTION('',(1.,0.,0.))\n"
+                                   "#4=CARTESIAN_POINT('',(1.,2,3.));\n#5=AXIS2_PLACEMENT_3D('',#9,$,$);\n" END;
 
 static void test_lists(p21_schema *schema, bytes product) {
     static const struct {
         uint8_t number;
         uint64_t at;
+        uint64_t begins;
         spot spot;
     } rows[] = {
-        {P21_MISSING, 1, {"", 1, 145, 8, 11, "PERSON.ID", 0}},
-        {P21_COUNT, 2, {"", 1, 170, 9, 16, "DIRECTION.DIRECTION_RATIOS", 0}},
-        {P21_WRONG_KIND, 3, {"", 1, 200, 10, 27, "CARTESIAN_POINT.COORDINATES", 2}},
-        {P21_DANGLING, 4, {"", 0, 0, 1, 1, NULL, 0}},
+        {P21_MISSING, 1, 135, {"", 1, 145, 8, 11, "PERSON.ID", 0}},
+        {P21_COUNT, 2, 155, {"", 1, 170, 9, 16, "DIRECTION.DIRECTION_RATIOS", 0}},
+        {P21_WRONG_KIND, 3, 174, {"", 1, 200, 10, 27, "CARTESIAN_POINT.COORDINATES", 2}},
+        {P21_DANGLING, 4, 0, {"", 0, 0, 1, 1, NULL, 0}},
     };
     static const struct {
         size_t length;
@@ -535,10 +544,14 @@ static void test_lists(p21_schema *schema, bytes product) {
         size_t count;
         uint8_t extent;
         uint8_t last;
+        uint64_t read;
     } lists[] = {
-        {sizeof broken - 1, UINT64_MAX, 4, P21_WHOLE, P21_DANGLING},  {sizeof broken - 1, 2, 2, P21_MOST, P21_COUNT},
-        {sizeof broken - 1, 0, 1, P21_MOST, P21_MISSING},             {sizeof broken - 20, UINT64_MAX, 4, P21_PART, P21_ENDS_EARLY},
-        {0, UINT64_MAX, 1, P21_PART, P21_ENDS_EARLY},
+        {sizeof broken - 1, UINT64_MAX, 4, P21_WHOLE, P21_DANGLING, 0},
+        {sizeof broken - 1, 2, 2, P21_MOST, P21_COUNT, 0},
+        {sizeof broken - 1, 0, 1, P21_MOST, P21_MISSING, 0},
+        {sizeof broken - 20, UINT64_MAX, 4, P21_PART, P21_ENDS_EARLY, sizeof broken - 20},
+        {sizeof broken - 22, UINT64_MAX, 4, P21_PART, P21_ENDS_EARLY, sizeof broken - 27},
+        {0, UINT64_MAX, 1, P21_PART, P21_ENDS_EARLY, 0},
     };
     const bytes file = {(uint8_t *)broken, sizeof broken - 1};
     p21_list list = P21_EMPTY;
@@ -546,12 +559,18 @@ static void test_lists(p21_schema *schema, bytes product) {
     p21_place place;
     size_t count = 7;
     uint8_t extent = 7;
+    uint64_t told = 7;
     for (size_t i = 0; i < sizeof lists / sizeof lists[0]; i++) {
         judge(p21_survey(schema, file.at, lists[i].length, lists[i].most, &list, &report) == P21_DONE && is_quiet(&report), "a file is surveyed");
         judge(p21_list_count(&list, &count, &extent) == P21_DONE && count == lists[i].count && extent == lists[i].extent, "how many are refused");
+        told = 7;
+        if (extent == P21_PART) judge(p21_list_read(&list, &told) == P21_DONE && told == lists[i].read, "how many bytes are read");
+        else judge(p21_list_read(&list, &told) == P21_REFUSED && told == 7, "no refusal ended the reading");
         judge(p21_list_refusal(&list, count - 1, &report, &place) == P21_DONE && report.number == lists[i].last, "the last one");
         report.number = 7;
         judge(p21_list_refusal(&list, count, &report, &place) == P21_REFUSED && report.number == 7, "none behind it, and all stays as it was");
+        told = 7;
+        judge(p21_list_begins(&list, count, &told) == P21_REFUSED && told == 7, "nor does its statement begin");
     }
     judge(p21_survey(schema, file.at, file.length, UINT64_MAX, &list, &report) == P21_DONE, "a file is surveyed whole");
     for (size_t i = 0; i < sizeof rows / sizeof rows[0]; i++) {
@@ -560,13 +579,57 @@ static void test_lists(p21_schema *schema, bytes product) {
                   report.place == P21_INSTANCE && report.at == rows[i].at && report.instances == 0 && report.bytes == 0,
               "a refusal of a list");
         judge(is_spot(schema, &place, file, &rows[i].spot), "its place");
+        told = 7;
+        if (rows[i].begins > 0) judge(p21_list_begins(&list, i, &told) == P21_DONE && told == rows[i].begins, "where its statement begins");
+        else judge(p21_list_begins(&list, i, &told) == P21_REFUSED && told == 7, "a reference has no statement of its own");
     }
     judge(p21_survey(schema, product.at, product.length, UINT64_MAX, &list, &report) == P21_DONE && has_counts(&report, 128, 4872) &&
               p21_list_count(&list, &count, &extent) == P21_DONE && count == 0 && extent == P21_WHOLE &&
-              p21_list_refusal(&list, 0, &report, &place) == P21_REFUSED,
+              p21_list_refusal(&list, 0, &report, &place) == P21_REFUSED && p21_list_read(&list, &told) == P21_REFUSED &&
+              p21_list_begins(&list, 0, &told) == P21_REFUSED,
           "nothing is refused of a file that is accepted");
     p21_list_free(&list);
     judge(list.inside == NULL && p21_list_count(&list, &count, &extent) == P21_MISUSED && count == 0, "a list that is let go");
+}
+
+/* Lists that go on behind broken statements: of a reference to what isn't there they say nothing then. */
+static void test_broken_statements(p21_schema *schema) {
+    static const struct {
+        uint8_t number;
+        uint8_t where;
+        uint64_t at;
+        uint64_t begins;
+        spot spot;
+    } rows[] = {
+        {P21_MISSING, P21_INSTANCE, 1, 135, {"", 1, 145, 8, 11, "PERSON.ID", 0}},
+        {P21_UNEXPECTED, P21_STATEMENT, 9, 155, {"", 1, 170, 9, 16, NULL, 0}},
+        {P21_UNEXPECTED, P21_STATEMENT, 10, 172, {"", 1, 200, 11, 1, NULL, 0}},
+        {P21_WRONG_KIND, P21_INSTANCE, 4, 200, {"", 1, 226, 11, 27, "CARTESIAN_POINT.COORDINATES", 2}},
+    };
+    const bytes file = {(uint8_t *)passed, sizeof passed - 1};
+    p21_list list = P21_EMPTY;
+    p21_report report;
+    p21_place place;
+    size_t count = 7;
+    uint8_t extent = 7;
+    uint64_t told = 7;
+    judge(p21_survey(schema, file.at, file.length, UINT64_MAX, &list, &report) == P21_DONE && is_quiet(&report), "a broken file is surveyed");
+    judge(p21_list_count(&list, &count, &extent) == P21_DONE && count == sizeof rows / sizeof rows[0] && extent == P21_WHOLE, "to its end");
+    judge(p21_list_read(&list, &told) == P21_REFUSED && told == 7, "no refusal ended the reading");
+    for (size_t i = 0; i < sizeof rows / sizeof rows[0]; i++) {
+        judge(p21_list_refusal(&list, i, &report, &place) == P21_DONE && report.number == rows[i].number && report.place == rows[i].where &&
+                  report.at == rows[i].at,
+              "a refusal behind a broken statement");
+        judge(is_spot(schema, &place, file, &rows[i].spot), "its place");
+        judge(p21_list_begins(&list, i, &told) == P21_DONE && told == rows[i].begins, "where its statement begins");
+    }
+    judge(p21_survey(schema, file.at, file.length, 3, &list, &report) == P21_DONE && p21_list_count(&list, &count, &extent) == P21_DONE &&
+              count == 3 && extent == P21_MOST && p21_list_begins(&list, 2, &told) == P21_DONE && told == 172,
+          "a list that ends with a broken statement");
+    judge(p21_survey(schema, file.at, 199, UINT64_MAX, &list, &report) == P21_DONE && p21_list_count(&list, &count, &extent) == P21_DONE &&
+              count == 3 && extent == P21_PART && p21_list_read(&list, &told) == P21_DONE && told == 172,
+          "a file that ends in a statement behind a broken one");
+    p21_list_free(&list);
 }
 
 /* Files by themselves. */
@@ -687,6 +750,9 @@ static void test_misuse(p21_schema *schema, bytes file) {
     judge(p21_survey(&none, file.at, file.length, 1, &list, &report) == P21_MISUSED && list.inside == NULL, "no schema to survey by");
     judge(p21_list_count((p21_list *)schema, &length, &extent) == P21_MISUSED && length == 7 && extent == 7, "a schema is no list");
     judge(p21_list_refusal(&list, 0, &report, &place) == P21_MISUSED, "no list to look into");
+    uint64_t told = 7;
+    judge(p21_list_read(&list, &told) == P21_MISUSED && p21_list_begins(&list, 0, &told) == P21_MISUSED && told == 7, "no list that is read");
+    judge(p21_list_read((p21_list *)schema, &told) == P21_MISUSED && told == 7, "a schema is no list that is read");
     p21_cursor cursor = P21_START;
     uint8_t byte = 7;
     judge(p21_accepted_read(&session, &cursor, &byte, 1, &length) == P21_MISUSED && byte == 7 && length == 7, "no file to read on in");
@@ -734,6 +800,7 @@ int main(int count, char **words) {
     test_lines();
     test_places(words[1], &schema, product);
     test_lists(&schema, product);
+    test_broken_statements(&schema);
     test_syntax(words[1], product);
     test_refused_session(&schema, refused);
     test_misuse(&schema, product);

@@ -52,6 +52,15 @@ static bool is_misused(const std::function<void()> &call) {
     return false;
 }
 
+static bool is_past(const std::function<void()> &call) {
+    try {
+        call();
+    } catch (const std::out_of_range &) {
+        return true;
+    }
+    return false;
+}
+
 static_assert(!std::is_copy_constructible_v<p21::text> && std::is_nothrow_move_constructible_v<p21::text>);
 static_assert(!std::is_copy_constructible_v<p21::session> && std::is_nothrow_move_constructible_v<p21::session>);
 static_assert(!std::is_copy_constructible_v<p21::refusals> && std::is_nothrow_move_constructible_v<p21::refusals>);
@@ -123,16 +132,15 @@ static void test_readings(const p21::schema &schema, const std::string &folder) 
     p21::refusals found = schema.survey(refused);
     judge(found.size() == 1 && found.extent() == P21_WHOLE && found.at(0).byte() == 355, "one refusal");
     judge(std::string(found.at(0).what()) == "refused 45 Count in #3", "its line");
-    bool is_past = false;
-    try {
-        found.at(1);
-    } catch (const std::out_of_range &) {
-        is_past = true;
-    }
-    judge(is_past, "no refusal behind the last one");
+    judge(is_past([&] { found.at(1); }), "no refusal behind the last one");
     const p21::refusals moved = std::move(found);
     judge(moved.size() == 1 && moved.at(0).number() == P21_COUNT, "a list that was moved");
-    judge(schema.survey(std::string_view(refused).substr(0, 300), 5).extent() == P21_PART, "a list that the end of a file ends");
+    judge(moved.read() == std::nullopt && moved.begins(0) == refused.find("#3="), "no refusal ended it, and where the statement begins");
+    judge(is_past([&] { moved.begins(1); }), "no statement of a refusal behind the last one");
+    const p21::refusals cut = schema.survey(std::string_view(refused).substr(0, 300), 5);
+    judge(cut.extent() == P21_PART && cut.read() == cut.begins(0) && cut.read() < 300u, "a list that the end of a file ends");
+    const p21::refusals references = schema.survey(text_of(folder + "/refused/Dangling.step"));
+    judge(references.size() == 1 && references.begins(0) == std::nullopt, "a reference has no statement of its own");
     const p21::overview overview = p21::syntax(product);
     judge(overview.instances == 128 && overview.schema.view() == "PRODUCT_MODEL", "the instances and the schema of a file");
     judge(overview.header.view().find("author: Edda Kr\303\274ger\n") != std::string_view::npos, "its header");

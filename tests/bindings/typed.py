@@ -58,7 +58,9 @@ def first_line(schema: p21.Schema, path: Path) -> str:
     place: Optional[p21.Place] = p21.where(schema, path)
     differences: p21.Differences = p21.diff(schema, path, path, data=True)
     digest: str = p21.hash(schema, path, data=True).sha256
-    return f"{line!r} {first!r} {place} {differences.verdict['verdict']} {digest} {len(p21.survey(schema, path))}"
+    survey: p21.Survey = p21.survey(schema, path)
+    read: Optional[int] = survey.read
+    return f"{line!r} {first!r} {place} {differences.verdict['verdict']} {digest} {len(survey)} {read}"
 
 
 if __name__ == "__main__":

@@ -768,6 +768,33 @@ def references_to_refused_instances(n, folder):
     return listed(folder, [*("#%d=CLOUD((#%d),(),(TALLY(1)));\n" % (k, n + k) for k in range(1, n + 1)), *refused])
 
 
+def broken_statements_listed(n, folder):
+    return listed(folder, ("#%d=point($,1.,1.);\n" % k for k in range(n)))
+
+
+def statements_without_ends_listed(n, folder):
+    return listed(folder, ("#%d=POINT($,1.,1.)\n" % k for k in range(n)))
+
+
+def lost_apostrophes_listed(n, folder):
+    """Each string runs into the next statement, which is read once more."""
+    return listed(folder, ("#%d=POINT('a,1.,1.);\n" % k for k in range(n)))
+
+
+def remarks_without_ends_listed(n, folder):
+    """Each remark runs on to the end of the file."""
+    return listed(folder, ("#%d=POINT($,1.,1.); /* a\n" % k for k in range(n)))
+
+
+def landmarks_in_a_string_listed(n, folder):
+    """One string of a broken statement holds the others."""
+    return listed(folder, ["#0=POINT('\n", *("#%d=POINT($,1.,1);\n" % k for k in range(1, n)), "',nan,1.);\n"])
+
+
+def one_broken_statement_of_many_lines(n, folder):
+    return listed(folder, ["#0=point(\n", *("#%d,\n" % k for k in range(n)), "1.);\n"])
+
+
 def few_listed_of_many(n, folder):
     return ["check", "--most", "5", str(DEMO), data(folder, [*(POINT % k for k in range(n)), *("#%d=POINT($);\n" % k for k in range(n, n + 10))])]
 

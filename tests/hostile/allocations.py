@@ -41,6 +41,8 @@ EVERY_REFUSAL = [
     ["check", "--all", "demo.exp", "twice"],
     ["check", "--all", "demo.exp", "point"],
     ["check", "--all", "point", "point"],
+    ["check", "--all", "demo.exp", "broken"],
+    ["check", "--all", "--most", "3", "demo.exp", "broken"],
 ]
 LONG = [["canon", "kinds.exp", "kinds"], ["check", "--all", "kinds.exp", "kinds"]]
 HARDER_SCHEMAS = [["schema", name] for name in ("unknown.exp", "circular.exp", "anew.exp")] + [["canon", "wide.exp", "wide"]]
@@ -101,8 +103,8 @@ PARTS = {
     "help and usage": WORDS,
 }
 
-# The part whose files are read byte by byte too, so that tokens are put together from pieces.
-BYTE_BY_BYTE_TOO = "long values"
+# The parts whose files are read byte by byte too, so that tokens are put together from pieces, and statements are passed over by pieces.
+BYTE_BY_BYTE_TOO = ("long values", "every refusal")
 
 # Two files of 200 instances with one meaning, the second with each name early and other spellings.
 MANY = file_of(
@@ -203,7 +205,7 @@ def in_turn(rigged, refusing, parts):
     """Each allocation of each run refused, alone and with all behind it."""
     for part in parts or PARTS:
         for arguments in PARTS[part]:
-            for most in (0, 1) if part == BYTE_BY_BYTE_TOO else (0,):
+            for most in (0, 1) if part in BYTE_BY_BYTE_TOO else (0,):
                 plain, counts = rigged.failing(arguments, READ_MOST=most)
                 for on in (0, 1):
                     for at in range(1, counts.allocations + 1):

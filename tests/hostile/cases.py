@@ -174,6 +174,11 @@ FILES = {
     # Rows of several lengths, with a list at their end
     "rows": file_of(f"#1=POINT(({'1,' * 33}(1),(1,2,3,(4)),A(({'1,' * 17}(1),2))),{'1,' * 9}(1));\n"),
     "twice": file_of("#1=POINT($,1.,1.);\n#1=POINT($,1.,1.);\n"),
+    # Broken statements, a refused one with a statement in a string, and two remarks that never end
+    "broken": file_of(
+        "#1=point($,1.,1.);\n#2=POINT('a;\n#9=',1.);\n#3=POINT($,1.,1.)\n#4=CLOUD((#2,#77),(),(TALLY(1)));\n#5=POINT('b,1.,1.);\n"
+        "#6=POINT('c',1.,1.);\n#7=CLOUD((#4),(),(TALLY(1)));\n#8=POINT($,2.); /* d\n#10=POINT($,1.,1.); /* e\n"
+    ),
 }
 
 # What `param` reads: strings, directives, and every kind of scalar, with texts that it refuses.

@@ -1,11 +1,12 @@
 """The commands: what is written to standard output and to standard error, and the status."""
 
 from . import canonical
-from .files import read_file, survey_file
+from .files import read_file
 from .limits import USUAL
 from .numbering import Alike, numbered
 from .refusal import Refused, RefusedFile, RefusedSchema
 from .schema import read_schema
+from .survey import survey_file
 from .syntax import header_lines, keyword_lines, read_alone
 from .tokens import canonical_param
 
@@ -86,12 +87,14 @@ def check_names(found, file):
 
 
 @of_files
-def check_all(found, file, most=None):
-    """The same; or a line for each refusal, and their count."""
-    refusals, behind, meaning = survey_file(found, file, most)
+def check_all(found, file, most=None, fails=False):
+    """The same; or a line for each refusal, and their count. Where a read fails, it does so behind these bytes, and isn't counted."""
+    refusals, behind, meaning = survey_file(found, file, most, fails)
     if not refusals:
         return accepted(found, meaning)
-    return refused("\n".join([*map(str, refusals), f"refusals {len(refusals)}{behind}"]))
+    count = sum(isinstance(refusal, RefusedFile) for refusal in refusals)
+    output, error, status = refused("\n".join([*map(str, refusals), f"refusals {count}{behind}"]))
+    return output, error, status if count == len(refusals) else 3
 
 
 @of_files

@@ -1,4 +1,4 @@
-"""What a file means under a schema, or the first refusal of it; or all refusals of it."""
+"""What a file means under a schema, or the first refusal of it."""
 
 import re
 from dataclasses import dataclass, field
@@ -116,59 +116,3 @@ class Reading:
 def read_file(schema, data, limits=USUAL):
     """The meaning of a file under a schema, within limits."""
     return Reading(schema, limits).read(data)
-
-
-class Survey(Reading):
-    """The reading of one file whose refused instances are left out, and listed: `refusals`, up to so many."""
-
-    def __init__(self, schema, most):
-        super().__init__(schema)
-        self.most = most
-        self.refusals = []
-        self.refused_names = set()
-
-    def read(self, data):
-        """What is said behind the count of the refusals: nothing where all of the file was read."""
-        parser = Parser(tokens(data, self.limits))
-        try:
-            for statement in parser.statements():
-                self.statement(statement)
-                if len(self.refusals) == self.most:
-                    return ", no more were looked for"
-        except Refused as refused:
-            self.refusals.append(RefusedFile(refused, f"at statement {parser.number}"))
-            return ", the rest was not read"
-        for holder, need in self.needs:
-            number = self.refused_need(need)
-            if number:
-                self.refusals.append(RefusedFile(Refused(number), f"in #{holder}"))
-            if len(self.refusals) == self.most:
-                return ", no more were looked for"
-        return ""
-
-    def instance(self, statement):
-        """An instance that is refused is listed, and its name is noted: nothing is said of references to it."""
-        try:
-            if statement.name in self.refused_names:
-                raise RefusedFile(Refused(40), f"in #{statement.name}")
-            super().instance(statement)
-        except RefusedFile as refused:
-            self.refusals.append(refused)
-            self.refused_names.add(statement.name)
-
-    def refused_need(self, need):
-        """The number with which a reference is refused, if it is."""
-        if need.target in self.refused_names:
-            return None
-        if need.target not in self.meaning.instances:
-            return 56
-        if not is_served(need, self.meaning.instances[need.target][1].entities):
-            return 57
-        return None
-
-
-def survey_file(schema, data, most):
-    """The refusals of a file under a schema, what is said behind their count, and its meaning without what is refused."""
-    survey = Survey(schema, most)
-    behind = survey.read(data)
-    return survey.refusals, behind, survey.meaning

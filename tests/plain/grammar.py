@@ -70,7 +70,16 @@ class Parser:
 
     def statements(self):
         """The statements of a file, in their order."""
-        for statement in self.file():
+        return self.numbered(self.file())
+
+    def statements_in_data(self, named):
+        """The statements of a file from within a data section on, which has a name or none."""
+        self.in_data = True
+        return self.numbered(self.behind_heading(named))
+
+    def numbered(self, statements):
+        """Statements, each with its number, and behind the last one nothing."""
+        for statement in statements:
             yield statement
             self.number += 1
         for token in self.tokens:
@@ -86,6 +95,15 @@ class Parser:
         yield self.line("HEADER;")
         yield from self.header()
         yield from self.sections()
+        yield self.line("END-ISO-10303-21;")
+
+    def behind_heading(self, named):
+        """The instances of a data section, and what stands behind it up to the end of the file."""
+        yield from self.instances()
+        if named:
+            yield from self.sections(named)
+        else:
+            self.after_unnamed()
         yield self.line("END-ISO-10303-21;")
 
     def section_word(self, *words, finish=False):
@@ -123,12 +141,9 @@ class Parser:
 
     # Data
 
-    def sections(self):
-        """One section without a name, or one or more with a name each."""
-        named = False
-        while True:
-            if self.first_of_section(named) is None:
-                return
+    def sections(self, named=False):
+        """One section without a name, or one or more with a name each; or the others behind one with a name."""
+        while self.first_of_section(named) is not None:
             heading = yield from self.heading(named)
             named = heading is not None
             yield from self.instances()

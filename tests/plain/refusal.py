@@ -82,6 +82,13 @@ class RefusedFile(Exception):
         super().__init__(f"{refused} {place}")
 
 
+class ReadFault(Exception):
+    """A read fails behind the bytes of a file that it gave."""
+
+    def __init__(self):
+        super().__init__("read fault")
+
+
 class RefusedSchema(Exception):
     """The text of a schema is refused, by the number behind its S."""
 

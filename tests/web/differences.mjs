@@ -1,15 +1,12 @@
 // What the page says of how files differ: differences.mjs MODULE reads a list of {schema, files, options} as JSON, and writes for each
-// the lines by the names of instances with these options, and those up to names, each with the last line, and the reports of both.
+// the lines by the names of instances with these options, and those by pairs, each with the last line, and the reports of both.
 
 import fs from "node:fs";
 import { toleranceOf } from "../../web/decimals.mjs";
 import { Files } from "../../web/differences.mjs";
-import { Owners } from "../../web/owners.mjs";
 import { Report } from "../../web/pages.mjs";
 import { Program, Text } from "../../web/program.mjs";
-import { listing } from "../../web/reading.mjs";
 import { Outline } from "../../web/schemas.mjs";
-import { Sets } from "../../web/sets.mjs";
 import { Lengths } from "../../web/units.mjs";
 
 const program = new Program(new WebAssembly.Module(fs.readFileSync(process.argv[2])));
@@ -19,33 +16,29 @@ const bytesOf = (path) => new Uint8Array(fs.readFileSync(path));
 /** Two files under a schema that are compared. */
 function compared(schemaPath, paths) {
   const schema = new Text(bytesOf(schemaPath));
-  const { attributes } = listing(program, schema);
   const canonical = paths.map((path) => {
     const { output, error } = program.run(["canon", "--", "schema", "file"], { schema, file: new Text(bytesOf(path)) });
     if (error) throw new Error(`${path}: ${error}`);
     return output;
   });
-  const sameButForNames = (first, second) => {
-    const files = { schema, first: new Text(first), second: new Text(second) };
-    return program.run(["same", "--names", "--", "schema", "first", "second"], files);
-  };
-  const diff = ([first, second], rows) => {
-    const files = { schema, first: new Text(first), second: new Text(second) };
-    const words = ["diff", "--format", "jsonl", "--", "schema", "first", "second"];
-    const { error } = program.run(words, files, undefined, (piece) => rows.hear(piece));
+  const [first, second] = canonical.map((bytes) => new Text(bytes));
+  const diff = (way, rows) => {
+    const words = ["diff", "--format", "jsonl", ...(way === "pairs" ? ["--pairs"] : []), "--", "schema", "first", "second"];
+    const { error } = program.run(words, { schema, first, second }, undefined, (piece) => rows.hear(piece));
     if (error) throw new Error(`${paths}: ${error}`);
   };
-  const outline = new Outline(schema.bytes);
-  return { outline, files: new Files({ attributes, lengths: new Lengths(new Sets(outline)), diff, sameButForNames }, ...canonical) };
+  const areSame = (one, other) => {
+    const files = { schema, first: new Text(one), second: new Text(other) };
+    return program.run(["same", "--names", "--", "schema", "first", "second"], files).status === 0;
+  };
+  return new Files({ lengths: new Lengths(new Outline(schema.bytes)), diff, areSame }, ...canonical);
 }
 
 /** The report of what differs. */
-function report({ outline, files }, asked, paths) {
+function report(files, asked, paths) {
   const page = new Report(files, paths, style);
   const { known, counts } = files.each(asked, (difference) => page.add(difference));
-  const graph = files.graph(asked.names);
-  const owners = graph && new Owners(graph, outline, files.attributes);
-  return [...page.page(known, counts, owners?.hasProducts ? owners : null)].map((line) => `${line}\n`).join("");
+  return [...page.page(known, counts, files.owners(asked.names))].map((line) => `${line}\n`).join("");
 }
 
 /** What p21-diff prints with these options, by names and with --names. */
@@ -54,7 +47,7 @@ function differences({ schema, files: paths, options, withReport }) {
   const tolerance = options.tolerance ? toleranceOf(options.tolerance) : null;
   return [false, true].map((names) => {
     const asked = { names, data: options.data ?? false, tolerance };
-    const { lines, verdict, leftOut, counts } = found.files.list(asked, 0);
+    const { lines, verdict, leftOut, counts } = found.list(asked, 0);
     return { lines, verdict, leftOut, table: counts.table(), report: withReport ? report(found, asked, paths) : null };
   });
 }
