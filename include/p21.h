@@ -129,7 +129,7 @@ typedef struct p21_place {
 /* How much of a file a list is about. */
 enum {
     P21_WHOLE = 1, /* all of it */
-    P21_PART = 2,  /* as far as to the last refusal, which ended the reading */
+    P21_PART = 2,  /* as far as to the last refusal, which ended the reading; p21_list_read says how many bytes these are */
     P21_MOST = 3   /* as far as to the last refusal, since no more were asked for */
 };
 
@@ -310,8 +310,11 @@ uint8_t p21_place_name(const p21_schema *schema, uint32_t entity, uint32_t attri
 /*
  * Reads a file to its end, and hands out a list of what is refused of it, `most` refusals at most and one at least. P21_DONE: the
  * list is handed out; the report has the counts where the file is accepted, and then the list has nothing. An instance that is
- * refused is left out, and the reading goes on: of its references nothing is said, nor of references to its name. Every other
- * refusal ends the reading, and is the last one. The file isn't copied.
+ * refused is left out, and the reading goes on: of its references nothing is said, nor of references to its name. A statement of a
+ * data section that is broken, so that its bytes, tokens or grammar are refused, is passed over up to where the next one begins, and
+ * the reading goes on there; of no reference it is said then that its target isn't there. Every other refusal ends the reading, and
+ * is the last one: of the header, of where a section begins or ends, of a limit, of a file that ends early, and of a broken statement
+ * behind which none begins. The file isn't copied.
  */
 uint8_t p21_survey(const p21_schema *schema, const uint8_t *file, size_t length, uint64_t most, p21_list *list, p21_report *report);
 
@@ -319,10 +322,22 @@ uint8_t p21_survey(const p21_schema *schema, const uint8_t *file, size_t length,
 uint8_t p21_list_count(const p21_list *list, size_t *count, uint8_t *extent);
 
 /*
+ * Writes how many bytes of the file stand in front of the statement whose refusal ended the reading: those that the list is about.
+ * P21_REFUSED: none ended it, and nothing is written.
+ */
+uint8_t p21_list_read(const p21_list *list, uint64_t *bytes);
+
+/*
  * Writes the refusal of this number in a list, counted from 0, and where it stands. They are in the order of the file, those of
  * references behind the others. P21_REFUSED: the list has no such number, and nothing is written.
  */
 uint8_t p21_list_refusal(const p21_list *list, size_t number, p21_report *report, p21_place *place);
+
+/*
+ * Writes how many bytes of the file stand in front of the statement of the refusal of this number. P21_REFUSED: it is one of a
+ * reference, or the list has no such number, and nothing is written.
+ */
+uint8_t p21_list_begins(const p21_list *list, size_t number, uint64_t *begins);
 
 /* Lets go of a list. */
 void p21_list_free(p21_list *list);

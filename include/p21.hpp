@@ -176,19 +176,33 @@ public:
     std::size_t size() const noexcept { return count_; }
     /* P21_WHOLE, P21_PART or P21_MOST: how much of the file they are about. */
     int extent() const noexcept { return extent_; }
+    /* How many bytes of the file stand in front of the statement whose refusal ended the reading, where one did. */
+    std::optional<std::uint64_t> read() const {
+        std::uint64_t bytes = 0;
+        if (!detail::found(p21_list_read(get(), &bytes))) return std::nullopt;
+        return bytes;
+    }
 
     /* The refusal of this number, counted from 0; std::out_of_range where there are fewer. */
     refused at(std::size_t number) const {
         p21_report report;
         p21_place place;
         const std::uint8_t status = p21_list_refusal(get(), number, &report, &place);
-        if (status == P21_REFUSED) throw std::out_of_range("p21: there are fewer refusals");
+        if (status == P21_REFUSED) throw fewer();
         detail::judge(status);
         return refused(report, "", place);
+    }
+    /* How many bytes of the file stand in front of the statement of that refusal; nothing where it is one of a reference. */
+    std::optional<std::uint64_t> begins(std::size_t number) const {
+        std::uint64_t bytes = 0;
+        if (number >= count_) throw fewer();
+        if (!detail::found(p21_list_begins(get(), number, &bytes))) return std::nullopt;
+        return bytes;
     }
 
 private:
     friend class schema;
+    static std::out_of_range fewer() { return std::out_of_range("p21: there are fewer refusals"); }
     void count() { detail::judge(p21_list_count(get(), &count_, &extent_)); }
 
     std::size_t count_ = 0;

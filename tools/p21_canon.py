@@ -1,10 +1,10 @@
-"""Canonical files as the tools read them: how the program is asked for one, and how one is written with other names."""
+"""Canonical files: how the program is asked for one."""
 
 import mmap
 import os
 import re
 import tempfile
-from typing import BinaryIO, Dict, Iterator, Optional, Tuple
+from typing import Optional, Tuple
 
 import p21_reading as reading
 import p21_system as system
@@ -61,31 +61,3 @@ def canonical(program: str, schema: str, path: str, named: Optional[str] = None)
         named = path if named is None else named
         raise reading.Trouble(f"{shown(named)}: {shown(reading.with_reason(answer, schema, named))}")
     return text
-
-
-def write_pairs(file: BinaryIO, pairs: Iterator[Tuple[int, int]]) -> None:
-    """Writes a pairing: in each line the two names of an instance, with a tab between them."""
-    for first, second in pairs:
-        file.write(b"#%d\t#%d\n" % (first, second))
-
-
-# No instance has a greater name.
-GREATEST_NAME = 2**64 - 1
-
-
-def read_pairs(named: str) -> Dict[bytes, bytes]:
-    """Reads a pairing, which `-` has from standard input: the second name of each first one."""
-    found: Dict[bytes, bytes] = {}
-    with open(reading.lasting(named), "rb") as file:
-        for number, line in enumerate(file, 1):
-            names = re.fullmatch(rb"#(0|[1-9]\d{0,19})\t#(0|[1-9]\d{0,19})\n?", line)
-            if names is None:
-                raise reading.Trouble(f"{shown(named)}: line {number} has not two names")
-            if max(map(int, names.groups())) > GREATEST_NAME:
-                raise reading.Trouble(f"{shown(named)}: line {number} has a name above #{GREATEST_NAME}, which is the greatest")
-            if names[1] in found:
-                raise reading.Trouble(f"{shown(named)}: #{names[1].decode()} stands twice")
-            found[names[1]] = names[2]
-    if len(set(found.values())) < len(found):
-        raise reading.Trouble(f"{shown(named)}: two instances have one new name")
-    return found

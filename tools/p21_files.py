@@ -17,7 +17,11 @@ stands there, what is wrong with it, and what would be right.
 # `p21-where` keeps the bytes of a file, which take no more memory than the file where it lies, of which all is looked
 # at: a file that is mapped and cut short meanwhile ends the tool by a signal. What is said of a place is read
 # in these bytes; a file that was changed while the program read it is said to be, and nothing else.
+#
+# Behind a broken statement the program goes on where the next one seems to begin, and tells where that is. So statements are told
+# apart from there on, whatever stands open in front.
 
+import bisect
 import collections
 import difflib
 import functools
@@ -103,6 +107,8 @@ class Refusal(NamedTuple):
     attribute: Optional[str]
     # What the program says that could stand there.
     expected: Sequence[str] = ()
+    # Where its statement begins, if it was passed over.
+    begins: Optional[int] = None
 
     @property
     def answer(self) -> str:
@@ -138,7 +144,18 @@ def refusal_of(line: str, front: int = 0) -> Refusal:
     get = told.get
     column = get("column_in_characters") or get("column")
     where = (get("statement"), get("instance"), get("byte"), get("line"), column, get("entity"), get("attribute"))
-    return Refusal(told["number"], told["name"], *where, told.get("expected", ()))
+    return Refusal(told["number"], told["name"], *where, get("expected", ()), get("passed", (None,))[0])
+
+
+# Where a statement begins that the program passed over, and where it went on.
+Passed = Tuple[int, int]
+PASSED = re.compile(r',"passed":\[(\d+),(\d+)\]')
+
+
+def passed_over(lines: Iterable[str], front: int) -> List[Passed]:
+    """The statements that the program passed over, by the objects of their refusals. So many signs have the name of its file."""
+    found = (PASSED.search(line, front) for line in lines)
+    return [(int(passed[1]), int(passed[2])) for passed in found if passed]
 
 
 def end_of_name(line: str) -> int:
@@ -201,23 +218,43 @@ class Ends:
     """Where statements end in front of places, which are asked for from the front to the back: what stands between two places is
     passed over by searches for single bytes. Up to a place the program has read the file, so that strings and remarks end."""
 
-    def __init__(self, data: bytes) -> None:
+    def __init__(self, data: bytes, resumed: Sequence[int] = ()) -> None:
         self.data = data
-        self.begin()
+        # Where the program went on behind statements that it passed over, in the order of the file.
+        self.resumed = resumed
+        self.look_ahead()
+        self.begin(0)
 
-    def begin(self) -> None:
-        """Goes back to the beginning."""
+    def look_ahead(self) -> None:
+        """Forgets where marks stand."""
         self.remark, self.paged = Ahead(self.data, b"/*"), Ahead(self.data, reading.PAGED)
+
+    def begin(self, start: int) -> None:
+        """Goes to where a statement begins."""
         # So far the text was passed over, where the last statement before ends, and whether a string is open.
-        self.at, self.end, self.inside = 0, 0, False
+        self.at, self.end, self.inside = start, start, False
+
+    def last_resumed(self, place: int) -> int:
+        """Where the program went on last in front of a place; 0 where it did so nowhere."""
+        number = bisect.bisect_right(self.resumed, place)
+        return self.resumed[number - 1] if number else 0
+
+    def next_resumed(self, place: int) -> int:
+        """Where the program goes on first behind a place, or the end of the text."""
+        number = bisect.bisect_right(self.resumed, place)
+        return self.resumed[number] if number < len(self.resumed) else len(self.data)
 
     def before(self, place: int) -> int:
-        """The place behind the last statement that ends in front of a place; 0 where none does."""
-        if self.at <= place <= self.remark.place and place <= self.paged.place:
+        """The place behind the last statement that ends in front of a place, or was passed over; 0 where there is none."""
+        resumed = self.last_resumed(place) if self.resumed else 0
+        if resumed <= self.at <= place <= self.remark.place and place <= self.paged.place:
             self.pass_over(place)
             return self.end
         if place < self.at:
-            self.begin()
+            self.look_ahead()
+            self.begin(resumed)
+        elif self.at < resumed:
+            self.begin(resumed)
         while self.at < place:
             stop = min(place, self.remark.behind(self.at), self.paged.behind(self.at))
             self.pass_over(stop)
@@ -249,20 +286,22 @@ class Ends:
 class Checked:
     """A file and the schema by which it is checked, which the command line names so: what the refusals of a file share."""
 
-    def __init__(self, schema: str, named: str, data: bytes) -> None:
+    def __init__(self, schema: str, named: str, data: bytes, passed: Sequence[Passed] = ()) -> None:
         self.schema = schema
         self.named = named
         self.data = data
         self.name = name_of(reading.text_of(schema))
         self.lines = reading.Lines(data)
-        self.ends = Ends(data)
+        self.ends = Ends(data, [ends for _, ends in passed])
         self.last = Statement(0, 0, None)
         # Where the first instances of these names stand, of those that were looked for.
         self.known: Dict[int, int] = {}
+        # Where the statements begin that the program passed over.
+        self.passed = {begins for begins, _ in passed}
         self.alone = functools.lru_cache(maxsize=1024)(alone)
         self.keys_of = functools.lru_cache(maxsize=1024)(self.keys_of_instance)
         self.parts = functools.lru_cache(maxsize=1)(self.parts_of)
-        self.places = functools.lru_cache(maxsize=None)(self.places_of)
+        self.places = self.outline.places_in
         self.width = functools.lru_cache(maxsize=None)(self.width_of)
         self.missing_in = functools.lru_cache(maxsize=None)(self.missing_by_kinds)
         self.declared = functools.lru_cache(maxsize=None)(self.declared_of)
@@ -281,7 +320,8 @@ class Checked:
     def statement_at(self, place: int) -> Statement:
         """The statement at a place."""
         if not self.last.start <= place < self.last.end:
-            self.last = next(statements(self.data, self.ends.before(place)))
+            found = next(statements(self.data, self.ends.before(place)))
+            self.last = found._replace(end=min(found.end, self.ends.next_resumed(found.start)))
         return self.last
 
     def parts_of(self, statement: Statement) -> Sequence[Part]:
@@ -329,19 +369,17 @@ class Checked:
         digits = b"|".join(b"%d" % name for name in wanted) if len(wanted) <= FEW else rb"\d{1,20}"
         for found in re.finditer(rb"#0*(%s)(?=[\0- \x7f=/])" % digits, self.data):
             name = int(found[1])
-            if name in wanted and is_defined(self.data, found.end()) and self.statement_at(found.start()).start == found.start():
+            if name in wanted and is_defined(self.data, found.end()) and self.is_read_at(found.start()):
                 self.known[name] = found.start()
                 wanted.discard(name)
                 if not wanted:
                     return
 
-    # The schema
+    def is_read_at(self, start: int) -> bool:
+        """Does a statement begin at a place that wasn't passed over?"""
+        return self.statement_at(start).start == start and start not in self.passed
 
-    def places_of(self, key: str, alone: bool) -> List[Attribute]:
-        """What the values of a part stand for: all attributes of the entity, or among other parts those of its own."""
-        if alone:
-            return list(self.outline.places(key))
-        return [(key, attribute) for attribute in self.outline.own_attributes(key)]
+    # The schema
 
     def width_of(self, key: str, alone: bool) -> int:
         """How many signs the longest name of an attribute has that a value of a part may stand for."""
@@ -397,7 +435,8 @@ class Refused:
     def statement(self) -> Statement:
         """The statement at the place, where the program tells one."""
         assert self.told.byte is not None
-        return self.checked.statement_at(self.told.byte)
+        found = self.checked.statement_at(self.told.byte)
+        return found if self.told.begins is None else found._replace(start=self.told.begins)
 
     def place(self) -> Optional[Place]:
         """The place with what there is to say of it, or None where the program tells none."""
@@ -436,6 +475,8 @@ class Refused:
     def declared(self, attribute: Attribute) -> Tuple[str, ...]:
         """What the schema says of an attribute of the instance."""
         assert self.told.byte is not None
+        if self.told.begins is not None:
+            return self.checked.declared(tuple(part.key for part in self.checked.parts(self.statement)), attribute)
         return self.checked.declared(self.checked.keys_at(self.told.byte), attribute)
 
     # At a statement

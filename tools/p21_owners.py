@@ -9,10 +9,13 @@ properties."""
 # Products are told by the entities of AP203, AP214, AP242 and IFC. A schema without such entities has none.
 
 import array
-from typing import Any, Callable, Dict, Iterable, Iterator, List, Mapping, NamedTuple, Sequence, Set, Tuple
+import bisect
+from typing import Callable, Dict, Iterable, Iterator, List, NamedTuple, Optional, Sequence, Tuple
 
-from p21_models import Graph, key_of, parts_of, record_of, stretch_of, values_of
+import p21_lines as lines
 from p21_plainly import plainly
+from p21_reading import Text
+from p21_schemas import Outline
 
 PRODUCTS = {"PRODUCT", "IFCOBJECTDEFINITION"}
 PARTS = {"FACE", "ADVANCED_FACE", "IFCFACE", "IFCPROPERTYSETDEFINITION"}
@@ -36,15 +39,95 @@ class Owner(NamedTuple):
     parts: str
 
 
-class Owners:
-    """Answers for two files of one graph. `outline` is p21_schemas.Outline of their schema, `attributes` are the names of attributes
-    by entity, and `partner` gives for a node of the first file that of the second which is the same instance, or -1."""
+class Graph:
+    """The instances of two canonical files as nodes, those of the first file in front: their names and kinds, and which refers to
+    which."""
 
-    def __init__(
-        self, graph: Graph, outline: Any, attributes: Mapping[str, Sequence[str]], partner: Callable[[int], int]
-    ) -> None:
+    def __init__(self, first: Text, second: Text) -> None:
+        self.files = (first, second)
+        self.names = array.array("Q")
+        # The nodes of each data section, in which names rise.
+        self.sections: Tuple[List[range], List[range]] = ([], [])
+        self.places = array.array("Q")
+        self.kinds: Dict[bytes, int] = {}
+        self.kind = array.array("l")
+        self.starts = array.array("l", [0])
+        self.targets = array.array("l")
+        self.add(0)
+        self.end_of_first = len(self.names)
+        self.add(1)
+        self.back_starts, self.sources = self.turned()
+
+    def add(self, at: int) -> None:
+        """The instances of a file."""
+        data, begin = self.files[at], len(self.names)
+        targets = array.array("Q")
+        for _, place in lines.sections_of(data):
+            first = len(self.names)
+            for start, end in lines.lines_of(data, place):
+                line = bytes(data[start:end])
+                behind = line.index(b"=")
+                self.names.append(int(line[1:behind]))
+                self.places.append(start)
+                self.kind.append(self.kinds.setdefault(lines.keywords_of(line), len(self.kinds)))
+                targets.extend(lines.references_in(line[behind:]))
+                self.starts.append(len(self.targets) + len(targets))
+            self.sections[at].append(range(first, len(self.names)))
+        nodes = dict(zip(self.names[begin:], range(begin, len(self.names))))
+        self.targets.extend(map(nodes.__getitem__, targets))
+
+    def turned(self) -> Tuple["array.array[int]", "array.array[int]"]:
+        """The nodes that refer to each node, one behind the other, and where those to each begin."""
+        begins = array.array("l", bytes((len(self) + 1) * self.targets.itemsize))
+        for target in self.targets:
+            begins[target + 1] += 1
+        for node in range(len(self)):
+            begins[node + 1] += begins[node]
+        places = begins[:]
+        sources = array.array("l", bytes(len(self.targets) * self.targets.itemsize))
+        for node in range(len(self)):
+            for target in self.refs(node):
+                sources[places[target]] = node
+                places[target] += 1
+        return begins, sources
+
+    def __len__(self) -> int:
+        return len(self.names)
+
+    def is_first(self, node: int) -> bool:
+        """Is a node an instance of the first file?"""
+        return node < self.end_of_first
+
+    def node(self, at: int, name: int) -> Optional[int]:
+        """The instance of a name in a file."""
+        for nodes in self.sections[at]:
+            found = bisect.bisect_left(self.names, name, nodes.start, nodes.stop)
+            if found < nodes.stop and self.names[found] == name:
+                return found
+        return None
+
+    def refs(self, node: int) -> Sequence[int]:
+        """The nodes that a node refers to."""
+        return self.targets[self.starts[node] : self.starts[node + 1]]
+
+    def referrers(self, node: int) -> Sequence[int]:
+        """The nodes that refer to a node."""
+        return self.sources[self.back_starts[node] : self.back_starts[node + 1]]
+
+    def line(self, node: int) -> bytes:
+        """The line of an instance."""
+        data = self.files[0 if self.is_first(node) else 1]
+        start = self.places[node]
+        return bytes(data[start : data.find(b"\n", start)])
+
+
+class Owners:
+    """Answers for two files of one graph. `partner` gives for the name of an instance of the first file that of the second which is
+    the same instance, where there is one."""
+
+    def __init__(self, graph: Graph, outline: Outline, partner: Callable[[int], Optional[int]]) -> None:
         self.graph = graph
-        self.attributes = attributes
+        self.outline = outline
         self.partner = partner
         self.are_products: List[bool] = []
         self.are_parts: List[bool] = []
@@ -55,16 +138,12 @@ class Owners:
             self.are_parts.append(not PARTS.isdisjoint(above) or PROPERTY in keys)
         self.steps = self.steps_to_products()
         self.told: Dict[int, str] = {}
-        self.nodes: Tuple[Dict[int, int], Dict[int, int]] = ({}, {})
-
-    def find(self, at: int, names: Set[int]) -> None:
-        """Finds the nodes of these names in a file, of which the owners are asked."""
-        all_names = self.graph.names
-        self.nodes[at].update((all_names[node], node) for node in self.graph.of_side(at) if all_names[node] in names)
 
     def of(self, at: int, name: int) -> Owner:
-        """What owns the instance of a name in a file, which was found before."""
-        return self.owner(self.nodes[at][name])
+        """What owns the instance of a name in a file, which has one."""
+        node = self.graph.node(at, name)
+        assert node is not None
+        return self.owner(node)
 
     def has_products(self) -> bool:
         """Is there a product in the files?"""
@@ -72,11 +151,11 @@ class Owners:
 
     def is_product(self, node: int) -> bool:
         """Is a node a product?"""
-        return self.are_products[self.graph.kind(node)]
+        return self.are_products[self.graph.kind[node]]
 
     def is_part(self, node: int) -> bool:
         """Is a node a face or a set of properties?"""
-        return self.are_parts[self.graph.kind(node)]
+        return self.are_parts[self.graph.kind[node]]
 
     def steps_to_products(self) -> "array.array[int]":
         """By how many references each node leads to a product."""
@@ -90,8 +169,7 @@ class Owners:
 
     def above(self, nodes: Iterable[int]) -> List[int]:
         """What refers to some nodes, each once."""
-        sources = self.graph.sources
-        return list(dict.fromkeys(sources[edge] for node in nodes for edge in self.graph.referrers(node)))
+        return list(dict.fromkeys(source for node in nodes for source in self.graph.referrers(node)))
 
     def owner(self, node: int) -> Owner:
         """What owns an instance."""
@@ -115,10 +193,7 @@ class Owners:
         """What refers to some nodes; of what nothing refers to what it refers to. Each once."""
         found: Dict[int, None] = {}
         for node in level:
-            edges = self.graph.referrers(node)
-            found.update((self.graph.sources[edge], None) for edge in edges)
-            if not edges:
-                found.update((ref, None) for ref in self.graph.refs(node))
+            found.update(dict.fromkeys(self.graph.referrers(node) or self.graph.refs(node)))
         return iter(found)
 
     def down(self, level: List[int], steps: int) -> Tuple[List[int], List[int]]:
@@ -139,23 +214,19 @@ class Owners:
 
     def text(self, node: int) -> str:
         """A node: its entity, its name, and the texts by which people know it. One of the first file stands as its partner."""
-        if self.graph.is_first(node):
-            other = self.partner(node)
-            node = node if other < 0 else other
+        other = self.partner(self.graph.names[node]) if self.graph.is_first(node) else None
+        found = None if other is None else self.graph.node(1, other)
+        node = node if found is None else found
         if node not in self.told:
             line = self.graph.line(node)
-            keys = "+".join(map(key_of, parts_of(record_of(stretch_of(line)))))
+            keys = lines.keywords_of(line).decode("latin-1")
             side = "A" if self.graph.is_first(node) else ""
             self.told[node] = " ".join([f"{keys} {side}#{self.graph.names[node]}", *filter(None, [", ".join(self.texts(line))])])
         return self.told[node]
 
     def texts(self, line: bytes) -> Iterator[str]:
         """The texts by which people know an instance."""
-        parts = parts_of(record_of(stretch_of(line)))
-        for part in parts:
-            values = [value.text().decode("latin-1") for value in values_of(part)]
-            names = self.attributes.get(key_of(part), ())
-            names = names if len(parts) == 1 else names[max(len(names) - len(values), 0) :]
-            for name, value in zip(names, values):
-                if name in TEXTS and value.startswith("'") and value != "''":
-                    yield plainly(value)
+        for (_, name), start, end in self.outline.values_in(line):
+            value = line[start:end].decode("latin-1")
+            if name in TEXTS and value.startswith("'") and value != "''":
+                yield plainly(value)

@@ -11,14 +11,12 @@ import html
 import re
 from typing import Any, Callable, Dict, Iterable, Iterator, List, NamedTuple, Optional, Set, Tuple
 
-import p21_models as models
+import p21_lines
 from p21_differences import CAME, CHANGED, WENT, Counts, Difference, Given
-from p21_owners import Owner, Owners
+from p21_owners import NOWHERE, Owner, Owners
 from p21_plainly import is_spelled, plainly
-from p21_schemas import AttributeNames
-from p21_units import Lengths, unit_of, with_unit
 from p21_reading import shown
-from p21_models import key_of, parts_of, record_of, stretch_of, values_of
+from p21_units import Lengths, unit_of, with_unit
 
 MOST_INSTANCES = 2_000
 MOST_AROUND = 4_000
@@ -120,6 +118,14 @@ class Item(NamedTuple):
     all: List[Difference]
 
 
+class Said(NamedTuple):
+    """What stands above a page, what is left out, and the last line of a text."""
+
+    headline: str
+    left_out: str
+    verdict: str
+
+
 # Items by the faces or sets of properties that own them; and these by products.
 Parts = Dict[str, List[Item]]
 Groups = Dict[str, Parts]
@@ -151,11 +157,11 @@ def owner_of(found: Difference, owners: Owners) -> Owner:
 class Page:
     """Takes the differences of two files, and writes the page."""
 
-    def __init__(self, paths: Tuple[str, str], given: Given, lengths: Lengths) -> None:
+    def __init__(self, paths: Tuple[str, str], given: Given) -> None:
         self.paths = paths
         self.data = given.data
-        self.attributes = AttributeNames(given.outline)
-        self.lengths = lengths
+        self.outline = given.outline
+        self.lengths = Lengths(given.outline)
         self.units = [unit_of(given.data[0]), unit_of(given.data[1])]
         self.items: List[Item] = []
         self.left_out = 0
@@ -168,7 +174,8 @@ class Page:
     def is_point(self, key: str) -> bool:
         """Is a keyword that of an entity of points?"""
         if key not in self.points_known:
-            self.points_known[key] = COORDINATES in self.attributes.get(key, ())
+            places = self.outline.places(key) if key in self.outline.entities else ()
+            self.points_known[key] = any(attribute == COORDINATES for _, attribute in places)
         return self.points_known[key]
 
     def point(self, line: Optional[bytes]) -> Optional[Tuple[float, ...]]:
@@ -216,15 +223,15 @@ class Page:
             self.read(at, names)
             around: Set[int] = set()
             for line in list(self.lines_by_name[at].values()):
-                around.update(int(digits) for digits in models.without_names(line[line.index(b"=") :][:MOST_BYTES])[1])
+                around.update(p21_lines.references_in(line[line.index(b"=") :][:MOST_BYTES]))
             self.read(at, set(sorted(around - names)[:MOST_AROUND]))
         sides = "ab"
         self.anchors = {(sides[at], name) for at in (0, 1) for name in self.lines_by_name[at]}
 
     def read(self, at: int, names: Set[int]) -> None:
         """Reads the lines of these instances of a file."""
-        sections = models.sections_of(self.data[at])
-        lines = ((name, models.line_named(self.data[at], sections, name)) for name in names)
+        sections = p21_lines.sections_of(self.data[at])
+        lines = ((name, p21_lines.line_named(self.data[at], sections, name)) for name in names)
         self.lines_by_name[at].update((name, line) for name, line in lines if line)
 
     def read_behind(self) -> None:
@@ -233,8 +240,8 @@ class Page:
         step = 1
         count = 0
         data = self.data[1]
-        for _, place in models.sections_of(data):
-            for start, end in models.lines_of(data, place):
+        for _, place in p21_lines.sections_of(data):
+            for start, end in p21_lines.lines_of(data, place):
                 at = data.find(b"=", start) + 1
                 key = data[at : data.find(b"(", at)].decode("latin-1")
                 if self.is_point(key):
@@ -263,18 +270,13 @@ class Page:
 
     def spans(self, line: bytes, is_wanted: Callable[[Place], bool]) -> Iterator[Tuple[int, int]]:
         """Where the values of some attributes stand in a line."""
-        parts = parts_of(record_of(stretch_of(line)))
-        keys = tuple(map(key_of, parts))
-        for key, part in zip(keys, parts):
-            for place, value in zip(self.lengths.sets.places_of(key, keys), values_of(part)):
-                if is_wanted(place):
-                    yield value.start, value.end
+        return ((start, end) for place, start, end in self.outline.values_in(line) if is_wanted(place))
 
     def linked(self, text: bytes, at: int) -> str:
         """A part of a line with its references as links, where the page has what they lead to."""
         found = []
         place = 0
-        for word in models.STRING_OR_REFERENCE.finditer(text):
+        for word in p21_lines.STRING_OR_REFERENCE.finditer(text):
             anchor = ("ab"[at], int(word[1])) if word[1] and len(word[1]) <= 20 else None
             if anchor in self.anchors and anchor is not None:
                 name = f"{anchor[0]}{anchor[1]}"
@@ -284,10 +286,8 @@ class Page:
 
     # --- The parts of the page ---
 
-    def lines(self, said: Tuple[str, str, str], counts: Counts, owners: Optional[Owners]) -> Iterator[str]:
-        """The page, with its headline, what is left out, and the last line of a text. By `owners` the differences stand together that
-        one product owns."""
-        headline, left_out, verdict = said
+    def lines(self, said: Said, counts: Optional[Counts], owners: Optional[Owners]) -> Iterator[str]:
+        """The page, with a list where there are counts. By `owners` the differences stand together that one product owns."""
         self.fetch()
         if self.points:
             self.read_behind()
@@ -296,16 +296,18 @@ class Page:
         yield "<meta http-equiv=\"Content-Security-Policy\" content=\"default-src 'none'; style-src 'unsafe-inline'; script-src 'unsafe-inline'\">"
         yield '<meta name="viewport" content="width=device-width, initial-scale=1">'
         yield f"<title>{names[0]} and {names[1]}</title>\n<style>{STYLE}</style>\n</head>\n<body>"
-        yield f"<h1>{quoted(headline)}</h1>"
+        yield f"<h1>{quoted(said.headline)}</h1>"
         yield f'<p><span class="side">A</span><code>{names[0]}</code><br><span class="side">B</span><code>{names[1]}</code></p>'
-        if left_out:
-            yield f'<p id="left-unlisted">{quoted(left_out[0].upper() + left_out[1:])}.</p>'
-        yield f'<p class="verdict" id="verdict">{quoted(verdict)}</p>'
-        yield from self.summary(counts)
-        yield from self.plot()
-        yield from self.list(owners)
-        yield from self.around()
-        yield f"<script>{SCRIPT}</script>\n</body>\n</html>"
+        if said.left_out:
+            yield f'<p id="left-unlisted">{quoted(said.left_out[0].upper() + said.left_out[1:])}.</p>'
+        yield f'<p class="verdict" id="verdict">{quoted(said.verdict)}</p>'
+        if counts is not None:
+            yield from self.summary(counts)
+            yield from self.plot()
+            yield from self.list(owners)
+            yield from self.around()
+            yield f"<script>{SCRIPT}</script>"
+        yield "</body>\n</html>"
 
     def summary(self, counts: Counts) -> Iterator[str]:
         """The table by entity, with bars."""
@@ -343,20 +345,17 @@ class Page:
             yield f'<p class="soft" id="left-out">{self.left_out} more are not on this page; --format json has all.</p>'
 
     def groups(self, owners: Owners) -> Groups:
-        """The differences by what owns them, in the order of the first of each."""
-        instances = [item.first for item in self.items if item.first.what in ("instance", "section of")]
-        owners.find(0, {found.first for found in instances if found.first is not None and found.second is None})
-        owners.find(1, {found.second for found in instances if found.second is not None})
+        """The differences by what owns them, in the order of the first of each, those in no product last."""
         groups: Groups = {}
         for item in self.items:
             owner = owner_of(item.first, owners)
             groups.setdefault(owner.products, {}).setdefault(owner.parts, []).append(item)
-        return groups
+        return dict(sorted(groups.items(), key=lambda each: each[0] == NOWHERE))
 
     def group(self, products: str, parts: Parts) -> Iterator[str]:
-        """What one product owns, or some together."""
+        """What one product owns, or some together: in front what no face or set of properties owns."""
         yield f'<section class="group"><h3>{quoted(products)}</h3>'
-        for part, items in parts.items():
+        for part, items in sorted(parts.items(), key=lambda each: bool(each[0])):
             if part:
                 yield f'<section class="group"><h4>{quoted(part)}</h4>'
             for item in items:

@@ -14,7 +14,7 @@ import itertools
 import json
 import os
 import re
-from typing import Callable, Deque, Iterable, Iterator, List, Mapping, NamedTuple, Optional, Sequence, Set, Tuple
+from typing import Callable, Deque, Iterable, Iterator, List, NamedTuple, Optional, Sequence, Set, Tuple
 
 import p21_reading as reading
 from p21_reading import Text
@@ -264,6 +264,18 @@ class Outline:
         """The attributes for which an instance of an entity has values, each with the entity that declares it."""
         return ((entity, attribute) for entity in self.order(name) for attribute in self.own_attributes(entity))
 
+    @functools.lru_cache(maxsize=None)
+    def places_in(self, key: str, is_alone: bool) -> Sequence[Attribute]:
+        """What the values of a part stand for: all attributes of the entity, or among other parts those of its own."""
+        return tuple(self.places(key) if is_alone else ((key, attribute) for attribute in self.own_attributes(key)))
+
+    def values_in(self, line: bytes) -> Iterator[Tuple[Attribute, int, int]]:
+        """The attributes of an instance of a canonical file, each with the places in its line between which its value stands."""
+        parts = reading.read_parts(line)
+        for part in parts:
+            for place, value in zip(self.places_in(part.key, len(parts) == 1), part.values):
+                yield place, value.start, value.end
+
     def derived(self, name: str) -> Set[Attribute]:
         """The attributes of an entity that it or a supertype derives, each with the entity that declares it."""
         found: Set[Attribute] = set()
@@ -481,32 +493,6 @@ class Refused:
     def line(self, start: int) -> str:
         """The line in which a place stands."""
         return f"line {reading.line_number(self.text, start)}"
-
-
-class AttributeNames(Mapping[str, List[str]]):
-    """The attributes of each entity of a schema text in their order, which are looked for where they are asked for."""
-
-    def __init__(self, outline: Outline) -> None:
-        self.outline = outline
-        self.of = functools.lru_cache(maxsize=64)(self.names_of)
-
-    def names_of(self, name: str) -> List[str]:
-        """The names of an entity's attributes."""
-        return [attribute for _, attribute in self.outline.places(name)]
-
-    def __getitem__(self, name: str) -> List[str]:
-        if name not in self.outline.entities:
-            raise KeyError(name)
-        return self.of(name)
-
-    def __contains__(self, name: object) -> bool:
-        return name in self.outline.entities
-
-    def __iter__(self) -> Iterator[str]:
-        return iter(self.outline.entities)
-
-    def __len__(self) -> int:
-        return len(self.outline.entities)
 
 
 def name_of(text: Text) -> str:

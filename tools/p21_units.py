@@ -7,9 +7,9 @@
 import re
 from typing import Dict, List, Optional
 
-from p21_models import Text
 from p21_plainly import unescaped
-from p21_sets import AGGREGATES, Sets, words_in
+from p21_reading import Text
+from p21_schemas import AGGREGATES, Outline
 
 MEASURES = ("LENGTH_MEASURE", "IFCLENGTHMEASURE")
 STRING = re.compile(r"'[^']*'")
@@ -27,14 +27,14 @@ THREE = re.compile(r"\([^(),]+,[^(),]+,[^(),]+\)")
 class Lengths:
     """Answers for the places of a schema."""
 
-    def __init__(self, sets: Sets) -> None:
-        self.sets = sets
+    def __init__(self, outline: Outline) -> None:
+        self.outline = outline
         self.types: Dict[str, bool] = {}
 
     def at(self, entity: str, attribute: str) -> bool:
         """Are the values of an attribute lengths, which this entity declares?"""
-        words = self.sets.declared.get((entity, attribute))
-        return words is not None and self.leads_to_length(words)
+        is_known = entity in self.outline.entities
+        return is_known and self.leads_to_length(self.outline.type_of((), (entity, attribute)).split())
 
     def leads_to_length(self, words: List[str]) -> bool:
         """Does a type lead to a length whose words these are?"""
@@ -47,9 +47,8 @@ class Lengths:
         """Is a named type one of lengths?"""
         if name not in self.types:
             self.types[name] = name in MEASURES
-            declaration = self.sets.outline.types.get(name)
-            if declaration is not None and not self.types[name]:
-                self.types[name] = self.leads_to_length(words_in(declaration.words)[3:])
+            if name in self.outline.types and not self.types[name]:
+                self.types[name] = self.leads_to_length(self.outline.definition(name))
         return self.types[name]
 
 

@@ -1,53 +1,34 @@
-// What differs in the meaning of two STEP files, as tools/p21-diff tells it: by the names of instances as the program lists it, and up
-// to their names by a pairing. Whether they are the same but for names the program says.
+// What differs in the meaning of two STEP files, as the program lists it and tools/p21-diff shows it: by the names of instances, or by
+// pairs of instances whatever their names are.
 
 import { areNear } from "./decimals.mjs";
-import { Graph, elementsOf, lineNamed, renamedText, sectionsOf, sortedText } from "./models.mjs";
-import { NONE, fitsWhole, pairing } from "./pairing.mjs";
+import { frontOf, lineNamed, sectionsOf } from "./lines.mjs";
+import { Graph, Owners } from "./owners.mjs";
 import { isSpelled, plainly } from "./plainly.mjs";
 import { Trouble, joined } from "./program.mjs";
-import { LINE_FEED, bytesOf, readParts, shortened, textOf } from "./reading.mjs";
-import { nestingOf } from "./sets.mjs";
+import { shortened, textOf } from "./reading.mjs";
 import { hasUnit, unitOf, withUnit } from "./units.mjs";
 
-const FRONT = "ISO-10303-21;\nHEADER;\n";
-const END_OF_FILE = "END-ISO-10303-21;\n";
 export const KINDS = ["changed", "came", "went"];
 const [CHANGED, CAME, WENT] = KINDS;
-// Two canonical files of so many bytes together are compared up to names unasked, where they are told apart by names; and of two
-// of so many it is said which product owns what differs.
+// Of two canonical files of so many bytes together, which are told apart by names, the program is asked whether they are the same but for
+// names; and of two of so many it is said which product owns what differs.
 export const SMALL_ENOUGH = 1 << 21;
 const MOST_AS_GRAPH = 1 << 25;
-// Two canonical files of so many bytes together are compared up to names unasked, where they seem to be numbered otherwise. Of larger ones
-// in which something differs by a pairing the program isn't asked whether they are the same but for names; and of still larger ones in no
-// case, since that takes some 60 times a file in memory. What is said then.
-export const AT_ONCE = 1 << 24;
-const MOST_ASKED_BUT_FOR_NAMES = 1 << 27;
-const NOT_NUMBERED = "files of more than 128 MiB are numbered on a command line alone, by p21 same --names";
-// What two files are but for the names of their instances: by the program, but where it isn't asked or has no answer.
-const [SAME, DIFFERENT, UNDECIDED, NOT_ASKED, NO_ANSWER] = ["same", "different", "undecided", "not asked", "no answer"];
-const WORDS_OF_VERDICTS = {
-  [SAME]: "same",
-  [DIFFERENT]: "different",
-  [UNDECIDED]: "not decided",
-  [NOT_ASKED]: "what differs by a pairing",
-  [NO_ANSWER]: "no answer",
-};
-const HEADLINES = { ...WORDS_OF_VERDICTS, [SAME]: "the same", [DIFFERENT]: "what differs" };
-// What the program says of two files whose models don't tell their instances apart.
-const ALIKE = /^first: refused 59 Alike in #(\d+)$/;
-// What is said of a list that is empty where the files differ, or isn't where they are the same.
-const NOT_PAIRED = "the instances aren’t paired as the program pairs them";
-// No file has a name so great.
-const NO_NAME = 2n ** 64n;
+// What the program says of two files; or it has no answer, as for want of memory.
+const [SAME, DIFFERENT, UNDECIDED, NO_ANSWER] = ["same", "different", "undecided", "no answer"];
+const HEADLINES = { [SAME]: "the same", [DIFFERENT]: "what differs", [UNDECIDED]: "not decided", [NO_ANSWER]: "no answer" };
+// What is said of files that differ by pairs which could be others, so that there is no list; and of a list without an end.
+const NOT_DECIDED = "not decided: too many instances are alike to be paired";
+const NOT_WHOLE = "the list of what differs isn’t whole";
+// So many differences are kept, so that they need not be listed anew.
+const MOST_ROWS = 100_000;
 // A value of more characters isn't written as people would.
 const MOST_READ = 4_000;
 // What stands for an element that a file hasn't.
 const NO_ELEMENT = "-";
 // So many bytes of the program's list become a text at once.
 const HEARD_AT_ONCE = 1 << 20;
-
-// --- Canonical files ---
 
 /** Are these bytes the same? */
 export function equalBytes(first, second) {
@@ -56,27 +37,17 @@ export function equalBytes(first, second) {
   return true;
 }
 
-/** What stands in front of the data sections. */
-function frontOf(bytes) {
-  let at = FRONT.length;
-  while (textOf(bytes.subarray(at, at + "ENDSEC;\n".length)) !== "ENDSEC;\n") at = bytes.indexOf(LINE_FEED, at) + 1;
-  return bytes.subarray(0, at + "ENDSEC;\n".length);
-}
-
-/** A canonical file without its instances. */
-function outlineOf(bytes) {
-  const headings = sectionsOf(bytes).map(({ heading }) => `${heading}\nENDSEC;\n`);
-  return joined([frontOf(bytes), bytesOf(headings.join("") + END_OF_FILE)]);
-}
-
 // --- What the program lists ---
 
-/** The rows that the program writes piece by piece: each goes to `take`, and the last one is kept. */
-export class ListedRows {
-  constructor(take) {
+/** The rows that the program writes piece by piece: pairs, which are counted, differences, which go to `take`, and what both files are. */
+class ListedRows {
+  constructor(take, keepsPartners) {
     this.take = take;
     this.rest = "";
-    this.last = null;
+    this.word = null;
+    this.pairs = 0;
+    this.renumbered = 0;
+    this.partners = keepsPartners ? new Map() : null;
   }
 
   /** The next bytes. */
@@ -87,12 +58,21 @@ export class ListedRows {
   hearText(text) {
     const lines = (this.rest + text).split("\n");
     this.rest = lines.pop();
-    for (const line of lines) {
-      // A name may have more digits than a number here, and no text in a row has such quotes.
-      const row = JSON.parse(line.replace(/"([ab])":(\d+)/g, '"$1":"$2"'));
-      if (row.kind === "verdict") this.last = row;
-      else this.take(differenceOf(row));
-    }
+    // A name may have more digits than a number here, and no text in a row has such quotes.
+    for (const line of lines) this.row(JSON.parse(line.replace(/"([ab])":(\d+)/g, '"$1":"$2"')));
+  }
+
+  row(row) {
+    if (row.kind === "verdict") this.word = row.verdict;
+    else if (row.kind === "pair") this.pair(row);
+    else this.take(differenceOf(row));
+  }
+
+  /** The names of an instance in both files. */
+  pair({ a, b }) {
+    this.pairs++;
+    this.renumbered += Number(a !== b);
+    this.partners?.set(a, b);
   }
 }
 
@@ -120,17 +100,13 @@ class LeftOut {
   }
 
   /** Is a difference left out? */
-  takes({ what }) {
-    const isTaken = this.header && what === "header";
-    this.inHeader += Number(isTaken);
-    return isTaken;
-  }
-
-  /** Are two values that differ left out, since they are within the tolerance? */
-  takesNear(first, second) {
-    const isNear = this.tolerance !== null && areNear(first, second, this.tolerance);
+  takes({ what, attribute, before, after }) {
+    const isInHeader = this.header && what === "header";
+    const isOfValues = attribute !== null && before !== null && after !== null;
+    const isNear = !isInHeader && isOfValues && this.tolerance !== null && areNear(before, after, this.tolerance);
+    this.inHeader += Number(isInHeader);
     this.near += Number(isNear);
-    return isNear;
+    return isInHeader || isNear;
   }
 
   /** What is left out, in words; nothing where all is listed. */
@@ -149,168 +125,7 @@ class LeftOut {
   }
 }
 
-// --- Up to names ---
-
-/** A text with other names of instances. */
-function named(text, names) {
-  return renamedText(text, (name) => names.get(name));
-}
-
-/** The keywords of an instance's line. */
-function keywordsOfLine(line) {
-  return readParts(line)
-    .map(({ key }) => key)
-    .join("+");
-}
-
-/** The differences of instances that are paired, by the sets of their schema. Those that are within the tolerance are left out. */
-class Comparison {
-  constructor(sets, leftOut) {
-    Object.assign(this, { sets, leftOut });
-  }
-
-  /** Each value that differs in two instances of the same keywords; `mapped` is the first one with the names of the second file. */
-  *records({ names, told }, texts, mapped) {
-    const [one, other, renamed] = [...texts, mapped].map(readParts);
-    const keys = one.map(({ key }) => key);
-    for (const [number, part] of one.entries()) {
-      const places = this.sets.placesOf(part.key, keys);
-      const nestings = this.sets.ofPart(part.key, keys);
-      for (const at of part.values.keys()) {
-        const value = (parts, text) => text.slice(parts[number].values[at].start, parts[number].values[at].end);
-        const [was, is, meant] = [value(one, texts[0]), value(other, texts[1]), value(renamed, mapped)];
-        if (meant === is || this.isEqual(meant, is, nestings[at])) continue;
-        const [entity, attribute] = places[at];
-        const [before, after] = [was, is].map((text, side) => named(text, told[side]));
-        yield { kind: CHANGED, what: "instance", names, entity, attribute, keywords: keys.join("+"), indices: null, before, after };
-      }
-    }
-  }
-
-  /** Are two values the same, in sets of any order, or within the tolerance? */
-  isEqual(first, second, nesting) {
-    let texts = [first, second];
-    if (texts.every((text) => text.includes("#"))) {
-      const around = nestingOf(false, nesting);
-      texts = texts.map((text) => sortedText(this.sets, elementsOf(text), around));
-    }
-    return texts[0] === texts[1] || this.leftOut.takesNear(...texts);
-  }
-}
-
-/** Two files of which the names of instances don't count, with a pairing of their instances. */
-class UpToNames {
-  constructor(sets, first, second, heard) {
-    this.graph = new Graph(sets);
-    for (const bytes of [first, second]) this.graph.add(bytes, heard);
-    this.graph.close();
-    this.pairing = pairing(this.graph);
-    const alone = this.graph.ofSide(1).filter((node) => this.pairing.partner[node] === NONE);
-    this.leftOver = new Set(alone.map((node) => this.graph.name(node)));
-    this.headings = [first, second].map(sectionsOf);
-  }
-
-  /** How many instances are paired, and how many of these have one name in both files. */
-  counted() {
-    const { graph, pairing } = this;
-    const found = { pairs: 0, alike: 0 };
-    for (let node = 0; node < graph.sides[0].end; node++) {
-      const other = pairing.partner[node];
-      found.pairs += Number(other !== NONE);
-      found.alike += Number(other !== NONE && graph.name(node) === graph.name(other));
-    }
-    return found;
-  }
-
-  /** The instances of a file by rising names. */
-  nodes(side) {
-    const order = this.graph.ofSide(side);
-    const name = (node) => this.graph.name(node);
-    const isLess = (one, other) => name(one).length - name(other).length || (name(one) < name(other) ? -1 : 1);
-    return this.headings[side].length > 1 ? order.sort(isLess) : order;
-  }
-
-  /** What differs in the instances: of the first file by its names, then what came by the second's. */
-  *differences(comparison) {
-    const { graph } = this;
-    const { partner } = this.pairing;
-    for (const node of this.nodes(0)) {
-      if (partner[node] === NONE) {
-        const line = graph.line(node);
-        yield differenceOf({ kind: WENT, what: "instance", a: graph.name(node), entity: keywordsOfLine(line), before: line });
-      } else if (!fitsWhole(graph, partner, node)) yield* this.changed(comparison, node, partner[node]);
-    }
-    for (const node of this.nodes(1)) {
-      if (partner[node] !== NONE) continue;
-      const line = graph.line(node);
-      yield differenceOf({ kind: CAME, what: "instance", b: graph.name(node), entity: keywordsOfLine(line), after: line });
-    }
-  }
-
-  /** The line that begins the section of an instance. */
-  section(node) {
-    const side = node < this.graph.sides[0].end ? 0 : 1;
-    return this.headings[side].findLast(({ start }) => start <= this.graph.places[node]).heading;
-  }
-
-  /** What differs in a pair. */
-  *changed(comparison, node, other) {
-    const { graph } = this;
-    const nodes = [node, other];
-    const names = nodes.map((each) => graph.name(each));
-    const [before, after] = nodes.map((each) => this.section(each));
-    if (before !== after) yield differenceOf({ kind: CHANGED, what: "section of", a: names[0], b: names[1], before, after });
-    const texts = nodes.map((each) => graph.line(each));
-    yield* comparison.records({ names, told: nodes.map((each) => this.told(each)) }, texts, this.renamed(node, texts[0]));
-  }
-
-  /**
-   * The text of an instance of the first file, with the names of the second where there is a partner. One without a partner keeps its
-   * name where the second file has one of that name without a partner: what differs is listed with these two. Another one gets a name
-   * that is too great for any file.
-   */
-  renamed(node, text) {
-    const { graph } = this;
-    const { partner } = this.pairing;
-    const names = new Map([[graph.name(node), `#${graph.name(node)}`]]);
-    for (const ref of this.instancesBelow(node)) {
-      let name = graph.name(ref);
-      if (partner[ref] !== NONE) name = graph.name(partner[ref]);
-      else if (!this.leftOver.has(name)) name = NO_NAME + BigInt(name);
-      names.set(graph.name(ref), `#${name}`);
-    }
-    return named(text, names);
-  }
-
-  /**
-   * How the names are shown in the text of an instance that is paired with another one: both where they differ in the two files, and
-   * that of an instance without a partner behind the letter of its file.
-   */
-  told(node) {
-    const { graph } = this;
-    const { partner } = this.pairing;
-    const found = new Map();
-    for (const ref of [node, ...this.instancesBelow(node)]) {
-      const name = graph.name(ref);
-      const nodes = graph.isFirst(ref) ? [ref, partner[ref]] : [partner[ref], ref];
-      const both = [...new Set(nodes.map((each) => `#${graph.name(each)}`))].join("/");
-      found.set(name, partner[ref] === NONE ? `${graph.isFirst(ref) ? "A" : "B"}#${name}` : both);
-    }
-    return found;
-  }
-
-  /** The instances that a node refers to, in elements of its sets too. */
-  *instancesBelow(node) {
-    const waiting = [...this.graph.refs(node)];
-    while (waiting.length > 0) {
-      const ref = waiting.pop();
-      if (ref < this.graph.count) yield ref;
-      else waiting.push(...this.graph.refs(ref));
-    }
-  }
-}
-
-// --- Both ---
+// --- Both files ---
 
 /** How many instances changed, came and went, by entity; what isn't an instance is told by what it is. */
 class Counts {
@@ -355,19 +170,19 @@ export function tableName(difference) {
 }
 
 /**
- * Two canonical files that are compared, by a schema of these attributes and lengths. `diff` has the program list what differs in two
- * texts, which goes to ListedRows; `sameButForNames` answers what it says of two texts with `same --names`, and `heard` is told how
- * many instances are paired.
+ * Two canonical files that are compared, by a schema of these lengths. `diff` has the program list what differs, by the names of instances
+ * or by pairs, which goes to ListedRows, and `areSame` has it say whether two texts are the same but for names.
  */
 export class Files {
-  constructor({ attributes, lengths, diff, sameButForNames, heard = () => {} }, first, second) {
-    Object.assign(this, { attributes, lengths, diff, sameButForNames, heard });
+  constructor({ lengths, diff, areSame }, first, second) {
+    Object.assign(this, { lengths, diff, areSame });
     this.canonical = [first, second];
     this.units = this.canonical.map(unitOf);
-    this.paired = null;
     this.sections = null;
-    this.toldButForNames = null;
-    this.asGraph = null;
+    this.graph = null;
+    this.equalData = null;
+    // What the program listed by names, and by pairs, where it isn't much.
+    this.listings = { names: null, pairs: null };
   }
 
   /** How many bytes both have. */
@@ -375,38 +190,56 @@ export class Files {
     return this.canonical[0].length + this.canonical[1].length;
   }
 
-  /** The instances paired up to names, which is done once. */
-  get upToNames() {
-    this.paired ??= new UpToNames(this.lengths.sets, ...this.canonical, this.heard);
-    return this.paired;
+  /** Are the files so small that it is said what owns a difference? */
+  get isOwned() {
+    return this.size <= MOST_AS_GRAPH;
   }
 
-  /** Takes each difference that the program lists in two texts. */
-  listed(texts, take) {
-    const rows = new ListedRows(take);
-    this.diff(texts, rows);
-    if (rows.rest !== "" || rows.last === null) throw new Trouble("the list of what differs isn’t whole");
-  }
-
-  /** Takes each difference, by names or up to names. */
-  differences(names, leftOut, take) {
-    if (!names) {
-      this.listed(this.canonical, take);
-      return;
+  /** Takes each difference that the program lists, by names or by pairs, and answers what it says of both files. */
+  listed(way, take) {
+    const kept = this.listings[way];
+    if (kept) {
+      for (const found of kept.rows) take(found);
+      return kept.said;
     }
-    this.listed(this.canonical.map(outlineOf), take);
-    for (const found of this.upToNames.differences(new Comparison(this.lengths.sets, leftOut))) take(found);
+    const rows = [];
+    const said = this.askedFor(way, (found) => {
+      if (rows.length <= MOST_ROWS) rows.push(found);
+      take(found);
+    });
+    if (rows.length <= MOST_ROWS) this.listings[way] = { rows, said };
+    return said;
   }
 
-  /** What p21-diff lists with these words of its command line, of which so many are shown. */
+  /** Asks the program. */
+  askedFor(way, take) {
+    const found = { all: 0, inHeader: 0 };
+    const rows = new ListedRows((difference) => {
+      found.all++;
+      found.inHeader += Number(difference.what === "header");
+      take(difference);
+    }, this.isOwned);
+    this.diff(way, rows);
+    if (rows.rest !== "" || rows.word === null) throw new Trouble(NOT_WHOLE);
+    const { word, pairs, renumbered, partners } = rows;
+    return { word, pairs, renumbered, partners, ...found };
+  }
+
+  /** What p21-diff lists with these words of its command line, of which so many are shown. By pairs there may be no answer. */
   list(asked, most) {
     const shown = [];
     const lines = [];
-    const { counts, known } = this.each(asked, (difference) => {
+    const taken = (difference) => {
       if (shown.length < most) shown.push(difference);
       lines.push(lineOfDifference(difference));
-    });
-    return { counts, shown, lines, ...known };
+    };
+    try {
+      const { counts, known } = this.each(asked, taken);
+      return { counts, shown, lines, ...known };
+    } catch (error) {
+      if (!(asked.names && error instanceof Trouble)) throw error;
+      return { counts: new Counts(), shown: [], lines: [], ...withoutAnswer(error.message) };
+    }
   }
 
   /**
@@ -416,63 +249,34 @@ export class Files {
   each({ names = false, data = false, tolerance = null }, take) {
     const counts = new Counts();
     const leftOut = new LeftOut({ data, tolerance });
-    const found = { all: 0, inHeader: 0 };
-    this.differences(names, leftOut, (difference) => {
-      const { what, attribute, before, after } = difference;
-      found.all++;
-      found.inHeader += Number(what === "header");
-      const isValue = !names && attribute !== null && before !== null && after !== null;
-      if (leftOut.takes(difference) || (isValue && leftOut.takesNear(before, after))) return;
+    const said = this.listed(names ? "pairs" : "names", (difference) => {
+      if (leftOut.takes(difference)) return;
       counts.add(difference);
       take(difference);
     });
-    const said = names ? this.knownUpToNames(found, leftOut) : this.knownByNames(found);
+    const { word, pairs, renumbered } = said;
+    const butFor = this.butFor(names, said);
+    const verdict = verdictLine(names, counts, { word, butFor, pairs }, leftOut);
+    const isListed = word !== UNDECIDED;
+    const isRenamed = 2 * renumbered > pairs;
     const { words, near } = leftOut;
-    const verdict = verdictLine(names, counts, said, leftOut);
-    return { counts, known: { ...said, near, tolerance, leftOut: words, headline: headline(said), verdict } };
+    const known = { word, butFor, isRenamed, isListed, near, tolerance, leftOut: words, headline: headline({ word, butFor }), verdict };
+    return { counts, known };
   }
 
-  /** What is known of files that differ, by names. */
-  knownByNames({ all, inHeader }) {
-    if (all === 0) return { word: SAME, pairs: 0, ambiguous: 0, butFor: [] };
-    const isRenumbered = all > inHeader && this.size <= SMALL_ENOUGH && this.butForNames().word === SAME;
-    const header = inHeader > 0 && (all === inHeader || isRenumbered) ? ["the header"] : [];
-    return { word: DIFFERENT, pairs: 0, ambiguous: 0, butFor: [...(isRenumbered ? ["numbering"] : []), ...header] };
+  /** In what alone two files differ, where that is their numbering or their header. */
+  butFor(names, { word, all, inHeader, renumbered }) {
+    if (word !== DIFFERENT) return [];
+    const isRenumbered = all === inHeader ? renumbered > 0 : !names && this.size <= SMALL_ENOUGH && this.haveEqualData();
+    const numbering = isRenumbered ? ["numbering"] : [];
+    return inHeader > 0 && (all === inHeader || isRenumbered) ? [...numbering, "the header"] : numbering;
   }
 
-  knownUpToNames({ all, inHeader }, { near }) {
-    const { ambiguous } = this.upToNames.pairing;
-    const { pairs, alike } = this.upToNames.counted();
-    const hasEqualData = all === inHeader && near === 0;
-    const told = !hasEqualData && this.size > AT_ONCE ? { word: NOT_ASKED } : this.butForNames();
-    if (told.word === (hasEqualData ? DIFFERENT : SAME)) throw new Trouble(NOT_PAIRED);
-    const found = { ...told, pairs, ambiguous, butFor: [], isRenamed: 2 * alike < pairs };
-    if (told.word !== SAME || inHeader === 0) return found;
-    return { ...found, word: DIFFERENT, butFor: [...(alike < pairs ? ["numbering"] : []), "the header"] };
-  }
-
-  /**
-   * What the program says of both files but for the names of their instances, under the header of the second one: a word; where it
-   * isn't decided, an instance of the first one that the model doesn't tell from another; and why there is no answer.
-   */
-  butForNames() {
-    this.toldButForNames ??= this.askButForNames();
-    return this.toldButForNames;
-  }
-
-  askButForNames() {
-    if (this.size > MOST_ASKED_BUT_FOR_NAMES) return { word: NO_ANSWER, why: NOT_NUMBERED };
+  /** Does the program say that both files, under the header of the second one, are the same but for names? It is asked once. */
+  haveEqualData() {
     const [first, second] = this.canonical;
-    const front = frontOf(second);
-    try {
-      const { error, status } = this.sameButForNames(joined([front, first.subarray(frontOf(first).length)]), second);
-      const alike = ALIKE.exec(error)?.[1] ?? null;
-      if (alike !== null) return { word: UNDECIDED, alike };
-      return error ? { word: NO_ANSWER, why: error } : { word: status === 0 ? SAME : DIFFERENT };
-    } catch (error) {
-      if (error instanceof Trouble) return { word: NO_ANSWER, why: error.message };
-      throw error;
-    }
+    this.equalData ??= this.areSame(joined([frontOf(second), first.subarray(frontOf(first).length)]), second);
+    return this.equalData;
   }
 
   /** The texts of a value that changed as people write them, shortened; null where they aren't other than they stand. */
@@ -494,30 +298,26 @@ export class Files {
   /** The value of an instance of the first file at an attribute. */
   valueOf(name, entity, attribute) {
     const line = this.lineOf(0, name);
-    const parts = readParts(line);
-    const keys = parts.map(({ key }) => key);
-    for (const { key, values } of parts) {
-      const at = this.lengths.sets.placesOf(key, keys).findIndex((place) => place[0] === entity && place[1] === attribute);
-      if (at >= 0) return line.slice(values[at].start, values[at].end);
-    }
-    return "";
+    const found = this.lengths.outline.valuesIn(line).find((value) => value.entity === entity && value.attribute === attribute);
+    return found ? line.slice(found.start, found.end) : "";
   }
 
-  /** The instances of both files as a graph, with what gives the node of the second file for that of the first, or -1; null where it
-   *  would have to be made for large files. */
-  graph(names) {
-    if (names) return { graph: this.upToNames.graph, partner: (node) => this.upToNames.pairing.partner[node] };
-    if (this.size > MOST_AS_GRAPH) return null;
-    if (!this.asGraph) {
-      const graph = this.paired?.graph ?? new Graph(this.lengths.sets);
-      if (!this.paired) {
-        for (const bytes of this.canonical) graph.add(bytes, this.heard);
-        graph.close();
-      }
-      this.asGraph = { graph, partner: (node) => graph.named(1, graph.name(node)) ?? NONE };
-    }
-    return this.asGraph;
+  /** What tells the owner of an instance, by names or by pairs; null where there is no product in the files, or these are large. */
+  owners(names) {
+    if (!this.isOwned) return null;
+    this.graph ??= new Graph(this.canonical);
+    const { partners } = names ? this.listed("pairs", () => {}) : { partners: null };
+    const owners = new Owners(this.graph, this.lengths.outline, (name) => (partners ? partners.get(name) : name));
+    return owners.hasProducts ? owners : null;
   }
+}
+
+/** What is known where the program has no answer, with why. */
+function withoutAnswer(why) {
+  return {
+    ...{ word: NO_ANSWER, why, butFor: [], isRenamed: false, isListed: false, near: 0, tolerance: null, leftOut: "" },
+    ...{ headline: headline({ word: NO_ANSWER, butFor: [] }), verdict: `no answer: ${why}` },
+  };
 }
 
 /** So many of something, in words. */
@@ -538,15 +338,12 @@ function headline(found) {
 
 /** The last line of p21-diff. */
 function verdictLine(names, counts, found, leftOut) {
-  const { word, pairs, ambiguous, alike, why } = found;
-  const said = butForOf(found) || WORDS_OF_VERDICTS[word];
-  const parts = [`${said}: ${KINDS.map((kind) => `${counts.total(kind)} ${kind}`).join(", ")}`];
-  if (word === SAME) parts[0] = names ? `same up to names: ${many(pairs, "pair")}` : "same";
-  else if (word === UNDECIDED) parts.push(`the model of A doesn't tell #${alike} from another instance (59 Alike)`);
-  else if (word === NO_ANSWER) parts.push(why);
-  parts.push(...leftOut.countsInWords);
-  if (ambiguous > 0) parts.push(`${many(ambiguous, "pair")} chosen where others could be`);
-  return parts.join("; ");
+  const { word, pairs } = found;
+  if (word === UNDECIDED) return NOT_DECIDED;
+  const numbers = KINDS.map((kind) => `${counts.total(kind)} ${kind}`).join(", ");
+  const same = names ? `same up to names: ${many(pairs, "pair")}` : "same";
+  const said = word === SAME ? same : `${butForOf(found) || "different"}: ${numbers}`;
+  return [said, ...leftOut.countsInWords].join("; ");
 }
 
 /** The names of an instance. */
@@ -565,7 +362,7 @@ export function whatOf({ kind, what, names, entity, attribute, keywords, indices
 }
 
 /** The texts of a difference; of an element that one of the files hasn't a dash. */
-export function textsOf({ attribute, before, after }) {
+function textsOf({ attribute, before, after }) {
   return attribute === null ? [before, after].filter((text) => text !== null) : [before ?? NO_ELEMENT, after ?? NO_ELEMENT];
 }
 
@@ -589,6 +386,6 @@ function shortenedPair(texts) {
 }
 
 /** The line of a difference, as p21-diff prints it. */
-export function lineOfDifference(difference) {
+function lineOfDifference(difference) {
   return `${whatOf(difference)}: ${textsAround(difference).join(" -> ")}`;
 }

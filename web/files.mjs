@@ -4,6 +4,9 @@
 // column, and of a value of a record the attribute. What is shown beside it is read from the file and the schema text: how far goes
 // what stands there, what is wrong with it, and what would be right.
 //
+// A list goes on behind a broken statement, whose end nobody knows: the program tells which bytes it passed over with it, and behind
+// these statements are told apart anew.
+//
 // Files are read as they stand when a job begins. A file that is mended can be chosen once more, as its field is
 // cleared each time, or looked at anew by the button "Check again". Browsers keep of a file what it was when it was
 // chosen: Chromium reads it no more once it has changed, and Firefox reads it up to its old size, which could cut it
@@ -57,9 +60,11 @@ const LONGEST = 1 << 20;
 // What a value of each kind begins with.
 const KINDS_BY_FIRST = { "'": "text", '"': "binary", ".": "item", "#": "reference", $: "$", "*": "*" };
 const REFUSAL = /^\{"file".*\}$/;
+// Of such a refusal the statement was passed over.
+const PASSED_OVER = /"passed":\[/;
 const OBJECT = /\{.*\} ?/;
-// How the program ends a list of refusals, and what it says for people.
-const EXTENTS = { whole: "", part: ", the rest was not read", most: ", no more were looked for" };
+// How the program ends a list of refusals that goes to the end of a file, or as far as was asked for, and what it says for people.
+const EXTENTS = { whole: "", most: ", no more were looked for" };
 
 // --- What the program tells ---
 
@@ -73,22 +78,29 @@ export function refusalOf(line) {
   return { ...told, instance, statement: told.statement ?? null, column, answer: `${front} ${told.number} ${told.name}${where}` };
 }
 
+/** Was the statement passed over of whose refusal a line of the program's tells? */
+export function isPassedOver(line) {
+  return PASSED_OVER.test(line);
+}
+
 /**
  * What the program says of a file: its refusals, each as an object in a line, what else it says, and with `--all` the line with the
- * count, which is null where there is no list.
+ * count, which is null where there is no list; and how many bytes stand in front of the statement whose refusal ended the list, null
+ * where none did.
  */
 export function toldOf(program, options, files, heard) {
   const words = ["check", ...options, "--where", "--format", "jsonl", "--", "schema", "file"];
   const { error, status } = program.run(words, files, heard);
   const lines = error.split("\n");
-  let count = null;
+  let [count, read] = [null, null];
   if (options.length > 0 && lines.at(-1).startsWith('{"refusals"')) {
-    const { refusals, extent } = JSON.parse(lines.pop());
-    count = `refusals ${refusals}${EXTENTS[extent]}`;
+    const told = JSON.parse(lines.pop());
+    read = told.read ?? null;
+    count = `refusals ${told.refusals}${read === null ? EXTENTS[told.extent] : `, read ${read} bytes`}`;
   }
   const isTold = status === 1 || count !== null;
   const plain = lines.map((line) => line.replace(OBJECT, "")).filter(Boolean);
-  return { refusals: isTold ? lines.filter((line) => REFUSAL.test(line)) : [], error: plain.join("\n"), count, status };
+  return { refusals: isTold ? lines.filter((line) => REFUSAL.test(line)) : [], error: plain.join("\n"), count, read, status };
 }
 
 // --- Statements ---
@@ -121,27 +133,39 @@ export function behindBlanks(bytes, start) {
   return at;
 }
 
-/** The statements of a file: each from its first word up to its `;`, or up to the end, and where a string or remark is open. */
-export function* statements(bytes) {
+/**
+ * The statement that stands from a place on: from its first word up to its `;`, or up to the end, and where a string or remark is open;
+ * and whether its `;` is there.
+ */
+function statementFrom(bytes, from) {
   const byteAt = (at) => bytes[at];
-  let start = 0;
-  for (let at = 0; at < bytes.length; ) {
-    if (bytes[at] === SEMICOLON) {
-      at++;
-      yield { start: behindBlanks(bytes, start), end: at, open: null };
-      start = at;
-    } else if (bytes[at] === QUOTE || isRemark(bytes, at)) {
+  const start = behindBlanks(bytes, from);
+  for (let at = from; at < bytes.length; ) {
+    if (bytes[at] === SEMICOLON) return { start, end: at + 1, open: null, isEnded: true };
+    if (bytes[at] === QUOTE || isRemark(bytes, at)) {
       const end = bytes[at] === QUOTE ? behindString(byteAt, at) : behindRemark(bytes, at);
-      if (end === null) {
-        yield { start: behindBlanks(bytes, start), end: bytes.length, open: at };
-        return;
-      }
+      if (end === null) return { start, end: bytes.length, open: at, isEnded: false };
       at = end;
     } else {
       at++;
     }
   }
-  yield { start: behindBlanks(bytes, start), end: bytes.length, open: null };
+  return { start, end: bytes.length, open: null, isEnded: false };
+}
+
+/** The statements of a file. At each of these places the program went on, whatever stands open in front of it. */
+export function* statements(bytes, resumed = []) {
+  const places = resumed.values();
+  let place = places.next().value;
+  for (let from = 0; ; ) {
+    const statement = statementFrom(bytes, from);
+    const isCut = place < statement.end;
+    if (!isCut) yield statement;
+    else if (statement.start < place) yield { ...statement, end: place };
+    if (!isCut && !statement.isEnded) return;
+    from = isCut ? place : statement.end;
+    if (isCut) place = places.next().value;
+  }
 }
 
 /** The name of the instance that a statement is, without zeros in front, or null. */
@@ -200,13 +224,24 @@ export class GivenFile {
     this.known = new Map();
     this.answers = new Map();
     this.parted = null;
+    // Where the statements begin that the program passed over, and where it went on behind them.
+    this.passed = new Set();
+    this.resumed = [];
     this.begin();
   }
 
   /** Goes back to the beginning of the file. */
   begin() {
-    this.left = statements(this.bytes);
+    this.left = statements(this.bytes, this.resumed);
     this.last = this.left.next().value;
+  }
+
+  /** Takes in which statements the program passed over, of whose refusals these lines tell. */
+  passOver(lines) {
+    const stretches = lines.map((line) => refusalOf(line).passed);
+    this.passed = new Set(stretches.map(([begins]) => begins));
+    this.resumed = stretches.map(([, ends]) => ends);
+    this.begin();
   }
 
   /** The text of a statement. */
@@ -240,8 +275,8 @@ export class GivenFile {
     if (wanted.size === 0) return;
     // Most names are told by their numbers; only long ones, which are rounded, may have one number.
     const numbers = new Set([...wanted].map(Number));
-    for (const statement of statements(this.bytes)) {
-      if (!numbers.has(numberOfName(this.bytes, statement))) continue;
+    for (const statement of statements(this.bytes, this.resumed)) {
+      if (!numbers.has(numberOfName(this.bytes, statement)) || this.passed.has(statement.start)) continue;
       const name = nameOf(this.bytes, statement);
       if (!wanted.delete(name)) continue;
       this.known.set(name, statement);
@@ -253,12 +288,6 @@ export class GivenFile {
   kept(asked, tell) {
     if (!this.answers.has(asked)) this.answers.set(asked, tell());
     return this.answers.get(asked);
-  }
-
-  /** What the values of a part stand for: all attributes of the entity, or among other parts those of its own. */
-  places({ key }, alone) {
-    const own = () => this.outline.ownAttributes(key).map((attribute) => ({ entity: key, attribute }));
-    return this.kept(`places ${key} ${alone}`, alone ? () => this.outline.places(key) : own);
   }
 
   /** What the schema says of an attribute in an instance of these entities. */
@@ -275,7 +304,7 @@ export class GivenFile {
   }
 
   missingByKinds(key, kinds) {
-    const places = this.places({ key }, true);
+    const places = this.outline.placesIn(key, true);
     if (waysOf(places.length, kinds.length) > MOST_WAYS) return null;
     const above = this.outline.derived(key);
     const types = places.map((place) =>
@@ -309,9 +338,10 @@ export class RefusedFile {
     return target === null ? [] : [target];
   }
 
-  /** The statement at the place, where the program tells one. */
+  /** The statement at the place, where the program tells one; of one that was passed over from where it begins. */
   get statement() {
-    return this.given.statementAt(this.told.byte);
+    const found = this.given.statementAt(this.told.byte);
+    return this.told.passed ? { ...found, start: this.told.passed[0] } : found;
   }
 
   /** The place with what there is to say of it, or null where the program tells none. */
@@ -347,7 +377,7 @@ export class RefusedFile {
 
   /** The place behind the word or sign at a place. */
   endOfWord(at) {
-    const [word] = lexemes(textOf(this.bytes.subarray(at, this.statement.end)));
+    const [word] = lexemes(textOf(this.bytes.subarray(at, statementFrom(this.bytes, at).end)));
     return at + (word?.end ?? 0);
   }
 
@@ -486,7 +516,7 @@ export class RefusedFile {
    */
   count(part, parts, text, at) {
     const isAlone = parts.length === 1;
-    const places = this.given.places(part, isAlone);
+    const places = this.given.outline.placesIn(part.key, isAlone);
     const [wanted, count] = [places.length, part.values.length];
     const counts = `${part.key} has ${counted(wanted, "attribute")}, and here ${count === 1 ? "is" : "are"} ${counted(count, "value")}`;
     if (count >= wanted) {

@@ -60,6 +60,7 @@ const COMPARED_AT_ONCE = 1 << 22;
 // What is said of large files, which are compared up to names where that is asked for.
 const SEEM_RENAMED =
   "Fewer than half of the instances say the same under one name. Told by what they say, less may differ: with files of this size that may take some minutes.";
+const PASSED_OVER = "This statement was passed over, up to where the next one begins: nothing else is said of it.";
 const NOT_PAIRABLE = "Told by what they say, instances of files of this size are compared on a command line alone, by p21-diff --names.";
 const MORE_ROWS = 200;
 // So many of a kind are printed.
@@ -86,6 +87,8 @@ const WITH_A_SCHEMA =
   "What a schema adds: it says which entities there are, how many values each has and of which kind, and what references lead to. " +
   "By it each instance is checked, two files are compared by what they mean, and a canonical file with its hash is made. " +
   "Drop it on the page with the file or by itself.";
+// How the worker tells that what differs is in no product.
+const IN_NO_PRODUCT = "In no product";
 // Of the keywords of a file so many are shown.
 const MOST_KEYWORDS = 300;
 const examples = __EXAMPLES__;
@@ -702,9 +705,9 @@ function summaryOfDifferences({ names, upToNames, asked }, way) {
 }
 
 /** Why it isn't known whether two files are the same up to names, as a sentence; nothing where it is. */
-function saidOfNoAnswer({ alike, why }) {
+function saidOfNoAnswer({ word, why }) {
   const question = "Whether they are the same up to names";
-  if (alike) return [`${question} isn’t decided: the first one’s model doesn’t tell #${alike} from another instance.`];
+  if (word === "undecided") return [`${question} isn’t decided: too many of their instances are alike to be paired.`];
   return why ? [`${question} isn’t known. ${WORDS[why] ?? `${why}.`}`] : [];
 }
 
@@ -889,13 +892,13 @@ function ofRefusals(answer, explained) {
   const copied = copying("Copy as text", () => linesOf(answer, refusals.length).join("\n"), `what is said of ${answer.name}`);
   const actions = element("div", { class: "buttons" }, saved, copied);
   const text = fold("As text", ...[actions, note, answer.text].filter(Boolean));
-  const rest = answer.rest ? element("p", { class: "rest" }, `${answer.rest[0].toUpperCase()}${answer.rest.slice(1)}.`) : null;
+  const extent = ofExtent(answer);
   if (refusals.length === 1) {
     const row = element("div", { class: "refusal" });
     const show = () => row.replaceChildren(...ofRefusal(answer.refusals[0], "h4"));
     show();
     answer.rows.set(0, { show });
-    return [row, rest, ...meaning(explained[numberOf(refusals[0])], true), text].filter(Boolean);
+    return [row, ...extent, ...meaning(explained[numberOf(refusals[0])], true), text];
   }
   const kinds = new Map(answer.kinds);
   const count = `${counted(answer.total, "refusal")}${kinds.size > 1 ? ` of ${kinds.size} kinds` : ""}`;
@@ -916,7 +919,24 @@ function ofRefusals(answer, explained) {
   };
   all();
   const search = answer.total > FEW_REFUSALS ? searching("Look for", answer.total, find) : null;
-  return [element("p", { class: "count" }, count), sofar, rest, search, list, text].filter(Boolean);
+  return [element("p", { class: "count" }, count), sofar, ...extent, search, list, text].filter(Boolean);
+}
+
+/** How far a file was read of which there is a list, and that the list goes on behind broken statements. */
+function ofExtent({ extent }) {
+  if (!extent) return [];
+  const { read, size, named, passed } = extent;
+  const said = [];
+  if (passed > 0) {
+    const [statements, them] = passed === 1 ? ["A broken statement was", "it"] : [`${counted(passed, "broken statement")} were`, "them"];
+    const targets = `Instances may stand in ${them}, so no reference is said to have no target.`;
+    said.push(`${statements} passed over, and the list goes on behind ${them}. ${targets}`);
+  }
+  if (read !== null) {
+    const bytes = `${read.toLocaleString("en")} of the ${counted(size, "byte")} of the file`;
+    said.push(`The list ends at ${named}: ${bytes} stand in front of it, and nothing is known of what stands behind.`);
+  }
+  return said.map((text) => element("p", { class: "extent" }, text));
 }
 
 /** Looks for the refusals that have all of some words, shows them by their kinds, and answers how many they are. */
@@ -1047,12 +1067,13 @@ function markedText({ place, attributes }) {
 }
 
 /** A refusal: the program's line, the place, and what there is to say of it. Of several the row has the line. */
-function ofRefusal({ line, lines, place, attributes, looks, isText }, heading) {
+function ofRefusal({ line, lines, place, attributes, looks, isText, isPassedOver }, heading) {
   if (isText) return [element("pre", {}, lines.join("\n"))];
   const made = [element(heading ?? "p", { class: "said" }, element("code", { class: "line" }, line))];
   if (WORDS[line]) made.push(element("p", {}, WORDS[line]));
   if (place) made.push(...(heading ? [hint(`line ${place.line}, column ${place.column}`)] : []), ...ofPlace(place));
   if (looks) made.push(element("p", { class: "looks" }, looks));
+  if (isPassedOver && !heading) made.push(hint(PASSED_OVER));
   return [...made, ...attributes.map(ofAttributes)];
 }
 
@@ -1186,7 +1207,8 @@ function ofCounting({ data, tolerance }) {
 }
 
 /** A list of differences: what is known, how to take it along, a table by entity, what sifts it, and the differences by what owns them. */
-function listOfDifferences({ count, shown, text, verdict, table, leftOut }, files, way) {
+function listOfDifferences({ count, shown, text, verdict, table, leftOut, isListed }, files, way) {
+  if (!isListed) return [element("p", { class: "known" }, verdict)];
   const report = { names: way === "shapes", data: shownLists.asked.data, tolerance: shownLists.asked.tolerance };
   const actions = [
     saving("Save as text", () => text, "differences.txt"),
@@ -1274,11 +1296,18 @@ function byEntity(table, sifting) {
   return folded;
 }
 
-/** Differences by what owns them: the products, and within them faces or sets of properties. One list where no product is known. */
+/**
+ * Differences by what owns them: the products, and last what is in none, and within them in front what no face or set of properties owns,
+ * and then these. One list where no product is known.
+ */
 function byOwners(shown, rows) {
   if (!shown.some(({ owner }) => owner)) return [element("ol", {}, ...rows)];
-  return grouped(shown.keys(), (at) => shown[at].owner.products).map(([products, ofProducts]) => {
-    const parts = grouped(ofProducts, (at) => shown[at].owner.parts).map(([part, places]) => {
+  const isLast = (at) => shown[at].owner.products === IN_NO_PRODUCT;
+  const ofAll = [...shown.keys()];
+  const inProducts = [...ofAll.filter((at) => !isLast(at)), ...ofAll.filter(isLast)];
+  return grouped(inProducts, (at) => shown[at].owner.products).map(([products, ofProducts]) => {
+    const inOrder = [...ofProducts.filter((at) => !shown[at].owner.parts), ...ofProducts.filter((at) => shown[at].owner.parts)];
+    const parts = grouped(inOrder, (at) => shown[at].owner.parts).map(([part, places]) => {
       const list = element("ol", {}, ...places.map((at) => rows[at]));
       return part ? element("section", { class: "of-part" }, element("h5", {}, part), list) : list;
     });

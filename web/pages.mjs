@@ -2,9 +2,10 @@
 // and asks no network. As in tools/p21_pages.py, of which it is given the style and the script.
 
 import { KINDS, keywordsOfInstance } from "./differences.mjs";
-import { STRING_OR_REFERENCE, linesFrom, sectionsOf } from "./models.mjs";
+import { EQUALS, STRING_OR_REFERENCE, linesFrom, referencesIn, sectionsOf } from "./lines.mjs";
+import { NOWHERE } from "./owners.mjs";
 import { isSpelled, plainly } from "./plainly.mjs";
-import { readParts, shown, textOf } from "./reading.mjs";
+import { shown, textOf } from "./reading.mjs";
 import { withUnit } from "./units.mjs";
 
 const MOST_INSTANCES = 2_000;
@@ -75,13 +76,6 @@ export function ownerOf({ what, names: [first, second] }, owners) {
   return second === null ? owners.of(0, String(first)) : owners.of(1, String(second));
 }
 
-/** Finds the instances of which the owners are asked. */
-export function findOwned(differences, owners) {
-  const instances = differences.filter(({ what }) => isOfInstance(what));
-  const sides = [instances.filter(({ names }) => names[1] === null), instances.filter(({ names }) => names[1] !== null)];
-  sides.forEach((side, at) => owners.find(at, new Set(side.map(({ names }) => String(names[at])))));
-}
-
 /** Is a difference one of an instance? */
 function isOfInstance(what) {
   return what === "instance" || what === "section of";
@@ -93,7 +87,7 @@ function isOfInstance(what) {
 export class Report {
   constructor(files, names, { style, script }) {
     Object.assign(this, { files, paths: names, style, script });
-    this.attributes = files.attributes;
+    this.outline = files.lengths.outline;
     this.items = [];
     this.leftOut = 0;
     this.points = [];
@@ -105,7 +99,10 @@ export class Report {
 
   /** Is a keyword that of an entity of points? */
   isPoint(key) {
-    if (!this.pointsKnown.has(key)) this.pointsKnown.set(key, (this.attributes.get(key) ?? []).includes(COORDINATES));
+    if (!this.pointsKnown.has(key)) {
+      const places = this.outline.entities.has(key) ? this.outline.places(key) : [];
+      this.pointsKnown.set(key, places.some(({ attribute }) => attribute === COORDINATES));
+    }
     return this.pointsKnown.get(key);
   }
 
@@ -155,7 +152,7 @@ export class Report {
       const around = new Set();
       for (const line of this.linesByName[side].values()) {
         const text = line.slice(line.indexOf("=")).slice(0, MOST_CHARACTERS);
-        for (const name of referencesOf(text)) if (!names.has(name)) around.add(name);
+        for (const name of referencesIn(text)) if (!names.has(name)) around.add(name);
       }
       this.read(side, new Set([...around].sort(byNumber).slice(0, MOST_AROUND)));
     }
@@ -184,7 +181,7 @@ export class Report {
     let step = 1;
     let count = 0;
     for (const { start, end, bytes } of this.lines(1)) {
-      const at = bytes.indexOf(0x3d, start) + 1;
+      const at = bytes.indexOf(EQUALS, start) + 1;
       if (!this.isPoint(textOf(bytes.subarray(at, bytes.indexOf(0x28, at))))) continue;
       count++;
       const point = count % step === 0 ? this.point(textOf(bytes.subarray(start, end))) : null;
@@ -213,13 +210,7 @@ export class Report {
 
   /** Where the values of some attributes stand in a line, of which each is told with the entity that declares it. */
   *spans(line, isWanted) {
-    const parts = readParts(line);
-    const keys = parts.map(({ key }) => key);
-    for (const { key, values } of parts) {
-      for (const [at, place] of this.files.lengths.sets.placesOf(key, keys).entries()) {
-        if (isWanted(...place)) yield [values[at].start, values[at].end];
-      }
-    }
+    for (const { entity, attribute, start, end } of this.outline.valuesIn(line)) if (isWanted(entity, attribute)) yield [start, end];
   }
 
   /** A part of a line with its references as links, where the page has what they lead to. */
@@ -238,8 +229,9 @@ export class Report {
 
   // The parts of the page
 
-  /** The page, of differences of which this is known and counted. By `owners` those stand together that one product owns. */
-  *page({ headline, leftOut, verdict }, counts, owners) {
+  /** The page, of differences of which this is known and counted, if there is a list. By `owners` those stand together that one product
+   *  owns. */
+  *page({ headline, leftOut, verdict, isListed }, counts, owners) {
     this.fetch();
     if (this.points.length > 0) this.readBehind();
     const names = this.paths.map(quotedInPage);
@@ -251,11 +243,14 @@ export class Report {
     yield `<p><span class="side">A</span><code>${names[0]}</code><br><span class="side">B</span><code>${names[1]}</code></p>`;
     if (leftOut) yield `<p id="left-unlisted">${quotedInPage(leftOut[0].toUpperCase() + leftOut.slice(1))}.</p>`;
     yield `<p class="verdict" id="verdict">${quotedInPage(verdict)}</p>`;
-    yield* this.summary(counts);
-    yield* this.plot();
-    yield* this.list(owners);
-    yield* this.around();
-    yield `<script>${this.script}</script>\n</body>\n</html>`;
+    if (isListed) {
+      yield* this.summary(counts);
+      yield* this.plot();
+      yield* this.list(owners);
+      yield* this.around();
+      yield `<script>${this.script}</script>`;
+    }
+    yield "</body>\n</html>";
   }
 
   /** The table by entity, with bars. */
@@ -288,12 +283,8 @@ export class Report {
     if (this.leftOut > 0) yield `<p class="soft" id="left-out">${this.leftOut} more are not on this page; --format json has all.</p>`;
   }
 
-  /** The differences by what owns them, in the order of the first of each. */
+  /** The differences by what owns them, in the order of the first of each, those in no product last. */
   groups(owners) {
-    findOwned(
-      this.items.map(({ first }) => first),
-      owners,
-    );
     const groups = new Map();
     for (const item of this.items) {
       const { products, parts } = ownerOf(item.first, owners);
@@ -302,13 +293,13 @@ export class Report {
       if (!ofProducts.has(parts)) ofProducts.set(parts, []);
       ofProducts.get(parts).push(item);
     }
-    return groups;
+    return [...groups].sort(([one], [other]) => Number(one === NOWHERE) - Number(other === NOWHERE));
   }
 
-  /** What one product owns, or some together. */
+  /** What one product owns, or some together: in front what no face or set of properties owns. */
   *group(products, parts) {
     yield `<section class="group"><h3>${quotedInPage(products)}</h3>`;
-    for (const [part, items] of parts) {
+    for (const [part, items] of [...parts].sort(([one], [other]) => Number(Boolean(one)) - Number(Boolean(other)))) {
       if (part) yield `<section class="group"><h4>${quotedInPage(part)}</h4>`;
       for (const item of items) yield* this.item(item, part ? 5 : 4);
       if (part) yield "</section>";
@@ -399,11 +390,6 @@ export class Report {
     for (const [title, across, up] of VIEWS) yield* seenAlong(title, [across, up], found, points, this.behind);
     yield "</div>";
   }
-}
-
-/** The names of the instances to which a text refers. */
-function* referencesOf(text) {
-  for (const [, name] of text.matchAll(STRING_OR_REFERENCE)) if (name !== undefined) yield name;
 }
 
 /** A line of a file. */

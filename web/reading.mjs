@@ -66,33 +66,6 @@ function sizeOfCharacter(byteAt, at) {
   return size;
 }
 
-/** What `p21 schema` prints: the schema's name, each entity's attributes in order, and which entities are abstract. */
-export function listing(program, schema) {
-  const answer = program.run(["schema", "--", "schema"], { schema });
-  if (answer.status !== 0) throw new Trouble(answer.error);
-  const [first, ...lines] = textOf(answer.output).trimEnd().split("\n");
-  const found = { name: first.split(" ")[1], attributes: new Map(), abstract: new Set() };
-  for (const line of lines) {
-    const [, abstract, name, attributes] = /^(ABSTRACT )?(\w+)\((.*)\)$/.exec(line);
-    found.attributes.set(name, attributes ? attributes.split(",") : []);
-    if (abstract) found.abstract.add(name);
-  }
-  return found;
-}
-
-/**
- * The names of the attributes for which the values of a part stand.
- *
- * An instance of one part has the values of all attributes. One of several has those that the entity itself declares, which
- * are the last ones.
- */
-export function namesOfValues(attributes, part, alone) {
-  let names = attributes.get(part.key) ?? [];
-  if (!alone) names = names.slice(Math.max(names.length - part.values.length, 0));
-  const surplus = Math.max(part.values.length - names.length, 0);
-  return [...names.slice(0, part.values.length), ...Array(surplus).fill("?")];
-}
-
 // --- Statements ---
 
 export const QUOTE = 0x27;

@@ -7,8 +7,7 @@
 // link opens only when it is followed.
 
 import { Text, Trouble } from "./program.mjs";
-import { brief, lineNumber, textOf } from "./reading.mjs";
-import { AGGREGATES } from "./sets.mjs";
+import { brief, lineNumber, readParts, textOf } from "./reading.mjs";
 
 const SCHEMA_LEXEME = new RegExp(
   [
@@ -30,6 +29,7 @@ const SUBTYPE_OF = /\bSUBTYPE OF \( ([\w ,]+) \)$/;
 const GROUPS = ["DERIVE", "INVERSE", "UNIQUE", "WHERE", "END_ENTITY", "END_TYPE"];
 // Of these the place may be a statement that declares an attribute anew.
 const OF_REDECLARATIONS = [3, 8];
+export const AGGREGATES = ["ARRAY", "BAG", "LIST", "SET"];
 
 // The kinds of values that simple types and enumerations have, and what a list of values is of.
 const KINDS_OF_TYPES = {
@@ -104,6 +104,7 @@ export class Outline {
     this.entities = named("ENTITY");
     this.types = named("TYPE");
     this.above = new Map();
+    this.ofParts = new Map();
   }
 
   /** The number of the word behind the declaration that begins with this one. */
@@ -242,6 +243,22 @@ export class Outline {
   /** The attributes for which an instance of an entity has values, each with the entity that declares it. */
   places(name) {
     return this.order(name).flatMap((entity) => this.ownAttributes(entity).map((attribute) => ({ entity, attribute })));
+  }
+
+  /** What the values of a part stand for: all attributes of the entity, or among other parts those of its own. */
+  placesIn(key, isAlone) {
+    const asked = `${key} ${isAlone}`;
+    if (!this.ofParts.has(asked)) {
+      const own = () => this.ownAttributes(key).map((attribute) => ({ entity: key, attribute }));
+      this.ofParts.set(asked, isAlone ? this.places(key) : own());
+    }
+    return this.ofParts.get(asked);
+  }
+
+  /** The attributes of an instance of a canonical file, each with the places in its line between which its value stands. */
+  valuesIn(line) {
+    const parts = readParts(line);
+    return parts.flatMap(({ key, values }) => this.placesIn(key, parts.length === 1).map((place, at) => ({ ...place, ...values[at] })));
   }
 
   /**

@@ -2,7 +2,7 @@
 
 import { unescaped } from "./plainly.mjs";
 import { LINE_FEED, textOf } from "./reading.mjs";
-import { AGGREGATES } from "./sets.mjs";
+import { AGGREGATES } from "./schemas.mjs";
 
 const MEASURES = ["LENGTH_MEASURE", "IFCLENGTHMEASURE"];
 const UNIT = [..."UNIT"].map((letter) => letter.charCodeAt(0));
@@ -34,15 +34,14 @@ const THREE = /^\([^(),]+,[^(),]+,[^(),]+\)$/;
 
 /** Answers for the places of a schema. */
 export class Lengths {
-  constructor(sets) {
-    this.sets = sets;
+  constructor(outline) {
+    this.outline = outline;
     this.types = new Map();
   }
 
   /** Are the values of an attribute lengths, which this entity declares? */
   at(entity, attribute) {
-    const words = this.sets.declared.get(`${entity}.${attribute}`);
-    return words !== undefined && this.leadsToLength(words);
+    return this.outline.entities.has(entity) && this.leadsToLength(this.outline.typeOf([], { entity, attribute }).split(" "));
   }
 
   /** Does a type lead to a length whose words these are? */
@@ -58,9 +57,8 @@ export class Lengths {
   isLength(name) {
     if (!this.types.has(name)) {
       this.types.set(name, MEASURES.includes(name));
-      const declaration = this.sets.outline.types.get(name);
-      if (declaration && !this.types.get(name)) {
-        this.types.set(name, this.leadsToLength(declaration.words.slice(3).map(({ text }) => text)));
+      if (this.outline.types.has(name) && !this.types.get(name)) {
+        this.types.set(name, this.leadsToLength(this.outline.definition(name)));
       }
     }
     return this.types.get(name);

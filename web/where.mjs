@@ -10,7 +10,7 @@
 // read; of refusals behind the first 2,000 the page has the lines alone. A file without a schema is read so by a schema of its name
 // without entities, by which each instance is refused besides.
 
-import { GivenFile, RefusedFile, danglingIn, refusalOf, toldOf } from "./files.mjs";
+import { GivenFile, RefusedFile, danglingIn, isPassedOver, refusalOf, toldOf } from "./files.mjs";
 import { SCHEMA_TEXT, STEP_FILE } from "./kinds.mjs";
 import { Text } from "./program.mjs";
 import { Lines, bytesOf, clean, shortened, shown, textOf } from "./reading.mjs";
@@ -109,7 +109,8 @@ function shownPart(refused, text, keys, part, at, most) {
 function rowsOf(refused, part, alone) {
   const values = part.values.values();
   const next = () => values.next().value ?? null;
-  const rows = refused.given.places(part, alone).map((place, at) => ({ ...place, value: refused.missing.includes(at) ? null : next() }));
+  const places = refused.given.outline.placesIn(part.key, alone);
+  const rows = places.map((place, at) => ({ ...place, value: refused.missing.includes(at) ? null : next() }));
   return [...rows, ...[...values].map((value) => ({ entity: null, attribute: "(none)", value }))];
 }
 
@@ -151,6 +152,7 @@ function withDangling(line, given) {
 
 /** What there is to say of each refusal of a file, of which these are the lines that the program tells. */
 export function* whereAll(given, lines) {
+  given.passOver(lines.filter(isPassedOver));
   for (let start = 0; start < lines.length; start += PLACED_AT_ONCE) {
     const refusals = lines.slice(start, start + PLACED_AT_ONCE).map((line) => new RefusedFile(given, refusalOf(line)));
     given.lookFor(refusals.flatMap((refused) => refused.names()));
@@ -172,16 +174,16 @@ function whereRefused(refused) {
   const { told, bytes } = refused;
   const place = refused.place();
   const looks = told.statement === 1 ? looksOf(bytes, FILE_LOOKS) : place ? null : UNPLACED;
-  if (!place) return { line: told.answer, place: null, attributes: [], looks };
+  const said = { line: told.answer, looks, isPassedOver: told.passed !== undefined };
+  if (!place) return { ...said, place: null, attributes: [] };
   const { statement } = refused;
   const lastLine = bytes.length > 1 ? bytes.lastIndexOf(10, bytes.length - 2) + 1 : 0;
   const start = statement.start === bytes.length ? lastLine : statement.start;
   const hasAttributes = told.instance !== null && refused.number !== 40;
   return {
-    line: told.answer,
+    ...said,
     place: shownPlace(bytes, refused.position(place.start), start, statement.end, place),
     attributes: hasAttributes ? shownAttributes(refused, statement, place) : [],
-    looks,
   };
 }
 

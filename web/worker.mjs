@@ -8,16 +8,14 @@
 import { adapted } from "./adapting.mjs";
 import { headerOf, keywordsOf, syntaxOf } from "./alone.mjs";
 import { toleranceOf } from "./decimals.mjs";
-import { AT_ONCE, Files, SMALL_ENOUGH, equalBytes, tableName, textsAround, whatOf } from "./differences.mjs";
-import { GivenFile, refusalOf, toldOf } from "./files.mjs";
-import { Owners } from "./owners.mjs";
+import { Files, SMALL_ENOUGH, equalBytes, tableName, textsAround, whatOf } from "./differences.mjs";
+import { GivenFile, isPassedOver, refusalOf, toldOf } from "./files.mjs";
 import { kindOfLine } from "./kinds.mjs";
 import { LOOKED_AT, otherKindOf, unpacked } from "./packed.mjs";
-import { Report, findOwned, ownerOf } from "./pages.mjs";
+import { Report, ownerOf } from "./pages.mjs";
 import { Program, Text, Trouble } from "./program.mjs";
-import { listing, shown, textOf } from "./reading.mjs";
+import { shown, textOf } from "./reading.mjs";
 import { Outline } from "./schemas.mjs";
-import { Sets } from "./sets.mjs";
 import { Shelf, nameIn } from "./shelf.mjs";
 import { Lengths } from "./units.mjs";
 import { linesOf, whereAll, whereAlone, whereInFile, whereInSchema } from "./where.mjs";
@@ -32,11 +30,13 @@ const FIRST_PLACES = 300;
 const BETWEEN_MESSAGES = 100;
 // Two canonical files of so many bytes together are kept for what else is asked of them.
 const MOST_KEPT = 1 << 27;
-// Two canonical files of so many bytes together are compared up to names at most: with more the page ended without an answer.
-const MOST_PAIRED = 1 << 29;
+// Two canonical files of so many bytes together are compared up to names unasked; two that seem to be numbered otherwise of so many; and
+// of so many at most, since the program holds some 70 times a file in memory then.
+const PAIRED_UNASKED = 1 << 19;
+const PAIRED_IF_RENAMED = 1 << 22;
+const MOST_PAIRED = 1 << 27;
 // The style and the script of a report.
 const REPORT = __REPORT__;
-const COUNT_LINE = /^refusals \d+(?:, (.*))?$/;
 
 /** A file of the person at the page, of which a piece is kept at a time. */
 class DroppedFile {
@@ -85,10 +85,18 @@ function withLines(report, name) {
   return { ...report, lines: linesOf(report, name) };
 }
 
-/** A line that isn't an answer, and of a file the line with the count. */
-function notAccepted(name, status, reports, count = null) {
-  const rest = COUNT_LINE.exec(count)?.[1] ?? null;
-  return { accepted: false, name, line: reports[0].line, status, refusals: reports, count, rest };
+/** A line that isn't an answer. */
+function notAccepted(name, status, reports) {
+  return { accepted: false, name, line: reports[0].line, status, refusals: reports };
+}
+
+/**
+ * How far a list goes that the program tells of a file of so many bytes: how many of them stand in front of the statement whose refusal
+ * ended it, null where none did; the statement or the instance of that refusal; and how many statements were passed over.
+ */
+function extentOf({ refusals, read }, size) {
+  const named = read === null ? null : refusalOf(refusals.at(-1)).answer.split(/ (?:at|in) /)[1];
+  return { read, size, named, passed: refusals.filter(isPassedOver).length };
 }
 
 /** Counts the instances of a canonical file: the lines that begin with `#`. */
@@ -102,7 +110,6 @@ function countInstances(bytes) {
 function sentList({ counts, shown, lines, ...known }, files, owners) {
   const first = known.leftOut ? [known.leftOut] : [];
   const text = new Blob([[...first, ...lines].map((line) => `${line}\n`).join("")], { type: "text/plain" });
-  if (owners) findOwned(shown, owners);
   const sent = shown.map((difference) => ({
     kind: difference.kind,
     what: whatOf(difference),
@@ -267,8 +274,8 @@ class Job {
   }
 
   /**
-   * What the program lists of a file, each refusal still without what is around it; the first one alone where there is no list, as
-   * for want of memory.
+   * What the program lists of a file, each refusal still without what is around it, with the line with the count and how far the file was
+   * read; the first one alone where there is no list, as for want of memory.
    */
   refused(name, files, error, heard) {
     const told = toldOf(this.program, ["--all"], files, heard);
@@ -276,7 +283,8 @@ class Job {
     const lines = isAll ? [...told.refusals.map((line) => refusalOf(line).answer), ...(told.error ? [told.error] : [])] : [error];
     const reports = lines.slice(0, MOST_WHOLE).map((line) => ({ ...withoutPlace(line), lines: [line] }));
     const kinds = [...Map.groupBy(lines, kindOfLine)].map(([kind, each]) => [kind, each.length]);
-    return { ...notAccepted(name, 1, reports, told.count), isAll, told: told.refusals, total: lines.length, kinds };
+    const extent = isAll && told.refusals.length > 0 ? extentOf(told, files.file.size) : null;
+    return { ...notAccepted(name, 1, reports), count: told.count, extent, isAll, told: told.refusals, total: lines.length, kinds };
   }
 
   /** The places of all refusals, one after the other, each with the number of its file and its own. */
@@ -304,35 +312,32 @@ class Job {
 
   /** What differs between two files that are accepted, as it is asked at first. */
   differences(first, second) {
-    const { attributes } = listing(this.program, first.served.text);
-    this.outline = new Outline(first.served.text.bytes);
-    const lengths = new Lengths(new Sets(this.outline));
-    const heard = (count) => this.say({ progress: { name: `instance ${count}`, compares: true } });
-    const diff = ([one, other], rows) => {
-      const files = { schema: first.served.text, first: new Text(one), second: new Text(other) };
-      const words = ["diff", "--format", "jsonl", "--", "schema", "first", "second"];
-      this.say({ progress: { name: "", compares: true } });
+    const files = { schema: first.served.text, first: new Text(first.canonical), second: new Text(second.canonical) };
+    const diff = (way, rows) => {
+      const words = ["diff", "--format", "jsonl", ...(way === "pairs" ? ["--pairs"] : []), "--", "schema", "first", "second"];
+      this.say({ progress: { name: way === "pairs" ? "whatever the names of instances are" : "", compares: true } });
       const { error } = this.program.run(words, files, undefined, (bytes) => rows.hear(bytes));
       if (error) throw new Trouble(error);
     };
-    const sameButForNames = (one, other) => {
-      const files = { schema: first.served.text, first: new Text(one), second: new Text(other) };
-      this.say({ progress: { name: "whatever the names of instances are", compares: true } });
-      return this.program.run(["same", "--names", "--", "schema", "first", "second"], files);
+    const areSame = (one, other) => {
+      const words = ["same", "--names", "--", "schema", "first", "second"];
+      const asked = placed(() => this.program.run(words, { ...files, first: new Text(one), second: new Text(other) }));
+      return asked !== null && asked.status === 0;
     };
-    this.compared = new Files({ attributes, lengths, diff, sameButForNames, heard }, first.canonical, second.canonical);
+    const lengths = new Lengths(new Outline(first.served.text.bytes));
+    this.compared = new Files({ lengths, diff, areSame }, first.canonical, second.canonical);
     this.owners = new Map();
     this.instances = this.compared.canonical.map(countInstances);
     return this.lists(this.asked);
   }
 
-  /** The lists of what differs: by names, and up to names where that is asked for, and unasked where both files are small or seem to
-   *  be numbered otherwise. */
+  /** The lists of what differs: by names, and up to names where that is asked for, and unasked where both files are small, or less so
+   *  and seem to be numbered otherwise. */
   lists(asked) {
     const names = this.list(false, asked);
     const { size } = this.compared;
     const seemRenamed = this.seemRenamed(names);
-    const isUnasked = size <= SMALL_ENOUGH || (size <= AT_ONCE && seemRenamed);
+    const isUnasked = size <= (seemRenamed ? PAIRED_IF_RENAMED : PAIRED_UNASKED);
     const upToNames = isUnasked || asked.upToNames ? this.list(true, asked) : null;
     return { asked, names, upToNames, seemRenamed, isKept: size <= MOST_KEPT, isPairable: size <= MOST_PAIRED };
   }
@@ -348,16 +353,12 @@ class Job {
   /** The list of what differs by names, or up to names. */
   list(names, { data, tolerance }) {
     const found = this.compared.list({ names, data, tolerance: tolerance ? toleranceOf(tolerance) : null }, SHOWN_DIFFERENCES);
-    return sentList(found, this.compared, this.ownersOf(names));
+    return sentList(found, this.compared, found.shown.length > 0 ? this.ownersOf(names) : null);
   }
 
-  /** What tells the owner of an instance; null where there is no product in the files, or these are large. */
+  /** What tells the owner of an instance. */
   ownersOf(names) {
-    if (!this.owners.has(names)) {
-      const graph = this.compared.graph(names);
-      const owners = graph && new Owners(graph, this.outline, this.compared.attributes);
-      this.owners.set(names, owners?.hasProducts ? owners : null);
-    }
+    if (!this.owners.has(names)) this.owners.set(names, this.compared.owners(names));
     return this.owners.get(names);
   }
 
@@ -370,7 +371,7 @@ class Job {
       REPORT,
     );
     const { known, counts } = this.compared.each(how, (difference) => report.add(difference));
-    const lines = [...report.page(known, counts, this.ownersOf(names))];
+    const lines = [...report.page(known, counts, counts.listed > 0 ? this.ownersOf(names) : null)];
     return new Blob([lines.map((line) => `${line}\n`).join("")], { type: "text/html" });
   }
 

@@ -45,8 +45,8 @@ def diff(
     ignore: Sequence[str] = (),
     tolerance: Optional[Union[str, float, decimal.Decimal]] = None,
 ) -> Differences:
-    """What differs in two files: a list of the objects that ``p21-diff --format json`` prints, the verdict last. By names the program
-    lists it; up to names, and with a tolerance, unproved Python does over canonical files. That two files are the same the program says.
+    """What differs in two files: a list of the objects that ``p21-diff --format json`` prints, the verdict last. The program lists it, and
+    says whether two files are the same; what is left out, as within a tolerance, unproved Python leaves out.
 
     Args:
         names: compare up to the names of instances.

@@ -17,21 +17,27 @@ _ACCEPTED = re.compile(rb"accepted, instances \d+, canonical bytes \d+\n")
 
 @dataclasses.dataclass(frozen=True)
 class Survey:
-    """What a file is refused for: the first refusal of each record, and those of references, but none of or to a refused record.
+    """What a file is refused for: the first refusal of each statement, and those of references, but none of or to a refused record. A broken
+    statement of a data section is passed over, up to where the next one begins; no reference is said to have no target then.
 
     Attributes:
-        refusals: each refusal with its place, in the order in which ``check`` would meet them; none where the file is accepted.
+        refusals: each refusal with its place, those of statements in the order of the file, and then those of references; none where the file
+            is accepted.
         is_whole: whether the file was read to its end, and the list wasn't ended by ``most``.
+        read: how many bytes of the file stand in front of the statement whose refusal ended the reading: of what stands behind these
+            nothing is known. None where no refusal ended it.
     """
 
     refusals: List[Refused]
     is_whole: bool
+    read: Optional[int] = None
 
     def __len__(self) -> int:
         return len(self.refusals)
 
     def __repr__(self) -> str:
-        return f"<p21.Survey, {len(self)} refusals{'' if self.is_whole else ', and not all of the file'}>"
+        extent = f", read {self.read} bytes" if self.read is not None else "" if self.is_whole else ", no more were looked for"
+        return f"<p21.Survey, {len(self)} refusals{extent}>"
 
     def _repr_html_(self) -> str:
         rows = [(int(it.number), it.name, it.statement, it.instance and f"#{it.instance}", it.place and str(it.place), it.sentence) for it in self.refusals]
@@ -65,4 +71,4 @@ def survey(schema: SchemaOrPath, source: Source, most: Optional[int] = None) -> 
     end = next((row for row in rows if "refusals" in row), None)
     if done.returncode != 1 or end is None:
         raise no_answer(said, done.returncode)
-    return Survey([_refusal_of(row) for row in rows if "number" in row], end["extent"] == "whole")
+    return Survey([_refusal_of(row) for row in rows if "number" in row], end["extent"] == "whole", end.get("read"))

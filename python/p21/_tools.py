@@ -18,7 +18,7 @@ _PROGRAM = "p21.exe" if os.name == "nt" else "p21"
 _CLONE = pathlib.Path(__file__).resolve().parents[2]
 _TOOLS = _CLONE / "tools"
 OUT_OF_MEMORY = "p21: out of memory"
-TOOLS = ("where", "diff", "renumber", "table", "adapt")
+TOOLS = ("where", "diff", "table", "adapt")
 
 
 def _is_clone() -> bool:

@@ -646,12 +646,31 @@ def test_survey(product, program):
     assert [str(it) for it in found.refusals] == ["refused 45 Count in #2", "refused 49 WrongKind in #4"] and found.is_whole
     assert found.refusals[1].sentence == "The value is of another kind than its type."
     assert found.refusals[1].place == (text.index(b"(4,") + 1, 5, 10, "POINT", "X", ()) and "POINT.X" in found._repr_html_()
+    assert found.read is None and repr(found) == "<p21.Survey, 2 refusals>"
     found = p21.survey(schema, text, most=1)
-    assert [str(it) for it in found.refusals] == ["refused 45 Count in #2"] and not found.is_whole
+    assert [str(it) for it in found.refusals] == ["refused 45 Count in #2"] and not found.is_whole and found.read is None
+    assert repr(found) == "<p21.Survey, 1 refusals, no more were looked for>"
     found = p21.survey(schema, text[:-20])
     assert [it.number for it in found.refusals][-1] == p21.RefusalNumber.ENDS_EARLY and not found.is_whole
+    assert found.read == text.index(b"ENDSEC;END-") and repr(found) == f"<p21.Survey, 3 refusals, read {found.read} bytes>"
     with pytest.raises(FileNotFoundError):
         p21.survey(schema, EXAMPLES / "none.step")
+
+
+def test_a_survey_that_goes_on(program):
+    text = many_points(5).replace(b"#2=POINT(2.5,", b"#2=point(2.5,").replace(b"#3=POINT(3.5,", b"#3=POINT(;").replace(b"#5=POINT(5.5,", b"#5=POINT(")
+    schema = p21.Schema(POINTS)
+    found = p21.survey(schema, text)
+    assert [str(it) for it in found.refusals] == ["refused 1 BadByte at statement 9", "refused 20 Unexpected at statement 10", "refused 45 Count in #5"]
+    assert found.is_whole and found.read is None
+    assert found.refusals[0].place == (text.index(b"point"), 3, 4, None, None, ())
+    assert found.refusals[1].place == (text.index(b"(;") + 1, 4, 10, None, None, ())
+    found = p21.survey(schema, text, most=2)
+    assert len(found) == 2 and not found.is_whole and found.read is None
+    # A refusal of what opens a data section ends the reading.
+    found = p21.survey(schema, text.replace(b"DATA;", b"DATA"))
+    assert [it.number for it in found.refusals] == [p21.RefusalNumber.UNEXPECTED] and not found.is_whole
+    assert found.read == text.index(b"DATA;")
 
 
 def test_the_program_by_its_module(program):
