@@ -1,5 +1,4 @@
--- What a survey is to list of a file, statement by statement (this project's own numbers, on exchange structures of ISO 10303-21). No call
--- answers it yet.
+-- What a survey lists of a file, statement by statement (this project's own numbers, on exchange structures of ISO 10303-21).
 --
 -- A statement is taken, or it is refused. A record that is refused is left out, and its bytes are kept all the same, unless a signpost
 -- stands in a string of it: they are a statement of the grammar. Of a statement that is none the bytes are passed over up to a landmark,
