@@ -1,9 +1,8 @@
 -- The lines of a file under other names of its instances, with its header and its sections, are the canonical file of its meaning
 -- under these names.
-use Rattle.std.specs.Prelude.{◌≡◌, ◌⊎◌, ◌≤◌, ◌<◌, ◌+◌, ◌^◌, ℕ, zero, suc, Bool, true, false, List, [], ◌∷◌, ◌++◌, map, length, slice_get, Some, Contains, ltb, if◌then◌else◌, refl}
+use Rattle.std.specs.Prelude.{◌≡◌, ◌⊎◌, ◌≤◌, ◌<◌, ◌+◌, ◌^◌, ℕ, zero, suc, List, [], ◌∷◌, ◌++◌, map, length, slice_get, Some, Contains, refl}
 use Rattle.std.specs.List.{flat_map, AllByRecursion as Each}
 use Rattle.std.proofs.Common.{arith, ap, sym, subst, ◌∙◌, inl, inr, append_assoc, length-append}
-use Rattle.std.proofs.lemmas.Bool.{lt-ltb, ltb-true}
 use Rattle.std.proofs.lemmas.Grind.{flat_map-append}
 use Rattle.std.proofs.lemmas.List.{append-nil, length-map}
 use Rattle.p21_spec_basics.proofs.Members.{AllZip-member, AllZip-second_member, Contains-found, Contains-at, Contains-flat_map, Contains-mapped, Contains-one_of, Contains-unmapped, Each-member, Each-of_members}
@@ -39,13 +38,9 @@ use Rattle.p21_spec_laws.specs.Keeping.{AreBlocksOf, IsBlockAt, Kept, text_with_
 use Rattle.p21_spec_laws.specs.Stored.{AreLinesOf, IsBlockOf, StoredEntry}
 use Rattle.p21_spec_schema.specs.Schema.{Schema}
 use Rattle.p21_spec_schema.specs.WellFormed.{IsWellFormed}
-use Rattle.p21_spec_exchange.proofs.Names.{name_spells}
-use Rattle.p21_spec_exchange.specs.Spelling.{name_spelling}
-use Rattle.p21_spec_numbering.proofs.Existence.{reads-renamed}
+use Rattle.p21_spec_numbering.proofs.Existence.{reads-written}
 use Rattle.p21_spec_numbering.proofs.Reading.{reads-whole}
-use Rattle.p21_spec_numbering.proofs.Renaming.{renamed-kept, renamed-twice}
 use Rattle.p21_spec_numbering.proofs.Targets.{one-typed}
-use Rattle.p21_spec_numbering.specs.RenamedRecord.{renamed_tree}
 use Rattle.p21_spec_numbering.specs.Renamed.{IsInjectiveOn, IsWhole, names, renamed, renamed_instance, renamed_section, renamed_typed}
 use Rattle.p21_canon.specs.Statement.{IsCanonicalStatement}
 use Rattle.p21_numbered.specs.Kept.{IsKeptUnder}
@@ -338,38 +333,11 @@ module _ (s : Schema) (formed : IsWellFormed s) (bytes : List ℕ) (m : FileMean
 
 module _ (s : Schema) (formed : IsWellFormed s) (bytes : List ℕ) (m : FileMeaning) (reads : Reads s bytes m) (f : ℕ → ℕ)
     (once : IsInjectiveOn (names m) f) (written : (n : ℕ) → Contains (names m) n → f n < 2 ^ 64) where
-  whole_file : IsWhole m
-  whole_file = (reads-whole s formed bytes m reads).0
+  renamed_file : (out : List ℕ) × Reads s out (renamed f m)
+  renamed_file = reads-written s formed bytes m reads f once written
 
-  -- names that can be written, whatever the old one
-  number : ℕ → ℕ
-  number k = if ltb (f k) (2 ^ 64) then f k else 0
-
-  number-low : (k : ℕ) → number k < 2 ^ 64
-  unfolding number
-  number-low k = by (ltb (f k) (2 ^ 64)) refl
-    where
-      by : (b : Bool) → ltb (f k) (2 ^ 64) ≡ b → (if b then f k else 0) < 2 ^ 64
-      by true e = ltb-true (f k) (2 ^ 64) e
-      by false e = omega arith
-
-  number-is : (n : ℕ) → Contains (names m) n → number n ≡ f n
-  unfolding number
-  number-is n among = ap (λ (b : Bool). if b then f n else 0) (lt-ltb (f n) (2 ^ 64) (written n among))
-
-  named : renamed number m ≡ renamed f m
-  named = ap (renamed number) (sym (renamed-kept m)) ∙ renamed-twice (λ n. n) number f m whole_file number-is
-
-  out : List ℕ
-  out = flat_map line (statements (renamed_tree number reads.structure))
-
-  new_reads : Reads s out (renamed f m)
-  unfolding out
-  new_reads =
-      let R : FileMeaning → Type 0 = λ x. Reads s (flat_map line (statements (renamed_tree number reads.structure))) x in
-      subst R named (reads-renamed s formed bytes m reads number
-      (λ j k among among_ one. once j k among among_ (sym (number-is j among) ∙ one ∙ number-is k among_))
-      (λ k. (name_spelling (number k), name_spells (number k) (number-low k))))
+  new_reads : Reads s renamed_file.0 (renamed f m)
+  new_reads = renamed_file.1
 
   -- the header, the sections and the lines of the instances are its canonical file
   pub renamed-canonical : (limits : Limits) → AreHeadsWithin limits m → (kept : Kept) → IsKeptUnder s m f kept → (blocks : List Block)
@@ -378,17 +346,17 @@ module _ (s : Schema) (formed : IsWellFormed s) (bytes : List ℕ) (m : FileMean
       → Each (λ (x : StoredEntry). length x.text ≤ limits.record_canonical) kept.stored
       → IsCanonicalOf s limits (renamed f m) (text_with_header kept.header blocks)
   renamed-canonical limits within kept under blocks of short lines =
-      let has : HasCanonicalFile s (renamed f m) = has-canonical_file s formed out (renamed f m) new_reads in
+      let has : HasCanonicalFile s (renamed f m) = has-canonical_file s formed renamed_file.0 (renamed f m) new_reads in
       let lexemes : List Lexeme = new_reads.in_grammar.laid.lexemes in
       let big : Limits = record {
         record_source = total lexemes;
         record_canonical = length has.bytes;
         file_source =
-            length out;
+            length renamed_file.0;
         file_canonical = length has.bytes;
       } in
       let size = ap (λ (xs : List ℕ). length xs) has.canonical.lines in
-      let accepted : IsAccepted s big out = (
+      let accepted : IsAccepted s big renamed_file.0 = (
         renamed f m,
         record {
           reads = new_reads;
@@ -403,9 +371,10 @@ module _ (s : Schema) (formed : IsWellFormed s) (bytes : List ℕ) (m : FileMean
           };
         },
       ) in
-      let (parts, groups, others, complete) = accepted-ended s formed big out accepted in
+      let (parts, groups, others, complete) = accepted-ended s formed big renamed_file.0 accepted in
       let one : structure_of parts groups ≡ new_reads.structure =
-      (one-tree out (structure_of parts groups) new_reads.structure complete.schema_text new_reads.schema_text complete.in_grammar
+      (one-tree renamed_file.0 (structure_of parts groups) new_reads.structure complete.schema_text new_reads.schema_text
+      complete.in_grammar
       new_reads.in_grammar).0 in
       let are : map section_of groups ≡ new_reads.structure.sections = ap (λ (x : Structure). x.sections) one in
       let head : parts ≡ m.header = ap (λ (x : Structure). x.header) one ∙ sym new_reads.header_is in
@@ -418,7 +387,8 @@ module _ (s : Schema) (formed : IsWellFormed s) (bytes : List ℕ) (m : FileMean
       headings-differ (headings (map section_of groups)) are_headings
       (texts-none_twice (section_names (headings (map section_of groups))) complete.section_names_differ) in
       let none : NoneTwice (map (λ (g : SectionEntries). g.heading) groups) = subst NoneTwice (group-headings groups) none_ in
-      let blocks_rise : AreRisingBlocks groups blocks = rising s formed bytes m reads f once out new_reads groups are none complete.printed
+      let blocks_rise : AreRisingBlocks groups blocks = rising s formed bytes m reads f once renamed_file.0 new_reads groups are none
+      complete.printed
       kept under heads (subst AreHeadings (group-headings groups) are_headings) blocks of in
       let text : file_text parts blocks ≡ text_with_header kept.header blocks = text-is parts blocks
       ∙ ap (λ (xs : List ℕ). text_with_header xs blocks) head_text in
@@ -427,11 +397,11 @@ module _ (s : Schema) (formed : IsWellFormed s) (bytes : List ℕ) (m : FileMean
         record_source = total complete.in_grammar.laid.lexemes;
         record_canonical =
             limits.record_canonical;
-        file_source = length out;
+        file_source = length renamed_file.0;
         file_canonical = limits.file_canonical;
       } in
       let P : List Part → Type 0 = λ ps. Each (λ (part : Part). IsLineWithin limits (header part)) ps in
-      let whole_complete : IsCompleteFile s wide out parts groups blocks = record {
+      let whole_complete : IsCompleteFile s wide renamed_file.0 parts groups blocks = record {
         schema_text = complete.schema_text;
         in_grammar = complete.in_grammar;
         names_schema = complete.names_schema;
@@ -460,8 +430,8 @@ module _ (s : Schema) (formed : IsWellFormed s) (bytes : List ℕ) (m : FileMean
             let L : Line → Type 0 = λ y. length y.1 ≤ limits.record_canonical in
             subst L line_is (Each-member (λ (y : StoredEntry). length y.text ≤ limits.record_canonical) kept.stored x lines at_x)));
       } in
-      let (n, means, canonical_) = ended-accepted s formed wide out parts groups blocks whole_complete in
-      let one_meaning : n ≡ renamed f m = one-meaning s formed out n (renamed f m) means.reads new_reads in
+      let (n, means, canonical_) = ended-accepted s formed wide renamed_file.0 parts groups blocks whole_complete in
+      let one_meaning : n ≡ renamed f m = one-meaning s formed renamed_file.0 n (renamed f m) means.reads new_reads in
       let C : FileMeaning → Type 0 = λ x. IsCanonicalOf s wide x (file_text parts blocks) in
       let canonical : IsCanonicalOf s wide (renamed f m) (file_text parts blocks) = subst C one_meaning canonical_ in
       let T : List ℕ → Type 0 = λ x. IsCanonicalOf s limits (renamed f m) x in
@@ -503,7 +473,7 @@ module _ (s : Schema) (formed : IsWellFormed s) (bytes : List ℕ) (m : FileMean
           let I : ℕ → Type 0 = λ j. Contains (instances_in new_reads.structure.sections) (j, i.1) in
           let u : Structure = of.canonical.reads.structure in
           let there : Contains (instances_in u.sections) (n, st.canonical) =
-          instance-in_canonical s formed out (renamed f m) new_reads found of.canonical of.same n i.1 x.text
+          instance-in_canonical s formed renamed_file.0 (renamed f m) new_reads found of.canonical of.same n i.1 x.text
           (subst I (sym holds.0) at_i) printed in
           let within : IsLineWithin limits (instance n st.canonical) =
           Each-member (IsLineWithin limits) (statements u) (instance n st.canonical) of.lines_within

@@ -64,4 +64,5 @@ pub use numbers::numbers_in;
 pub use orders::{Unordered, order};
 pub use ranked::RankedInstance;
 pub use renaming::renamed_record;
+pub use rows::ranks_of_rows;
 pub use uses::{PlacedUse, uses_in};

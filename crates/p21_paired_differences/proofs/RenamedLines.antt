@@ -1,28 +1,22 @@
 -- The lines of a file under new names tell what it means under these.
-use Rattle.std.specs.Prelude.{◌≡◌, ◌<◌, ◌^◌, ℕ, Bool, true, false, List, Contains, if◌then◌else◌, ltb, refl}
-use Rattle.std.specs.List.{flat_map, AllByRecursion as Each}
-use Rattle.std.proofs.Common.{arith, ap, sym, subst, ◌∙◌}
-use Rattle.std.proofs.lemmas.Bool.{lt-ltb, ltb-true}
+use Rattle.std.specs.Prelude.{◌≡◌, ◌<◌, ◌^◌, ℕ, List, Contains}
+use Rattle.std.specs.List.{AllByRecursion as Each}
+use Rattle.std.proofs.Common.{ap, sym, subst, ◌∙◌}
 use Rattle.p21_differences.specs.Lines.{AreLinesOf, IsLineOf}
 use Rattle.p21_numbered_file.specs.Pairing.{AreLinesOfRenamed}
 use Rattle.p21_canon.specs.Statement.{IsCanonicalStatement}
 use Rattle.p21_spec_basics.proofs.Members.{AllZip-second_member, Contains-mapped, Contains-unmapped}
-use Rattle.p21_spec_exchange.proofs.Names.{name_spells}
-use Rattle.p21_spec_exchange.specs.CanonicalText.{line as line_text}
 use Rattle.p21_spec_exchange.specs.DataSection.{instances_in}
-use Rattle.p21_spec_exchange.specs.Spelling.{name_spelling}
 use Rattle.p21_spec_exchange.specs.Statement.{instance, statement_tokens}
-use Rattle.p21_spec_exchange.specs.Structure.{statements}
 use Rattle.p21_spec_exchange.specs.Token.{IsSpelled}
 use Rattle.p21_spec_file.specs.File.{FileMeaning, InstanceMeans, Reads, entity_sets_of}
 use Rattle.p21_spec_file.specs.Meaning.{Typed}
 use Rattle.p21_spec_file.specs.Reference.{EntitySets}
 use Rattle.p21_spec_laws.proofs.CanonicalLaid.{laid-each_spelled}
-use Rattle.p21_spec_numbering.proofs.Existence.{reads-renamed}
+use Rattle.p21_spec_numbering.proofs.Existence.{reads-written}
 use Rattle.p21_spec_numbering.proofs.Reading.{reads-whole}
-use Rattle.p21_spec_numbering.proofs.Renaming.{names-renamed, renamed-kept, renamed-twice}
+use Rattle.p21_spec_numbering.proofs.Renaming.{names-renamed}
 use Rattle.p21_spec_numbering.proofs.Targets.{one-typed}
-use Rattle.p21_spec_numbering.specs.RenamedRecord.{renamed_tree}
 use Rattle.p21_spec_numbering.specs.Renamed.{IsInjectiveOn, IsWhole, names, renamed, renamed_instance, renamed_typed}
 use Rattle.p21_spec_schema.specs.Schema.{Schema}
 use Rattle.p21_spec_schema.specs.WellFormed.{IsWellFormed}
@@ -53,35 +47,11 @@ module _ (s : Schema) (formed : IsWellFormed s) (bytes : List ℕ) (m : FileMean
       let P : ℕ → Type 0 = λ k. f k < 2 ^ 64 in
       subst P same spelled.0.1.in_range
 
-  -- names that can be written, whatever the old one
-  number : ℕ → ℕ
-  number k = if ltb (f k) (2 ^ 64) then f k else 0
+  renamed_file : (out : List ℕ) × Reads s out (renamed f m)
+  renamed_file = reads-written s formed bytes m reads f once written
 
-  number-low : (k : ℕ) → number k < 2 ^ 64
-  unfolding number
-  number-low k = by (ltb (f k) (2 ^ 64)) refl
-    where
-      by : (b : Bool) → ltb (f k) (2 ^ 64) ≡ b → (if b then f k else 0) < 2 ^ 64
-      by true e = ltb-true (f k) (2 ^ 64) e
-      by false e = omega arith
-
-  number-is : (n : ℕ) → Contains (names m) n → number n ≡ f n
-  unfolding number
-  number-is n among = ap (λ (b : Bool). if b then f n else 0) (lt-ltb (f n) (2 ^ 64) (written n among))
-
-  named : renamed number m ≡ renamed f m
-  named = ap (renamed number) (sym (renamed-kept m)) ∙ renamed-twice (λ n. n) number f m whole_file number-is
-
-  out : List ℕ
-  out = flat_map line_text (statements (renamed_tree number reads.structure))
-
-  new_reads : Reads s out (renamed f m)
-  unfolding out
-  new_reads =
-      let R : FileMeaning → Type 0 = λ x. Reads s (flat_map line_text (statements (renamed_tree number reads.structure))) x in
-      subst R named (reads-renamed s formed bytes m reads number
-      (λ j k among among_ one. once j k among among_ (sym (number-is j among) ∙ one ∙ number-is k among_))
-      (λ k. (name_spelling (number k), name_spells (number k) (number-low k))))
+  new_reads : Reads s renamed_file.0 (renamed f m)
+  new_reads = renamed_file.1
 
   -- a canonical statement of what an instance means under its new name is a line of it
   line-of : (name : ℕ) (text : List ℕ) (meaning : Typed) → Contains (renamed f m).instances (name, meaning)

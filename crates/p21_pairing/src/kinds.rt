@@ -7,9 +7,8 @@ ghost use Rattle.p21_numbering.specs.Rows.{held_rows, lent_rows, rank_among};
 ghost use Rattle.p21_pairing.specs.Clauses.{rows_with};
 ghost use Rattle.p21_pairing.specs.Kinds.{AreKinds};
 
-use crate::rows::ranks_of_rows;
 use p21_express_graph::EntityId;
-use p21_numbering::Instance;
+use p21_numbering::{Instance, ranks_of_rows};
 use std::alloc::{AllocError, Global};
 
 /// A number for the set of entities of each instance of the first file, and behind them of the second one.

@@ -25,7 +25,6 @@ mod matching;
 mod names;
 mod pairs;
 mod population;
-mod rows;
 mod whole;
 
 pub use matching::{FoundPartners, MOST_CHOICES, partners};

@@ -1,7 +1,8 @@
 -- Each meaning of bytes, with any other names, is the meaning of some bytes: so there is an order by rank, and a numbered file.
-use Rattle.std.specs.Prelude.{◌≡◌, ◌<◌, ◌≤◌, ◌^◌, ◌+◌, ℕ, suc, Bool, true, false, List, [], ◌∷◌, ◌++◌, map, length, max, Contains, refl, nat_eq, if◌then◌else◌}
+use Rattle.std.specs.Prelude.{◌≡◌, ◌<◌, ◌≤◌, ◌^◌, ◌+◌, ℕ, suc, Bool, true, false, List, [], ◌∷◌, ◌++◌, map, length, max, Contains, refl, ltb, nat_eq, if◌then◌else◌}
 use Rattle.std.specs.List.{AllZip, IsDistinct, flat_map, AllByRecursion as Each}
 use Rattle.std.proofs.Common.{arith, ap, sym, subst, ◌∙◌}
+use Rattle.std.proofs.lemmas.Bool.{lt-ltb, ltb-true}
 use Rattle.std.proofs.lemmas.List.{length-map, map-append}
 use Rattle.p21_spec_basics.proofs.Members.{Contains-first, Contains-later, Contains-mapped, Contains-unmapped, Each-append, Each-front, Each-back, Each-joined, Each-mapped, Each-weaker}
 use Rattle.p21_spec_exchange.proofs.Names.{name_spells}
@@ -31,7 +32,7 @@ use Rattle.p21_spec_numbering.proofs.Moved.{whole-renamed}
 use Rattle.p21_spec_numbering.proofs.Orders.{number-injective, order-shuffled}
 use Rattle.p21_spec_numbering.proofs.Reading.{reads-whole}
 use Rattle.p21_spec_numbering.proofs.Records.{Undoes, HaveSets, record-renamed}
-use Rattle.p21_spec_numbering.proofs.Renaming.{undo, undo-is}
+use Rattle.p21_spec_numbering.proofs.Renaming.{renamed-kept, renamed-twice, undo, undo-is}
 use Rattle.p21_spec_numbering.specs.Ordered.{Ranking, IsOrder, position, number_in, ordered}
 use Rattle.p21_spec_numbering.specs.Renamed.{renamed, renamed_instance, renamed_section, names, targets_in, IsInjectiveOn, IsWhole}
 use Rattle.p21_spec_numbering.specs.RenamedRecord.{renamed_param, renamed_params, renamed_part, renamed_record, renamed_written, renamed_data, renamed_tree}
@@ -263,3 +264,36 @@ has-numbered_bytes s formed ranking bytes m reads order is few =
     let low : number_in order k < 2 ^ 64 = (let within = position-within order k in omega (arith, within, long, few)) in (name_spelling (number_in order k), name_spells (number_in order k) low) in
     let injective : IsInjectiveOn (names m) (number_in order) = λ j k among among_ one. number-injective order j k ((is.all j).0 among) ((is.all k).0 among_) one in
     has-canonical_file s formed (flat_map line (statements (renamed_tree (number_in order) reads.structure))) (ordered order m) (reads-renamed s formed bytes m reads (number_in order) injective spelled)
+
+-- ---- new names that can be written, of the instances alone
+
+module _ (s : Schema) (formed : IsWellFormed s) (bytes : List ℕ) (m : FileMeaning) (reads : Reads s bytes m) (f : ℕ → ℕ)
+    (once : IsInjectiveOn (names m) f) (written : (n : ℕ) → Contains (names m) n → f n < 2 ^ 64) where
+  -- names that can be written, whatever the old one
+  number : ℕ → ℕ
+  number k = if ltb (f k) (2 ^ 64) then f k else 0
+
+  number-low : (k : ℕ) → number k < 2 ^ 64
+  unfolding number
+  number-low k = by (ltb (f k) (2 ^ 64)) refl
+    where
+      by : (b : Bool) → ltb (f k) (2 ^ 64) ≡ b → (if b then f k else 0) < 2 ^ 64
+      by true e = ltb-true (f k) (2 ^ 64) e
+      by false e = omega arith
+
+  number-is : (n : ℕ) → Contains (names m) n → number n ≡ f n
+  unfolding number
+  number-is n among = ap (λ (b : Bool). if b then f n else 0) (lt-ltb (f n) (2 ^ 64) (written n among))
+
+  named : renamed number m ≡ renamed f m
+  named = ap (renamed number) (sym (renamed-kept m)) ∙ renamed-twice (λ n. n) number f m (reads-whole s formed bytes m reads).0 number-is
+
+  -- some bytes mean the file under these
+  pub reads-written : (out : List ℕ) × Reads s out (renamed f m)
+  reads-written =
+      let R : FileMeaning → Type 0 = λ x. Reads s (flat_map line (statements (renamed_tree number reads.structure))) x in (
+        flat_map line (statements (renamed_tree number reads.structure)),
+        subst R named (reads-renamed s formed bytes m reads number
+            (λ j k among among_ one. once j k among among_ (sym (number-is j among) ∙ one ∙ number-is k among_))
+            (λ k. (name_spelling (number k), name_spells (number k) (number-low k)))),
+      )

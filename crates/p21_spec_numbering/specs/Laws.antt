@@ -102,7 +102,8 @@ SameAreDecidedAlike =
 -- ranks, and ranks that refer to one another have equally many
 abbrev pub AlikeGivesParts : Type 0
 AlikeGivesParts = (ranking : Ranking) (m : FileMeaning) → IsProper m
-    → ((j k : ℕ) (x y : Typed) → Contains m.instances (j, x) → Contains m.instances (k, y) → ranking m j ≡ ranking m k → SameTyped (renamed_typed (ranking m) x) (renamed_typed (ranking m) y))
+    → ((j k : ℕ) (x y : Typed) → Contains m.instances (j, x) → Contains m.instances (k, y) → ranking m j ≡ ranking m k
+    → SameTyped (renamed_typed (ranking m) x) (renamed_typed (ranking m) y))
     → (part : ℕ → ℕ) → ((j k : ℕ) → Contains (names m) j → Contains (names m) k → ranking m j ≡ ranking m k → part j ≡ part k → j ≡ k)
     → ((n t : ℕ) → RefersTo m n t → Shares ranking m n → Shares ranking m t → part n ≡ part t)
     → ((n t : ℕ) → RefersTo m n t → Shares ranking m n → Shares ranking m t → many ranking m n ≡ many ranking m t)

@@ -104,7 +104,8 @@ AreRight s given [] = Unit {0}
 AreRight s given (statement ∷ others) = IsRight s given statement × AreRight s (given ++ statement ∷ []) others
 
 -- a reading goes on by these bytes, separators behind the last `;` apart, and takes these statements
-pub record TakesRight (s : Schema) (limits : Limits) (file : List ℕ) (read : Reading) (bytes : List ℕ) (statements : List Statement) : Type 0 where
+pub record TakesRight (s : Schema) (limits : Limits) (file : List ℕ) (read : Reading) (bytes : List ℕ)
+    (statements : List Statement) : Type 0 where
   pub next : Reading
   pub is_read : IsRead s limits file next
   pub used : List ℕ
@@ -120,6 +121,8 @@ pub record TakesRight (s : Schema) (limits : Limits) (file : List ℕ) (read : R
 
 -- so it does where whole statements follow, and each is right
 abbrev pub RightStatementsAreTaken : Type 0
-RightStatementsAreTaken = (s : Schema) (limits : Limits) (file : List ℕ) (read : Reading) (bytes rest : List ℕ) (lexemes : List Lexeme) (statements : List Statement)
-    → IsRead s limits file read → file ≡ read.bytes ++ (bytes ++ rest) → AreWhole bytes lexemes → tokens_in lexemes ≡ flat_map statement_tokens statements
-    → BeginFile (read.given ++ statements) → AreRight s read.given statements → TakesRight s limits file read bytes statements
+RightStatementsAreTaken = (s : Schema) (limits : Limits) (file : List ℕ) (read : Reading) (bytes rest : List ℕ)
+    (lexemes : List Lexeme) (statements : List Statement)
+    → IsRead s limits file read → file ≡ read.bytes ++ (bytes ++ rest) → AreWhole bytes lexemes
+    → tokens_in lexemes ≡ flat_map statement_tokens statements → BeginFile (read.given ++ statements) → AreRight s read.given statements
+    → TakesRight s limits file read bytes statements

@@ -21,7 +21,8 @@ EndsInRemark bytes inside = (lexemes : List Lexeme) × LaidUpTo bytes lexemes (o
 
 -- the statement ends in the remark in which these bytes at its front end
 abbrev pub IsInOpenRemark : List ℕ → List ℕ → Type 0
-IsInOpenRemark front statement = (inside more : List ℕ) × (statement ≡ front ++ more) × EndsInRemark front inside × EndsInRemark statement (inside ++ more)
+IsInOpenRemark front statement =
+    (inside more : List ℕ) × (statement ≡ front ++ more) × EndsInRemark front inside × EndsInRemark statement (inside ++ more)
 
 -- Behind these bytes at its front a signpost stands in a string of the statement, or in the remark that is open where the file ends, and
 -- the rest of the statement behind it. `behind` stand from the refused byte on

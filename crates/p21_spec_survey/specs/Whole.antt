@@ -77,10 +77,12 @@ GapHoldsTheSame = (front other gap : List ℕ) → HoldTheSame front other → I
 
 -- the second goes on behind the first by whole statements with these tokens; or by none, and separators stand behind it in the first
 pub data GoesOnBy (front other : List ℕ) (more : List Token) : Type 0 where
-  further_on : (bytes : List ℕ) (lexemes : List Lexeme) → other ≡ front ++ bytes → AreWhole bytes lexemes → tokens_in lexemes ≡ more → GoesOnBy front other more
+  further_on : (bytes : List ℕ) (lexemes : List Lexeme) → other ≡ front ++ bytes → AreWhole bytes lexemes → tokens_in lexemes ≡ more
+      → GoesOnBy front other more
   stays_there : (gap : List ℕ) → front ≡ other ++ gap → IsSeparatorText gap → more ≡ [] → GoesOnBy front other more
 
 -- so it is where both are whole statements, and the second has these tokens more
 abbrev pub WholeFrontGoesOn : Type 0
-WholeFrontGoesOn = (front other behind back : List ℕ) (lexemes others : List Lexeme) (more : List Token) → AreWhole front lexemes → AreWhole other others
-    → front ++ behind ≡ other ++ back → tokens_in others ≡ tokens_in lexemes ++ more → EndsWithSemicolon more → GoesOnBy front other more
+WholeFrontGoesOn = (front other behind back : List ℕ) (lexemes others : List Lexeme) (more : List Token) → AreWhole front lexemes
+    → AreWhole other others → front ++ behind ≡ other ++ back → tokens_in others ≡ tokens_in lexemes ++ more
+    → EndsWithSemicolon more → GoesOnBy front other more

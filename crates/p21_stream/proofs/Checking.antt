@@ -16,7 +16,7 @@ use Rattle.p21_spec_exchange.specs.Token.{Token, semicolon}
 use Rattle.p21_spec_schema.specs.Schema.{Schema}
 use Rattle.p21_stream_statements.specs.StatementReader as statements
 use Rattle.p21_stream_statements.specs.StatementReader.{StatementHistory}
-use Rattle.p21_stream.proofs.Within.{nothing-taken, tokens-given}
+use Rattle.p21_stream_statements.proofs.Within.{nothing-taken, tokens-given}
 use Rattle.p21_stream.specs.Checked.{ChecksStatements, IsMeaningful}
 use Rattle.p21_stream.specs.Session.{IsLive}
 

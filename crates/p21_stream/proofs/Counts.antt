@@ -25,8 +25,8 @@ use Rattle.p21_stream_statements.specs.StatementReader.{AreWholeStatements, Stat
 use Rattle.p21_stream_statements.specs.declared.refusal.Refusal.{Refusal}
 use Rattle.p21_stream_store.specs.StoredInstance.{StoredInstance}
 use Rattle.p21_stream.proofs.Ending.{ends, tokens-laid}
-use Rattle.p21_stream.proofs.Instances.{are-instances}
-use Rattle.p21_stream.proofs.Within.{source-within, statements-within}
+use Rattle.p21_stream_survey.proofs.Instances.{are-instances}
+use Rattle.p21_stream_statements.proofs.Within.{source-within, statements-within}
 use Rattle.p21_stream.specs.Held.{SessionHeld, limits_of as session_limits, schema_of}
 use Rattle.p21_stream.specs.Histories.{CountGives, Stands, WholeGives}
 use Rattle.p21_stream.specs.Feeding.{IsFedWhole, taken_history}

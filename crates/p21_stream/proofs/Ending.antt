@@ -28,8 +28,8 @@ use Rattle.p21_stream_statements.specs.StatementReader.{AreWholeStatements, Stat
 use Rattle.p21_stream_kept.proofs.Unserved.{unserved-not_accepted}
 use Rattle.p21_stream_kept.specs.Served.{IsFirstUnserved, RefusesNeed}
 use Rattle.p21_stream_kept.specs.Taking.{IsKeptOfFile}
-use Rattle.p21_stream.proofs.Instances.{are-instances}
-use Rattle.p21_stream.proofs.Within.{source-within, statements-within}
+use Rattle.p21_stream_survey.proofs.Instances.{are-instances}
+use Rattle.p21_stream_statements.proofs.Within.{source-within, statements-within}
 use Rattle.p21_stream.specs.Held.{SessionHeld}
 use Rattle.p21_stream.specs.Histories.{FinishGives, Stands}
 use Rattle.p21_stream.specs.Ending.{EndGives, IsBetweenPieces}

@@ -4,7 +4,6 @@ pub mod Within
 pub mod PieceFeeding
 pub mod Ending
 pub mod Checking
-pub mod Instances
 pub mod Counts
 pub mod Taken
 pub mod TakenInstances

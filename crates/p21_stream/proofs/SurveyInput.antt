@@ -507,11 +507,3 @@ out-of limits old new survey has_failed to = (
   all_of to.bytes,
   record { all = refl; in_stage = to.stands (all_of to.bytes) [] to.few (sym (append-nil to.bytes)) },
 )
-
--- ---- for a caller
-
--- a list ends with a read that failed, or none of its refusals is of one
-pub read-last : (s : Schema) (limits : Limits) (old new : Option (List ℕ)) (refusals : Refusals)
-    → SurveysInput s limits old new (surveyed.Refused refusals)
-    → EndsByRead (surveyed.Refused refusals) ⊎ Each (λ (refusal : Refusal). refusal.fault ≢ Read) refusals.list.items
-read-last s limits old new refusals (first, lists) = lists.read_is_last

@@ -13,7 +13,7 @@ use Rattle.p21_spec_laws.specs.Keeping.{Keeps, Kept}
 use Rattle.p21_spec_schema.specs.Schema.{Schema}
 use Rattle.p21_spec_schema.specs.WellFormed.{IsWellFormed}
 use Rattle.p21_stream.proofs.Going.{dead-by_statement, dead-by_step, live-by_piece, live-by_statement, live-by_token}
-use Rattle.p21_stream.proofs.Within.{given-few, source-within, statements-few}
+use Rattle.p21_stream_statements.proofs.Within.{given-few, source-within, statements-few}
 use Rattle.p21_stream.specs.Bounds.{StaysWithin}
 use Rattle.p21_stream.specs.Session.{IsLive, TakesOneToken}
 use Rattle.p21_stream.specs.Walk.{EndsBy, EndsNoToken, IsDeadWithin, IsUnderWay, NeedsNoMemory, PlacesByte, ReadGives, ReadsOn, ReadsWhole, TakeGives, TakesMoreTokens}

@@ -4,7 +4,8 @@ use Rattle.p21_spec_exchange.specs.Laying.{AreStatementsWithin, LaidAs}
 use Rattle.p21_spec_exchange.specs.Statement.{Statement}
 use Rattle.p21_spec_survey.specs.Whole.{LaidAlike, NoFileAlike}
 use Rattle.p21_spec_syntax.specs.FileWithin.{IsNoFile}
-use Rattle.p21_stream_log.proofs.Bounds.{read-within, statements-within}
+use Rattle.p21_stream_log.proofs.Bounds.{read-within}
+use Rattle.p21_stream_statements.proofs.Within.{statements-within}
 use Rattle.p21_stream_log.specs.Ending.{AreFileOf, EndGives}
 use Rattle.p21_stream_log.specs.Log.{Held}
 use Rattle.p21_stream_statements.specs.StatementReader.{FinishGives}

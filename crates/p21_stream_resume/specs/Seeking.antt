@@ -53,8 +53,10 @@ pub record IsFound (before passed piece : List ℕ) (count : ℕ) (answer : code
 
 -- no signpost is whole, and the seeker has taken the piece; or one is found
 abbrev pub SeeksOn : Held → List ℕ → Option (ℕ × code.Signpost) → Held → Type 0
-SeeksOn old piece None new = (before passed : List ℕ) → Seeks before passed old → Seeks before (passed ++ piece) new × BeginsNoSignpost before (passed ++ piece) []
-SeeksOn old piece (Some (count, answer)) new = (before passed : List ℕ) → Seeks before passed old → IsFound before passed piece count answer new
+SeeksOn old piece None new = (before passed : List ℕ) → Seeks before passed old
+    → Seeks before (passed ++ piece) new × BeginsNoSignpost before (passed ++ piece) []
+SeeksOn old piece (Some (count, answer)) new = (before passed : List ℕ) → Seeks before passed old
+    → IsFound before passed piece count answer new
 
 -- a seeker has taken these bytes more, and found no signpost
 abbrev pub SeeksAlong : Held → List ℕ → Held → Type 0

@@ -35,11 +35,13 @@ IsNumeral digits name = (name.fits ≡ true → IsWhole digits name) × (name.fi
 
 -- of so many digits that stand for this number it is the one behind so many of them: so they are known by these two
 abbrev pub IsDigitOf : ℕ → ℕ → ℕ → ℕ → Type 0
-IsDigitOf count value place digit = (digits : List ℕ) → AllDigits digits → length digits ≡ count → number digits ≡ value → get_or digits place 0 ≡ digit
+IsDigitOf count value place digit = (digits : List ℕ) → AllDigits digits → length digits ≡ count → number digits ≡ value
+    → get_or digits place 0 ≡ digit
 
 -- the signpost that was found is this one
 abbrev pub Describes : code.Signpost → Signpost → Type 0
-Describes (found.Instance name blanks) (landmark.landmark (landmark.instance digits gap)) = IsNumeral digits name × IsCount (length gap) blanks
+Describes (found.Instance name blanks) (landmark.landmark (landmark.instance digits gap)) =
+    IsNumeral digits name × IsCount (length gap) blanks
 Describes (found.SectionEnd blanks) (landmark.landmark (landmark.section_end gap)) = IsCount (length gap) blanks
 Describes found.FileBegin landmark.file_begin = Unit {0}
 Describes found.FileEnd landmark.file_end = Unit {0}
@@ -61,4 +63,5 @@ HasShape mode.Hash bytes = bytes ≡ 35 ∷ []
 HasShape (mode.Digits name) bytes = (digits : List ℕ) × HasDigits bytes name digits []
 HasShape (mode.NameGap name blanks opened) bytes = (digits gap : List ℕ) × HasDigits bytes name digits gap × IsCount (length gap) blanks
 HasShape (mode.Word of taken) bytes = (bytes ≡ take taken (word_bytes of)) × (0 < taken) × (taken ≤ length (word_bytes of))
-HasShape (mode.SectionGap blanks opened) bytes = (gap : List ℕ) × (bytes ≡ codes "ENDSEC" ++ gap) × Each IsBlank gap × IsCount (length gap) blanks
+HasShape (mode.SectionGap blanks opened) bytes =
+    (gap : List ℕ) × (bytes ≡ codes "ENDSEC" ++ gap) × Each IsBlank gap × IsCount (length gap) blanks

@@ -54,14 +54,16 @@ EndsNoRemark bytes = (before after : List ℕ) → bytes ≡ before ++ (42 ∷ 4
 
 -- the first signpost in a string of a statement is found; or else the first one in the remark in which it ends; or none stands so
 abbrev pub FindsInText : List ℕ → Option (ℕ × code.Signpost) → Type 0
-FindsInText statement (Some found) = FindsInString statement (Some found) ⊎ (FindsInString statement None × FindsInRemark statement (Some found))
+FindsInText statement (Some found) =
+    FindsInString statement (Some found) ⊎ (FindsInString statement None × FindsInRemark statement (Some found))
 FindsInText statement None = FindsInString statement None × FindsInRemark statement None
 
 -- what is found in front of a byte of a statement stays; else, where the mode is one of a remark, what stands there is found
 abbrev pub FindsNext : List ℕ → ℕ → Mode → Option (ℕ × code.Signpost) → Option (ℕ × code.Signpost) → Type 0
 FindsNext statement place mode (Some first) next = next ≡ Some first
 FindsNext statement place mode None None = IsInRemark mode → FindsThere (take place statement) (drop place statement) None
-FindsNext statement place mode None (Some (there, own)) = IsInRemark mode × (there ≡ place) × FindsThere (take place statement) (drop place statement) (Some own)
+FindsNext statement place mode None (Some (there, own)) =
+    IsInRemark mode × (there ≡ place) × FindsThere (take place statement) (drop place statement) (Some own)
 
 -- what is found in a remark, as long as this is open
 abbrev pub kept_in : Mode → Option (ℕ × code.Signpost) → Option (ℕ × code.Signpost)

@@ -95,7 +95,8 @@ behind_word word.FileEnd = Ends signpost.FileEnd
 
 -- a byte that isn't due: `END` begins two words
 abbrev pub other_word_step : Word → ℕ → Class → ℕ → Step
-other_word_step word.SectionEnd taken kind byte = if taken == 3 && byte == 45 then Goes (mode.Word word.FileEnd 4) else Goes (outside false kind byte)
+other_word_step word.SectionEnd taken kind byte =
+    if taken == 3 && byte == 45 then Goes (mode.Word word.FileEnd 4) else Goes (outside false kind byte)
 other_word_step word.FileBegin taken kind byte = Goes (outside false kind byte)
 other_word_step word.FileEnd taken kind byte = Goes (outside false kind byte)
 

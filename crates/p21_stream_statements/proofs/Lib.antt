@@ -13,3 +13,4 @@ pub mod InData
 pub mod OpenTails
 pub mod Begun
 pub mod OpenBytes
+pub mod Within

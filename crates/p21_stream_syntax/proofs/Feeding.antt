@@ -18,7 +18,7 @@ use Rattle.p21_stream_statements.specs.StatementReader as statements
 use Rattle.p21_stream_statements.specs.StatementReader.{StatementHistory, nothing_read}
 use Rattle.p21_stream_syntax.proofs.Pieces.{each-byte}
 use Rattle.p21_stream_syntax.proofs.Taking.{keeps-nothing}
-use Rattle.p21_stream_syntax.proofs.Within.{source-within}
+use Rattle.p21_stream_statements.proofs.Within.{source-within}
 use Rattle.p21_stream_syntax.specs.Given.{Kept, Keeps, kept_of, nothing_kept}
 use Rattle.p21_stream_syntax.specs.Reading.{IsIllFormedInput, IsReadFrom, IsReadToEnd, IsWellFormedInput, PieceGives, ReadsMore, RefusesMore, RefusesSyntax, TakesAtMost, WalkHasTaken}
 use Rattle.p21_stream_syntax.specs.Walk.{FinishGives, IsUnderWay, ReadGives}

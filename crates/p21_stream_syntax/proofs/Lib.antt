@@ -3,7 +3,6 @@ mod Lengths
 mod Known
 pub mod SectionNames
 pub mod Pieces
-pub mod Within
 pub mod Adding
 pub mod Names
 pub mod Taking

@@ -28,7 +28,7 @@ use Rattle.p21_stream_statements.specs.declared.fault.Fault.{Fault}
 use Rattle.p21_stream_statements.specs.declared.refusal.Refusal.{Refusal}
 use Rattle.p21_stream_statements.specs.StatementReader as statements
 use Rattle.p21_stream_statements.specs.StatementReader.{AreWholeStatements, Held, StatementHistory, bytes_looked_at, limits_of}
-use Rattle.p21_stream_syntax.proofs.Within.{given-few, source-within, statements-within}
+use Rattle.p21_stream_statements.proofs.Within.{given-few, source-within, statements-within}
 use Rattle.p21_stream_syntax.specs.Given.{AreInstances, IsOfSchema, Keeps, Kept, Takes}
 use Rattle.p21_stream_syntax.specs.Walk.{FinishGives, HasTaken, IsUnderWay, ReadGives, StepGives}
 use Rattle.p21_syntax_words.specs.KeywordCounts.{AreCounts, keywords_of}

@@ -1,4 +1,4 @@
--- What the limits bound of the bytes that are read.
+-- What the limits bound of the bytes that a reader has taken.
 use Rattle.std.proofs.Common.{◌≡◌, ◌≤◌, ℕ, List, [], ◌∷◌, ◌++◌, length, Option, Some, None, inl, inr, refl, sym, ap, subst, ◌∙◌, length-append, arith}
 use Rattle.std.proofs.lemmas.List.{append-nil}
 use Rattle.std.specs.List.{flat_map}
@@ -37,6 +37,15 @@ pub tokens-given : (held : Held) (reading : StatementHistory) (live : IsLive hel
 tokens-given held reading live =
     sym live.tokens_are ∙ live.ended_by.depth_is.open_statement.given_are
     ∙ ap (λ (ts : List Token). ts ++ live.ended_by.depth_is.opened) live.ended_by.ended_are
+
+pub statements-few : (held : Held) (reading : StatementHistory) → IsLive held reading
+    → length (flat_map statement_tokens reading.given) ≤ length reading.taken
+statements-few held reading live =
+    let few = given-few held reading live in
+    let sizes : length live.history.given ≡ length (flat_map statement_tokens reading.given ++ live.ended_by.depth_is.opened) =
+    ap length (tokens-given held reading live) in
+    let sum = length-append (flat_map statement_tokens reading.given) live.ended_by.depth_is.opened in
+    omega (arith, few, sizes, sum)
 
 -- ---- of the statements of a file
 
