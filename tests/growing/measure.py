@@ -127,7 +127,8 @@ ROWS = [
     *(Row(name, 1_000) for name in ("one_instance_shown", "records_listed", "names_given_twice_listed", "references_listed")),
     *(Row(name, 1_000) for name in ("references_to_refused_instances", "few_listed_of_many", "few_references_listed_of_many")),
     *(Row(name, 1_000) for name in ("broken_statements_listed", "statements_without_ends_listed", "lost_apostrophes_listed")),
-    *(Row(name, 1_000) for name in ("remarks_without_ends_listed", "landmarks_in_a_string_listed", "one_broken_statement_of_many_lines")),
+    Row("remarks_without_ends_listed", 20_000),
+    *(Row(name, 1_000) for name in ("landmarks_in_a_string_listed", "one_broken_statement_of_many_lines")),
     *(Row(name, 1_000) for name in ("canonical_references", "canonical_texts")),
     *(Row(name, 1_000) for name in ("numbers_of_points", "numbers_of_equal_pairs", "numbers_along_a_path", "numbers_along_a_ruler")),
     *(Row(name, 1_000) for name in ("numbers_on_a_circle", "numbers_of_a_de_bruijn_graph", "numbers_of_a_grid", "numbers_of_a_random_graph")),
@@ -162,7 +163,6 @@ OPEN = {
     "pairs_in_another_order": Open(1.5, 0.7, 7.00, "2.2 s, 213 MB"),
     "pairs_of_equal_instances": Open(14.3, 0.8, 0.73, "2.4 s, 27 MB"),
     "pairs_along_a_path": Open(139.4, 0.9, 0.36, "13.3 s, 18 MB"),
-    "remarks_without_ends_listed": Open(294.9, 0.6, 0.11, "12.5 s, 3 MB"),
 }
 
 

@@ -229,7 +229,7 @@ pub way-empty : (first now : Survey) (bytes rest : List ℕ) → IsOnWay first b
 way-empty first now bytes rest way none known more course =
     subst (λ (l : List ℕ). GoesTo known first now (l ++ more)) none (way.goes known more course)
 
-ended-anywhere : (known : Known) (survey : Survey) (stage_ : Stage) (ahead other : List ℕ) → HasListEnded stage_
+pub ended-anywhere : (known : Known) (survey : Survey) (stage_ : Stage) (ahead other : List ℕ) → HasListEnded stage_
     → IsInStage known survey stage_ ahead → IsInStage known survey stage_ other
 ended-anywhere known survey stage.Reading ahead other over at = absurd over
 ended-anywhere known survey (stage.Seeking sought) ahead other over at = absurd over

@@ -24,6 +24,7 @@ use Rattle.p21_stream_survey.specs.Finishing.{CountsEnd, EndsSought, EndsStateme
 use Rattle.p21_stream_survey.specs.Found.{FindsAtMost, IsFound}
 use Rattle.p21_stream_survey.specs.Kinds.{AreOfFile, AreOfReading, IsOfFile}
 use Rattle.p21_stream_survey.specs.ReadOut.{AddsRead, EndsBy, EndsIn, EndsReadOut, EndsStage, FindsAll, FindsIn, GoesInto, Interrupts, IsAgain, IsInterrupted, IsReadOut, ListsInterrupted, ReadsAgain, SomeIsReadOut, last_stage}
+use Rattle.p21_stream_survey.specs.Unended.{FeedsLast, IsLast}
 use Rattle.p21_stream_survey.specs.declared.at_end.AtEnd.{AtEnd}
 use Rattle.p21_stream_survey.specs.declared.at_end.AtEnd.TheVariants.{Again, FileEnd, Listed}
 use Rattle.p21_stream_survey.specs.declared.finishing.Ended.TheVariants as at_end
@@ -53,7 +54,7 @@ all-is known file all of = by known.is_all all of
     by false is other = absurd cc
 
 -- behind as many bytes as are known nothing stands
-none-left : (known : Known) (file front bytes rest : List ℕ) → known.is_all ≡ true → IsFileOf known file → file ≡ front ++ (bytes ++ rest)
+pub none-left : (known : Known) (file front bytes rest : List ℕ) → known.is_all ≡ true → IsFileOf known file → file ≡ front ++ (bytes ++ rest)
     → length front + length bytes ≡ length known.bytes → rest ≡ []
 none-left known file front bytes rest all of is counted =
     let size = ap length (all-is known file all of) in
@@ -96,7 +97,7 @@ ends-in : (known : Known) (old new : Survey) (extent : Extent) → AsksTheSame o
 ends-in known old new extent same within surveys =
     record { same = same; within = within; surveys = own-surveys known old new extent same surveys }
 
-goes-ended : (known : Known) (old new : Survey) (extent : Extent) → IsSound known old → AsksTheSame old new
+pub goes-ended : (known : Known) (old new : Survey) (extent : Extent) → IsSound known old → AsksTheSame old new
     → new.judge.known ≡ old.judge.known → new.taker ≡ old.taker → ListsWithin new.most (listed_of new) (stage.Ended extent)
     → SurveysEach old.schema.now old.limits known new.listing extent → AreOfFile new.listing.list.items
     → GoesInto known old new (stage.Ended extent) []
@@ -264,7 +265,7 @@ statement-ends old new bytes extent are same judge taker ends counts of_file kno
     (of_file (reads-of_file old.schema.now old.limits reads.point.read old.judge.sieve old.listing reads.stands.has))
 
 -- statements are read
-goes-reading : (known : Known) (old new : Survey) (ahead : List ℕ) → IsSound known old → AsksTheSame old new
+pub goes-reading : (known : Known) (old new : Survey) (ahead : List ℕ) → IsSound known old → AsksTheSame old new
     → new.judge.known ≡ old.judge.known → new.taker ≡ old.taker → new.judge.sieve ≡ old.judge.sieve → listed_of new < old.most
     → Reads old.schema.now old.limits known new.log old.judge.sieve new.listing ahead → GoesInto known old new stage.Reading ahead
 goes-reading known old new ahead sound same judge taker sieve fewer reads = record {
@@ -499,23 +500,21 @@ both-same : (first now new : Survey) → AsksTheSame first now → AsksTheSame n
 both-same first now new one two = record { schema = two.schema ∙ one.schema; limits = two.limits ∙ one.limits; most = two.most ∙ one.most }
 
 again-course : (known : Known) (now middle : Survey) (bytes : List ℕ) → ReadsAgain known now middle bytes → middle.stage ≡ stage.Reading
-    → Course known middle (bytes ++ [])
-again-course known now middle bytes again is =
-    subst (λ (l : List ℕ). Course known middle l) (sym (append-nil bytes))
-    (subst (λ (g : Stage). IsInStage known middle g bytes) (sym is) again.goes.in_stage)
+    → Course known middle bytes
+again-course known now middle bytes again is = subst (λ (g : Stage). IsInStage known middle g bytes) (sym is) again.goes.in_stage
 
 pub again-needs : (first now middle : Survey) (bytes : List ℕ) → InLoop first now
     → ((known : Known) → IsReadOut known now now.stage → ReadsAgain known now middle bytes) → middle.stage ≡ stage.Reading
-    → (known : Known) × (more : List ℕ) × Course known middle (bytes ++ more)
+    → IsLast middle bytes
 again-needs first now middle bytes loop again is =
-    (loop.some.0, [], again-course loop.some.0 now middle bytes (again loop.some.0 loop.some.1) is)
+    (loop.some.0, loop.some.1.all, again-course loop.some.0 now middle bytes (again loop.some.0 loop.some.1) is)
 
 pub loop-goes : (first now middle new : Survey) (bytes : List ℕ) → InLoop first now
     → ((known : Known) → IsReadOut known now now.stage → ReadsAgain known now middle bytes) → middle.stage ≡ stage.Reading
-    → Feeds middle bytes new → InLoop first new
+    → FeedsLast middle bytes new → InLoop first new
 loop-goes first now middle new bytes loop again is feeds =
     let next : (known : Known) → IsReadOut known now now.stage
-    → GoesTo known middle new [] = λ known out. feeds known [] (again-course known now middle bytes (again known out) is) in
+    → GoesTo known middle new [] = λ known out. feeds known out.all (again-course known now middle bytes (again known out) is) in
     record {
       some = (loop.some.0, record { all = loop.some.1.all; in_stage = (next loop.some.0 loop.some.1).course });
       along = λ known out.
@@ -537,12 +536,12 @@ loop-ends first now new extent loop ends known out =
 -- each round lists one refusal more
 pub loop-further : (first now middle new : Survey) (bytes : List ℕ) → InLoop first now
     → ((known : Known) → IsReadOut known now now.stage → ReadsAgain known now middle bytes) → middle.stage ≡ stage.Reading
-    → Feeds middle bytes new
+    → FeedsLast middle bytes new
     → (listed_of now < listed_of new) × (listed_of now < now.most) × (new.most ≡ now.most)
 loop-further first now middle new bytes loop again is feeds =
     let known = loop.some.0 in
     let there = again known loop.some.1 in
-    let goes = feeds known [] (again-course known now middle bytes there is) in
+    let goes = feeds known loop.some.1.all (again-course known now middle bytes there is) in
     let one = there.further in
     let more = goes.no_fewer in
     let within = there.goes.in_stage.within in

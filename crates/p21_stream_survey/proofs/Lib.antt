@@ -23,3 +23,5 @@ pub mod Instances
 pub mod ReadWhole
 pub mod AtEnd
 pub mod LastStage
+pub mod OpenRemarks
+pub mod LastBytes

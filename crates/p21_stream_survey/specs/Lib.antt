@@ -18,3 +18,4 @@ pub mod Canonical
 pub mod Found
 pub mod Finishing
 pub mod ReadOut
+pub mod Unended

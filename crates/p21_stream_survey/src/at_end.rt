@@ -103,7 +103,7 @@ impl<'a> Survey<'a> {
                 Ok(AtEnd::Again(bytes)) => bytes,
                 Err(NoMemory) => return Err(NoMemory),
             };
-            match self.feed_again(bytes) {
+            match self.feed_last(bytes) {
                 Ok(()) => {}
                 Err(NoMemory) => return Err(NoMemory),
             }

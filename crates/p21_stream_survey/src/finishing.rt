@@ -98,13 +98,14 @@ pub(crate) fn end_statement(
 }
 
 /// Ends the list with a refusal of the next statement, which begins behind so many bytes.
-fn end_with(
+pub(crate) fn end_with(
     listing: &mut Listing,
     fault: Fault,
     begins: u64,
     noted: Noted<'_>,
 ) -> Result<Ended, NoMemory>
     ensures ends { IfOk result (λ ended. EndsWithRefusal listing.old fault begins ended listing.new) }
+    ensures listed { OnOk result (length listing.new.list.items ≡ suc (length listing.old.list.items)) }
     ensures counts { (most : ℕ) → length listing.old.list.items < most
         → IfOk result (λ ended. CountsEnd most (length listing.old.list.items) ended (length listing.new.list.items)) }
     ensures of_file { IsOfFile (fault_number fault) → AreOfFile listing.old.list.items → OnOk result (AreOfFile listing.new.list.items) }

@@ -11,10 +11,10 @@
 //!
 //! `Survey` walks from statement to statement by these: `survey` has its loops, `reading` what is done where statements are read, `taking` where
 //! whole instances are taken straight from their bytes (p21_shorter_instances), `refused` where a step refused some bytes, `stretches` where a
-//! statement is passed over, and `closing` how the list ends. `Course` (`specs/Course`) says how far it is, in each file of which so much is known,
-//! and each call says what it makes of that (`specs/Walking`). A round of the loops lists one more refusal, or fewer bytes come next
-//! (`proofs/Feeding`): a step takes no byte where a token waited for the byte behind it, and then the next one takes some (`take_token`), and an
-//! instance that is taken has some.
+//! statement is passed over, `closing` how the list ends, and `unended` what is read of a file that ends in open remarks. `Course`
+//! (`specs/Course`) says how far it is, in each file of which so much is known, and each call says what it makes of that (`specs/Walking`). A
+//! round of the loops lists one more refusal, or fewer bytes come next (`proofs/Feeding`): a step takes no byte where a token waited for the
+//! byte behind it, and then the next one takes some (`take_token`), and an instance that is taken has some.
 #![tactic(auto)]
 
 mod at_end;
@@ -38,6 +38,7 @@ mod stretches;
 mod survey;
 mod taking;
 mod token;
+mod unended;
 mod wrong;
 
 pub use listed::{Extent, Found, Listed};

@@ -116,7 +116,7 @@ impl<'a> Survey<'a> {
     }
 
     /// Reads some of the next bytes.
-    fn advance(&mut self, rest: &[u8]) -> Result<Next, NoMemory>
+    pub(crate) fn advance(&mut self, rest: &[u8]) -> Result<Next, NoMemory>
         requires some { 0 < length rest.now }
         requires under_way { (known : Known) × (more : List ℕ) × Course known self.old (rest.now ++ more) }
         ensures within { IfOk result (λ next. next.count ≤ length rest.now) }

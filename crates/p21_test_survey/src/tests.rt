@@ -65,6 +65,10 @@ const ROWS: Rows = &[
     (
         "#1=POINT('a',1.);\n/* #2=POINT('b',2.);\n#3=LINK(#1);\n",
         &[(3, 9)],
+    ), // Several remarks that nothing ends.
+    (
+        "#1=POINT('a' /* b\n#2=POINT('b',2.); /* c\n /* #3=POINT('c',3.);\n#4=POINT('/*',4.);\n#5=LINK(#4); /* d\n#6=LINK(#2);\n",
+        &[(3, 8), (3, 10), (3, 13)],
     ),
 ];
 
@@ -186,6 +190,11 @@ const WHOLE: Places = &[
         "#1=POINT('a',1.);\n/* #2=POINT('b',2.);\n#3=LINK(#1);\n",
         &[18],
         &[(18, 39)],
+    ),
+    (
+        "#1=POINT('a',1.); /* a\n#2=POINT(1.); /* b\n#3=POINT('c',3.);\n#4=LINK(#3, /* 'd'\n#5=LINK(#2);\n#6=LINK(#3);\n",
+        &[18, 34, 37, 72],
+        &[(18, 23), (37, 42), (60, 79)],
     ),
     // Records and names, one record with a statement in a string.
     ("#1=POINT('a',2);\n #2=POINT(1.);\n", &[13, 29], &[]),
