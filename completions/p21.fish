@@ -36,6 +36,8 @@ complete -c p21 -n '__fish_seen_subcommand_from same' -l progress -d 'Says on a 
 complete -c p21 -n '__fish_seen_subcommand_from same' -l help -d 'Print help'
 complete -c p21 -n '__fish_seen_subcommand_from diff' -l names -d 'Pairs instances by what they say and what is around them, whatever their names are'
 complete -c p21 -n '__fish_seen_subcommand_from diff' -l pairs -d 'Pairs instances as --names does, and lists all pairs in front of what differs'
+complete -c p21 -n '__fish_seen_subcommand_from diff' -l data -d 'Leaves the header out'
+complete -c p21 -n '__fish_seen_subcommand_from diff' -l ignore -x -d 'Leaves an attribute out of instances of the entity; may be given several times'
 complete -c p21 -n '__fish_seen_subcommand_from diff' -l format -x -d 'With jsonl gives differences as JSON, an object a line [possible values: text, jsonl]'
 complete -c p21 -n '__fish_seen_subcommand_from diff' -l progress -d 'Says on a terminal how much of a file is read, a line for each 64 MiB'
 complete -c p21 -n '__fish_seen_subcommand_from diff' -l help -d 'Print help'

@@ -6,6 +6,7 @@ the canonical files, whose lines are held beside each other here. P21 names anot
 import json
 import os
 import random
+import re
 import subprocess
 import sys
 import tempfile
@@ -157,6 +158,185 @@ ROWS = [
             "different: 1 changed, 0 came, 0 went",
         ],
     ),
+]
+
+
+# What stands in the header in place of an empty time stamp.
+STAMP = [("FILE_NAME('',''", "FILE_NAME('','2024-03-15'")]
+ITEMS = "#1=CARTESIAN_POINT('a',(0.,0.,0.));\n#2=AXIS2_PLACEMENT_3D('a',#1,$,$);\n#3=CIRCLE('a',#2,1.);"
+OTHER_ITEMS = ITEMS.replace("'a'", "'b'")
+
+# Each row: a name, the file A, the file B, the options, the lines that are printed, and the status.
+LEFT_OUT = [
+    ("the same text without the header", file_of(POINT), file_of(POINT), ["--data"], ["left out: the header", "same"], 0),
+    (
+        "the time stamp, without the header",
+        file_of(POINT, STAMP),
+        file_of(POINT),
+        ["--data"],
+        ["left out: the header", "different: 0 changed, 0 came, 0 went; 1 difference in the header not listed"],
+        0,
+    ),
+    (
+        "a value, without the header",
+        file_of(POINT, STAMP),
+        file_of(POINT, [("0.,0.,0.", "0.,0.,7.5")]),
+        ["--data"],
+        [
+            "left out: the header",
+            "changed #1 CARTESIAN_POINT.COORDINATES [3] 0. 7.5",
+            "different: 1 changed, 0 came, 0 went; 1 difference in the header not listed",
+        ],
+        1,
+    ),
+    (
+        "sections aren't left out with the header",
+        sections(("a", POINT), ("b", "")),
+        sections(("b", POINT)),
+        ["--data"],
+        [
+            "left out: the header",
+            "went section DATA('a',('PRODUCT_MODEL'));",
+            "moved #1 from DATA('a',('PRODUCT_MODEL')); to DATA('b',('PRODUCT_MODEL'));",
+            "different: 1 changed, 0 came, 1 went",
+        ],
+        1,
+    ),
+    (
+        "two attributes, of which one is ignored",
+        file_of(PERSON),
+        file_of("#2=PERSON('jo',$,'Jo',$);"),
+        ["--ignore", "person.id"],
+        [
+            "left out: PERSON.ID",
+            "changed #2 PERSON.FIRST_NAME $ 'Jo'",
+            "different: 1 changed, 0 came, 0 went; 1 difference at ignored attributes not listed",
+        ],
+        1,
+    ),
+    (
+        "all that differs is ignored, a parameter of the header too",
+        file_of(PERSON),
+        file_of("#2=PERSON('jo',$,'Jo',$);", STAMP),
+        ["--ignore=PERSON.ID", "--ignore", "FILE_NAME.TIME_STAMP", "--ignore", "PERSON.FIRST_NAME"],
+        [
+            "left out: PERSON.ID, FILE_NAME.TIME_STAMP, PERSON.FIRST_NAME",
+            "different: 0 changed, 0 came, 0 went; 3 differences at ignored attributes not listed",
+        ],
+        0,
+    ),
+    (
+        "what an ignored attribute isn't of is listed: another instance, and the whole of one",
+        file_of(f"{PERSON}\n#3=PERSON('a',$,$,$);"),
+        file_of("#2=PERSON('ek',$,$,$);\n#4=PERSON('a',$,$,$);"),
+        ["--ignore", "PERSON.ID"],
+        ["left out: PERSON.ID", "went #3 PERSON", "came #4 PERSON", "different: 0 changed, 1 came, 1 went"],
+        1,
+    ),
+    (
+        "an attribute that a supertype declares, by the entity of the instance",
+        file_of(ITEMS),
+        file_of(OTHER_ITEMS),
+        ["--ignore", "AXIS2_PLACEMENT_3D.NAME"],
+        [
+            "left out: AXIS2_PLACEMENT_3D.NAME",
+            "changed #1 REPRESENTATION_ITEM.NAME 'a' 'b'",
+            "changed #3 REPRESENTATION_ITEM.NAME 'a' 'b'",
+            "different: 2 changed, 0 came, 0 went; 1 difference at ignored attributes not listed",
+        ],
+        1,
+    ),
+    (
+        "an attribute that a supertype declares, by that",
+        file_of(ITEMS),
+        file_of(OTHER_ITEMS),
+        ["--ignore", "REPRESENTATION_ITEM.NAME"],
+        [
+            "left out: REPRESENTATION_ITEM.NAME",
+            "different: 0 changed, 0 came, 0 went; 3 differences at ignored attributes not listed",
+        ],
+        0,
+    ),
+    (
+        "an attribute that a supertype declares, by another supertype",
+        file_of(ITEMS),
+        file_of(OTHER_ITEMS),
+        ["--ignore", "CURVE.NAME"],
+        [
+            "left out: CURVE.NAME",
+            "changed #1 REPRESENTATION_ITEM.NAME 'a' 'b'",
+            "changed #2 REPRESENTATION_ITEM.NAME 'a' 'b'",
+            "different: 2 changed, 0 came, 0 went; 1 difference at ignored attributes not listed",
+        ],
+        1,
+    ),
+    (
+        "an attribute of an instance in parts",
+        file_of(UNIT),
+        file_of(UNIT, [("MILLI", "CENTI")]),
+        ["--ignore", "SI_UNIT.PREFIX"],
+        ["left out: SI_UNIT.PREFIX", "different: 0 changed, 0 came, 0 went; 1 difference at ignored attributes not listed"],
+        0,
+    ),
+    (
+        "an ignored attribute by pairs",
+        file_of(PERSON),
+        file_of("#7=PERSON('jo',$,$,$);"),
+        ["--names", "--ignore", "PERSON.ID"],
+        ["left out: PERSON.ID", "different: 0 changed, 0 came, 0 went; 1 difference at ignored attributes not listed"],
+        0,
+    ),
+    (
+        "all pairs stand in front of what is left out",
+        file_of(PERSON, STAMP),
+        file_of("#7=PERSON('jo',$,'Jo',$);"),
+        ["--pairs", "--data", "--ignore", "PERSON.ID"],
+        [
+            "pair #2/#7",
+            "left out: the header, PERSON.ID",
+            "changed #2/#7 PERSON.FIRST_NAME $ 'Jo'",
+            "different: 1 changed, 0 came, 0 went; 1 difference in the header not listed; "
+            "1 difference at ignored attributes not listed",
+        ],
+        1,
+    ),
+    (
+        "what is left out, as objects",
+        file_of(PERSON, STAMP),
+        file_of("#2=PERSON('jo',$,$,$);"),
+        ["--data", "--ignore", "PERSON.ID", "--ignore", "FILE_NAME.TIME_STAMP", "--format", "jsonl"],
+        [
+            '{"kind":"left out","header":true,"ignore":["PERSON.ID","FILE_NAME.TIME_STAMP"]}',
+            '{"kind":"verdict","verdict":"different","changed":0,"came":0,"went":0,"in_header":1,"ignored":1,"ignored_in_header":0}',
+        ],
+        0,
+    ),
+    (
+        "attributes that are left out, as objects",
+        file_of(PERSON, STAMP),
+        file_of("#2=PERSON('jo',$,$,$);"),
+        ["--ignore", "PERSON.ID", "--ignore", "FILE_NAME.TIME_STAMP", "--format", "jsonl"],
+        [
+            '{"kind":"left out","ignore":["PERSON.ID","FILE_NAME.TIME_STAMP"]}',
+            '{"kind":"verdict","verdict":"different","changed":0,"came":0,"went":0,"ignored":2,"ignored_in_header":1}',
+        ],
+        0,
+    ),
+]
+
+# What is said of each attribute that can't be left out, of files that aren't read.
+REFUSED = [
+    ("PERSON.SIZE", "--ignore PERSON.SIZE: PERSON has no attribute SIZE of which files have values"),
+    ("person.size", "--ignore PERSON.SIZE: PERSON has no attribute SIZE of which files have values"),
+    ("CURVE.RADIUS", "--ignore CURVE.RADIUS: CURVE has no attribute RADIUS of which files have values"),
+    ("NOBODY.ID", "--ignore NOBODY.ID: the schema has no entity NOBODY"),
+    ("PERSON", "--ignore PERSON: an attribute is named as ENTITY.ATTRIBUTE"),
+    ("PERSON.", "--ignore PERSON.: an attribute is named as ENTITY.ATTRIBUTE"),
+    (".ID", "--ignore .ID: an attribute is named as ENTITY.ATTRIBUTE"),
+    ("", "--ignore : an attribute is named as ENTITY.ATTRIBUTE"),
+    ("PERSON.ID.ID", "--ignore PERSON.ID.ID: an attribute is named as ENTITY.ATTRIBUTE"),
+    ("PERSON.ID\n", "--ignore PERSON.ID\\n: an attribute is named as ENTITY.ATTRIBUTE"),
+    ("\x1b[1mPERSON.ID", "--ignore \\x1b[1mPERSON.ID: an attribute is named as ENTITY.ATTRIBUTE"),
 ]
 
 
@@ -326,6 +506,65 @@ def against_texts(name, paths, listed):
     return None if counts == [rows[-1][kind] for kind in ("changed", "came", "went")] else f"{name}: {counts} {rows[-1]}"
 
 
+# --- What is left out ---
+
+
+def supertypes():
+    """The entities of the schema, each with itself and those above it."""
+    with open(SCHEMA, encoding="ascii") as file:
+        text = file.read().upper()
+    above = {}
+    for name, head in re.findall(r"\bENTITY (\w+)([^;]*);", text):
+        found = re.search(r"\bSUBTYPE OF \(([^)]*)\)", head)
+        above[name] = {each.strip() for each in found[1].split(",")} if found else set()
+    return {name: closure_of(name, above) for name in above}
+
+
+def closure_of(name, above):
+    """An entity with those above it."""
+    return {name}.union(*(closure_of(each, above) for each in above[name]))
+
+
+def is_ignored(row, names, above):
+    """Is a row about an attribute that one of the names is of?"""
+    if row["what"] == "header":
+        return f"{row.get('entity')}.{row.get('attribute')}" in names
+    if row["what"] != "instance" or "attribute" not in row:
+        return False
+    of_instance = set().union(*(above[each] for each in row["keywords"].split("+")))
+    named = (each.split(".") for each in names)
+    return any(name == row["attribute"] and entity in of_instance and row["entity"] in above[entity] for entity, name in named)
+
+
+def without(name, paths, words, names, above):
+    """What the program lists otherwise than without what is left out, if anything."""
+    options = [*words, *(word for each in names for word in ("--ignore", each))]
+    whole = [json.loads(line) for line in run("diff", "--format", "jsonl", SCHEMA, *paths)[0].splitlines()]
+    output, error, status = run("diff", "--format", "jsonl", *options, SCHEMA, *paths)
+    if error:
+        return f"{name} {options}: {error}"
+    first, *rows, last = [json.loads(line) for line in output.splitlines()]
+    in_header = [row for row in whole[:-1] if words and row["what"] == "header"]
+    ignored = [row for row in whole[:-1] if row not in in_header and is_ignored(row, names, above)]
+    wanted = [row for row in whole[:-1] if row not in in_header and row not in ignored]
+    said = {"kind": "left out", **({"header": True} if words else {}), **({"ignore": names} if names else {})}
+    counts = {kind: sum(row["kind"] == kind for row in wanted) for kind in ("changed", "came", "went")}
+    end = {"kind": "verdict", "verdict": whole[-1]["verdict"], **counts}
+    if end["verdict"] == "different":
+        end.update({"in_header": len(in_header)} if words else {})
+        of_header = sum(row["what"] == "header" for row in ignored)
+        end.update({"ignored": len(ignored), "ignored_in_header": of_header} if names else {})
+    found = first, rows, last, status
+    return None if found == (said, wanted, end, int(bool(wanted))) else f"{name} {options}: {found} and not {wanted} {end}"
+
+
+def chosen(chance, listed):
+    """The word that leaves the header out, or none, and attributes to leave out; one of both at least."""
+    known = [f"{entity}.{name}" for entity in OFTEN for name in listed[entity] if name != "*"]
+    names = chance.sample([*known, "FILE_NAME.TIME_STAMP", "FILE_NAME.NAME"], chance.randrange(5))
+    return ["--data"] if not names or chance.random() < 0.4 else [], names
+
+
 def listed_attributes():
     """The attributes of each entity, as `p21 schema` lists them."""
     lines = (line.removeprefix("ABSTRACT ").rstrip(")").partition("(") for line in run("schema", SCHEMA)[0].splitlines()[1:])
@@ -339,6 +578,8 @@ UNITS = [
     "(LENGTH_UNIT()NAMED_UNIT(*)SI_UNIT($,.METRE.))",
     "(NAMED_UNIT(*)PLANE_ANGLE_UNIT()SI_UNIT($,.RADIAN.))",
 ]
+# The entities of these, and some above them.
+OFTEN = "REPRESENTATION_ITEM GEOMETRIC_REPRESENTATION_ITEM CARTESIAN_POINT DIRECTION PERSON NAMED_UNIT SI_UNIT".split()
 TITLES = ["$", "('t')", "('t','u')", "('u')"]
 
 
@@ -391,7 +632,7 @@ def text_of(lines, chance, count):
 def main():
     """Compares files."""
     os.chdir(ROOT)
-    failed, passed, listed = [], 0, listed_attributes()
+    failed, passed, listed, above = [], 0, listed_attributes(), supertypes()
     with tempfile.TemporaryDirectory() as folder:
         paths = [os.path.join(folder, name) for name in ("a.step", "b.step")]
 
@@ -408,15 +649,26 @@ def main():
             for problem in (wrong, against_texts(name, paths, listed)):
                 passed += problem is None
                 failed += [problem] if problem else []
+        for name, one, other, words, lines, status in LEFT_OUT:
+            make(one, other)
+            found, wanted = run("diff", *words, SCHEMA, *paths), ("".join(line + "\n" for line in lines), "", status)
+            passed += found == wanted
+            failed += [] if found == wanted else [f"{name}: {found} and not {wanted}"]
+        for word, line in REFUSED:
+            for words in ([], ["--names"], ["--data", "--ignore", "PERSON.ID"]):
+                found, wanted = run("diff", *words, "--ignore", word, SCHEMA, "/dev/null", "/dev/null"), ("", line + "\n", 1)
+                passed += found == wanted
+                failed += [] if found == wanted else [f"--ignore {word!r}: {found} and not {wanted}"]
         chance = random.Random(SEED)
         for number in range(PAIRS):
             lines = made(chance)
             count = chance.randrange(3)
             other = chance.choice([count, count, chance.randrange(3)])
             make(text_of(lines, chance, count), text_of(edited(lines, chance), chance, other))
-            problem = against_texts(f"pair {number}", paths, listed)
-            passed += problem is None
-            failed += [problem] if problem else []
+            less = without(f"pair {number}", paths, *chosen(chance, listed), above)
+            for problem in (against_texts(f"pair {number}", paths, listed), less):
+                passed += problem is None
+                failed += [problem] if problem else []
         for first, second in (("product", "product-changed"), ("product", "product-other"), ("product-changed", "product-other")):
             problem = against_texts(f"{first} and {second}", [f"examples/{first}.step", f"examples/{second}.step"], listed)
             passed += problem is None
@@ -428,7 +680,7 @@ def main():
         problem = None if (found[0], first_line, found[2]) == wanted else f"a file that is refused: {found}"
         passed += problem is None
         failed += [problem] if problem else []
-        for words, status in ((["--format", "xml"], 2), (["--format"], 2)):
+        for words, status in ((["--format", "xml"], 2), (["--format"], 2), (["--ignore"], 2), (["--data", "--data"], 2)):
             found = run("diff", *words, SCHEMA, "examples/product.step", "examples/product.step")
             passed += found[2] == status
             failed += [] if found[2] == status else [f"{words}: {found}"]

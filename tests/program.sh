@@ -866,6 +866,29 @@ expect 'a second file refused, whatever the pairs' 1 '' 'second: refused 40 Dupl
 run diff --names "$demo" "$here/told" "$here/none"
 expect 'no second file, whatever the pairs' 3 '' "$(unopened "$here/none")"
 
+run diff --names --ignore point.y --ignore SHAPE.LABEL "$demo" "$here/told" "$here/changed"
+expect 'nothing but what is left out differs' 0 'left out: POINT.Y, SHAPE.LABEL
+different: 0 changed, 0 came, 0 went; 1 difference at ignored attributes not listed' ''
+
+run diff --data "$demo" "$here/told" "$here/told"
+expect 'the same with its header left out' 0 'left out: the header
+same' ''
+
+run diff --ignore POINT.Z "$demo" "$here/none_read" "$here/told"
+expect 'a file that is missing before an attribute that is' 3 '' "$(unopened "$here/none_read")"
+
+run diff --ignore POINT.Z "$demo" "$here/broken" "$here/told"
+expect 'an attribute that the schema does not have' 1 '' '--ignore POINT.Z: POINT has no attribute Z of which files have values'
+
+run diff --ignore "point
+y" "$demo" "$here/told" "$here/told"
+expect 'a word that names no attribute, on one line' 1 '' '--ignore point\\ny: an attribute is named as ENTITY.ATTRIBUTE'
+
+run diff --ignore
+expect 'no attribute behind --ignore' 2 '' "error: a value is required for '--ignore <ENTITY.ATTRIBUTE>' but none was supplied
+
+For more information, try '--help'."
+
 run --version
 expect 'the version' 0 'p21 0.1.0 (canonical form 1)' ''
 

@@ -3,14 +3,17 @@ ghost use Rattle.std.specs.Prelude.{IfErr, IfOk};
 ghost use Rattle.p21.specs.Statuses.{IsOfCommand, IsUnopened};
 
 use crate::commands::{Stopped, given, with_progress};
+use crate::ignored::{names_in, words_given};
 use crate::input::{Inputs, Kept};
 use crate::notes::{Given, Wanted, note_files, note_listing};
 use clap::ArgMatches;
-use p21_commands::{PairRows, RowForm, diff_by_pairs_command, diff_command};
+use p21_commands::{
+    CommandFault, LeftOut, PairRows, RowForm, diff_by_pairs_command, diff_command, report,
+};
 use p21_stream_io::Watched;
 use std::io::{Read, Write};
 
-/// `diff S A B [--names] [--pairs] [--format FORM] [--progress]`.
+/// `diff S A B [--names] [--pairs] [--data] [--ignore ENTITY.ATTRIBUTE].. [--format FORM] [--progress]`.
 pub fn run_diff<'a>(rt: &HostRuntime, found: &ArgMatches<'a>) -> Result<u8, Stopped<'a>>
     ensures ran { IfOk result IsOfCommand }
     ensures unopened { IfErr result IsUnopened }
@@ -25,10 +28,9 @@ pub fn run_diff<'a>(rt: &HostRuntime, found: &ArgMatches<'a>) -> Result<u8, Stop
     let mut first = Watched::new(with_progress(rt, found, a, inputs.open(rt, a)?));
     let mut second = Watched::new(with_progress(rt, found, b, inputs.open(rt, b)?));
     let mut faults = Watched::new(Kept::new(rt.stderr()));
-    let pairs = pairs_given(found);
-    let status = run_diff_over(
+    let status = run_diff_without(
         rt,
-        pairs,
+        found,
         form,
         &mut schema,
         &mut first,
@@ -46,11 +48,39 @@ pub fn run_diff<'a>(rt: &HostRuntime, found: &ArgMatches<'a>) -> Result<u8, Stop
     Ok(status)
 }
 
+/// Lists what differs in two files and isn't left out.
+fn run_diff_without<S: Read, A: Read, B: Read, F: Write>(
+    rt: &HostRuntime,
+    found: &ArgMatches<'_>,
+    form: RowForm,
+    schema: &mut Watched<S>,
+    first: &mut Watched<A>,
+    second: &mut Watched<B>,
+    faults: &mut Watched<F>,
+) -> u8
+    ensures { IsOfCommand result }
+{
+    let words = match words_given(rt.alloc(), found) {
+        Ok(words) => words,
+        Err(fault) => return report(&fault, faults),
+    };
+    let Ok(attributes) = names_in(rt.alloc(), &words) else {
+        return report(&CommandFault::NoMemory, faults);
+    };
+    let left_out = LeftOut {
+        header: found.get_flag("data"),
+        attributes: &attributes,
+    };
+    let pairs = pairs_given(found);
+    run_diff_over(rt, pairs, form, left_out, schema, first, second, faults)
+}
+
 /// Lists what differs in two files, by the names of their instances or by pairs of these.
 fn run_diff_over<S: Read, A: Read, B: Read, F: Write>(
     rt: &HostRuntime,
     pairs: Option<PairRows>,
     form: RowForm,
+    left_out: LeftOut<'_>,
     schema: &mut Watched<S>,
     first: &mut Watched<A>,
     second: &mut Watched<B>,
@@ -67,12 +97,24 @@ fn run_diff_over<S: Read, A: Read, B: Read, F: Write>(
                 first,
                 second,
                 form,
+                left_out,
                 pairs,
                 &mut output,
                 faults,
             )
         }
-        None => diff_command(rt.alloc(), schema, first, second, form, &mut output, faults),
+        None => {
+            diff_command(
+                rt.alloc(),
+                schema,
+                first,
+                second,
+                form,
+                left_out,
+                &mut output,
+                faults,
+            )
+        }
     }
 }
 

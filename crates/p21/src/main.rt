@@ -15,6 +15,7 @@ ghost use Rattle.p21_commands.specs.Status.{done, usage, failed};
 mod apart;
 mod commands;
 mod differences;
+mod ignored;
 mod input;
 mod lines;
 mod named;

@@ -59,6 +59,18 @@ names_rule = record (new_rule (codes "names")) { action = Some SetTrue; long = S
 abbrev pub pairs_rule : Rule
 pairs_rule = record (new_rule (codes "pairs")) { action = Some SetTrue; long = Some (codes "pairs") }
 
+-- `--data`
+abbrev pub data_rule : Rule
+data_rule = record (new_rule (codes "data")) { action = Some SetTrue; long = Some (codes "data") }
+
+-- `--ignore ENTITY.ATTRIBUTE`, which may be given several times
+abbrev pub ignore_rule : Rule
+ignore_rule = record (new_rule (codes "ignore")) {
+  action = Some Append;
+  long = Some (codes "ignore");
+  value_names = 1;
+}
+
 -- the words that may stand behind `--format`, wherever these lie
 abbrev pub AreForms : ValueParser → Type 0
 AreForms (Names names) = map (λ name. name.now) names.now ≡ codes "text" ∷ codes "jsonl" ∷ []
@@ -117,10 +129,12 @@ abbrev pub same_app : App
 same_app = with_rule (with_rule (with_rule (with_rule (with_rule (new_app (codes "same"))
     (given_rule (codes "S"))) (given_rule (codes "A"))) (given_rule (codes "B"))) names_rule) progress_rule
 
--- `diff S A B [--names] [--pairs] [--format FORM] [--progress]`
+-- `diff S A B [--names] [--pairs] [--data] [--ignore ENTITY.ATTRIBUTE].. [--format FORM] [--progress]`
 abbrev pub diff_app : ValueParser → App
-diff_app forms = with_rule (with_rule (with_rule (with_rule (with_rule (with_rule (with_rule (new_app (codes "diff"))
-    (given_rule (codes "S"))) (given_rule (codes "A"))) (given_rule (codes "B"))) names_rule) pairs_rule) (format_rule forms)) progress_rule
+diff_app forms =
+    with_rule (with_rule (with_rule (with_rule (with_rule (with_rule (with_rule (with_rule (with_rule (new_app (codes "diff"))
+    (given_rule (codes "S"))) (given_rule (codes "A"))) (given_rule (codes "B"))) names_rule) pairs_rule) data_rule) ignore_rule)
+    (format_rule forms)) progress_rule
 
 -- `faults [N]`
 abbrev pub faults_app : App

@@ -6,8 +6,12 @@ ghost use Rattle.std.specs.Prelude.{◌≡◌, IfOk, codes, false};
 ghost use Rattle.clap.specs.Words.{app_of, rule_of};
 ghost use Rattle.clap.specs.declared.builder.command.Command.TheViews.{out-Command as fields_of};
 ghost use Rattle.clap.specs.declared.builder.value_parser.ValueParser.{ValueParser};
-ghost use Rattle.p21_command_line.specs.CommandLine.{AreForms, Forms, HaveForms, all_rule, app_without_commands, canon_app, check_app, diff_app, faults_app, files_rule, format_rule, given_rule, most_rule, name_rule, names_rule, optional_rule, pairs_rule, param_app, progress_rule};
-ghost use Rattle.p21_command_line.specs.CommandLine.{count_rule, header_rule, program_app, same_app, schema_app, show_app, syntax_app, where_rule};
+ghost use Rattle.p21_command_line.specs.CommandLine.{AreForms, Forms, HaveForms, all_rule, app_without_commands, canon_app, check_app};
+ghost use Rattle.p21_command_line.specs.CommandLine.{data_rule, diff_app, faults_app, files_rule, format_rule, given_rule, most_rule};
+ghost use Rattle.p21_command_line.specs.CommandLine.{name_rule, names_rule, ignore_rule, optional_rule, pairs_rule, param_app};
+ghost use Rattle.p21_command_line.specs.CommandLine.{progress_rule};
+ghost use Rattle.p21_command_line.specs.CommandLine.{count_rule, header_rule, program_app, same_app, schema_app, show_app, syntax_app};
+ghost use Rattle.p21_command_line.specs.CommandLine.{where_rule};
 
 use crate::{help, refusals};
 use clap::{Arg, ArgAction, Command, value_parser};
@@ -158,7 +162,7 @@ fn same<'a>(alloc: Global) -> Result<Command<'a>, AllocError>
         .arg(progress(alloc))
 }
 
-/// `diff S A B [--names] [--pairs] [--format FORM] [--progress]`.
+/// `diff S A B [--names] [--pairs] [--data] [--ignore ENTITY.ATTRIBUTE].. [--format FORM] [--progress]`.
 fn diff<'a>(alloc: Global) -> Result<Command<'a>, AllocError>
     ensures app { IfOk result (λ command. (forms : ValueParser) × AreForms forms × (app_of command ≡ diff_app forms)) }
     ensures local { IfOk result (λ command. (fields_of command).has_globals ≡ false) }
@@ -174,6 +178,8 @@ fn diff<'a>(alloc: Global) -> Result<Command<'a>, AllocError>
             "Pairs instances by what they say and what is around them, whatever their names are",
         ))?
         .arg(pairs(alloc))?
+        .arg(data(alloc))?
+        .arg(ignore(alloc))?
         .arg(format(
             alloc,
             "With jsonl gives differences as JSON, an object a line",
@@ -294,6 +300,29 @@ fn pairs<'a>(alloc: Global) -> Arg<'a>
         .help("Pairs instances as --names does, and lists all pairs in front of what differs")
         .long("pairs")
         .action(ArgAction::SetTrue)
+}
+
+/// `--data`.
+fn data<'a>(alloc: Global) -> Arg<'a>
+    ensures rule { rule_of result ≡ data_rule }
+    ensures local { result.global ≡ false }
+{
+    Arg::new(alloc, "data")
+        .help("Leaves the header out")
+        .long("data")
+        .action(ArgAction::SetTrue)
+}
+
+/// `--ignore ENTITY.ATTRIBUTE`.
+fn ignore<'a>(alloc: Global) -> Arg<'a>
+    ensures rule { rule_of result ≡ ignore_rule }
+    ensures local { result.global ≡ false }
+{
+    Arg::new(alloc, "ignore")
+        .help("Leaves an attribute out of instances of the entity; may be given several times")
+        .long("ignore")
+        .value_name("ENTITY.ATTRIBUTE")
+        .action(ArgAction::Append)
 }
 
 /// `--format FORM`.

@@ -253,14 +253,21 @@ With --pairs each pair has a line besides, in front of all others, by the names 
     pair #17/#5
 Where files differ, and so do more than 1000 pairs that were chosen among several, the answer
 is the line not decided.
+With --data the header is left out, and with --ignore an attribute of each instance of the
+entity, which declares it or has it of a supertype. The first line says so, and the last one
+how much that was; files that differ are never called the same:
+    left out: the header, CIRCLE.RADIUS
+    different: 0 changed, 0 came, 0 went; 1 difference in the header not listed
 With --format jsonl each difference is a JSON object on a line, with whole values, and the
 last one has the counts.
 On standard error the first refusal, with first: or second: in front for the file, or that
 of the schema:
     second: refused 24 EndsEarly at statement 10
     schema refused S5 Circular
-Statuses: 0 same; 1 different, not decided or refused; 2 a wrong command line; 3 out of
-memory, cannot open, read or write.
+or that of an attribute that the schema doesn't have:
+    --ignore CIRCLE.SIZE: CIRCLE has no attribute SIZE of which files have values
+Statuses: 0 same, or nothing listed; 1 different, not decided or refused; 2 a wrong command
+line; 3 out of memory, cannot open, read or write.
 
 Slips:
   - schema refused S2 Syntax: schema and file are exchanged; the schema stands first.

@@ -11,6 +11,7 @@ use Rattle.p21_difference_rows.specs.RealNames.{as_they_stand}
 use Rattle.p21_difference_rows.specs.declared.row.RowForm.{RowForm}
 use Rattle.p21_differences.specs.Laws.{AreKept, LinesAreOfMeaning}
 use Rattle.p21_differences.specs.Lines.{AreLinesOf}
+use Rattle.p21_spec_differences.specs.LeftOut.{LeftOut}
 use Rattle.p21_spec_file.specs.Accepted.{Means}
 use Rattle.p21_spec_file.specs.File.{FileMeaning}
 use Rattle.p21_spec_schema.specs.Schema.{Schema}
@@ -48,13 +49,14 @@ canonical-read s claim old new output is = record {
   in_one_way = claim.in_one_way is.bytes;
 }
 
-module _ (form : RowForm) (s : Schema) (formed : IsWellFormed s) (law : LinesAreOfMeaning) (claim : Claim s usual)
+module _ (form : RowForm) (left : LeftOut) (s : Schema) (formed : IsWellFormed s) (law : LinesAreOfMeaning) (claim : Claim s usual)
     (schema first_old first_new second_old second_new : Option (List ℕ)) (before after : Output)
     (first : IsAcceptedInput s usual first_old first_new before) (second : IsAcceptedInput s usual second_old second_new after) where
-  pub lists : (same : Bool) (text : List ℕ) → IsTrue same ↔ (output_text before ≡ output_text after)
-      → ((a b : FileMeaning) → AreLinesOf s a before.kept → AreLinesOf s b after.kept → IsList form s as_they_stand a b same text)
-      → Lists form s (read_of schema first_old first_new second_old second_new) same text
-  lists same text if_equal list =
+  pub lists : (same empty : Bool) (text : List ℕ) → IsTrue same ↔ (output_text before ≡ output_text after)
+      → ((a b : FileMeaning) → AreLinesOf s a before.kept → AreLinesOf s b after.kept
+      → IsList form s as_they_stand left a b same empty text)
+      → Lists form left s (read_of schema first_old first_new second_old second_new) same empty text
+  lists same empty text if_equal list =
       let one = canonical-read s claim first_old first_new before first in
       let two = canonical-read s claim second_old second_new after second in
       let exactly = claim.same_exactly_if_equal one.bytes two.bytes (output_text before) (output_text after) one.canonical two.canonical in
@@ -72,18 +74,19 @@ module _ (form : RowForm) (s : Schema) (formed : IsWellFormed s) (law : LinesAre
             (law s formed second.bytes b means_.reads after.kept (kept-are s usual second.bytes after second.accepted));
       }
 
-module _ (form : RowForm) (s : Schema) (formed : IsWellFormed s) (law : LinesAreOfMeaning) (limits : Limits) (is_usual : limits ≡ usual)
-    (claim : Claim s limits) (schema first_old first_new second_old second_new : Option (List ℕ)) where
+module _ (form : RowForm) (left : LeftOut) (s : Schema) (formed : IsWellFormed s) (law : LinesAreOfMeaning) (limits : Limits)
+    (is_usual : limits ≡ usual) (claim : Claim s limits) (schema first_old first_new second_old second_new : Option (List ℕ)) where
   -- both files are accepted
   pub both-listed : (before after : Output) → IsAcceptedInput s limits first_old first_new before
       → IsAcceptedInput s limits second_old second_new after
-      → (same : Bool) (text : List ℕ) → IsTrue same ↔ (output_text before ≡ output_text after)
-      → ((a b : FileMeaning) → AreLinesOf s a before.kept → AreLinesOf s b after.kept → IsList form s as_they_stand a b same text)
-      → Lists form s (read_of schema first_old first_new second_old second_new) same text
-  both-listed before after first second same text if_equal list =
-      lists form s formed law (subst (Claim s) is_usual claim) schema first_old first_new second_old second_new before after
+      → (same empty : Bool) (text : List ℕ) → IsTrue same ↔ (output_text before ≡ output_text after)
+      → ((a b : FileMeaning) → AreLinesOf s a before.kept → AreLinesOf s b after.kept
+      → IsList form s as_they_stand left a b same empty text)
+      → Lists form left s (read_of schema first_old first_new second_old second_new) same empty text
+  both-listed before after first second same empty text if_equal list =
+      lists form left s formed law (subst (Claim s) is_usual claim) schema first_old first_new second_old second_new before after
       (subst (λ (l : Limits). IsAcceptedInput s l first_old first_new before) is_usual first)
-      (subst (λ (l : Limits). IsAcceptedInput s l second_old second_new after) is_usual second) same text if_equal list
+      (subst (λ (l : Limits). IsAcceptedInput s l second_old second_new after) is_usual second) same empty text if_equal list
 
   -- the first is refused
   pub first-fails : (fault : Fault) → RefusesRead s limits first_old first_new fault
@@ -108,9 +111,9 @@ module _ (form : RowForm) (s : Schema) (formed : IsWellFormed s) (law : LinesAre
   memory-fails before fault first is = second-fails before fault first (subst (RefusesRead s limits second_old second_new) (sym is) tt)
 
 -- where the list is made, the first file is accepted
-pub first-listed : (form : RowForm) (schema first_old first_new second_old second_new : Option (List ℕ)) (s : Schema) (same : Bool)
-    (text : List ℕ) → DeclaresRead schema s
-    → Lists form s (read_of schema first_old first_new second_old second_new) same text
+pub first-listed : (form : RowForm) (left : LeftOut) (schema first_old first_new second_old second_new : Option (List ℕ)) (s : Schema)
+    (same empty : Bool) (text : List ℕ) → DeclaresRead schema s
+    → Lists form left s (read_of schema first_old first_new second_old second_new) same empty text
     → IsFirstAccepted (read_of schema first_old first_new second_old second_new)
-first-listed form schema first_old first_new second_old second_new s same text declares is =
+first-listed form left schema first_old first_new second_old second_new s same empty text declares is =
     record { declared = s; declares = declares; text = is.compares.first_text; canonical = is.compares.first }

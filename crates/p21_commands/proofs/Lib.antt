@@ -6,6 +6,7 @@ pub mod Counting
 pub mod Differing
 pub mod Numbering
 pub mod Pairing
+pub mod Leaving
 pub mod FileFailing
 pub mod Showing
 pub mod Writing

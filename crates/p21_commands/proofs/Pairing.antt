@@ -14,10 +14,12 @@ use Rattle.p21_commands.specs.Load.{DeclaresRead, RefusesRead}
 use Rattle.p21_commands.specs.Refusals.{IsFaultOf}
 use Rattle.p21_commands.specs.Same.{IsRefused, Read, read_of, word_of}
 use Rattle.p21_commands.specs.declared.fault.CommandFault.{CommandFault}
+use Rattle.p21_commands.specs.Unlisted.{AreMeant}
 use Rattle.p21_commands.specs.declared.fault.CommandFault.TheVariants as command
 use Rattle.p21_difference_rows.specs.declared.row.RowForm.{RowForm}
 use Rattle.p21_paired_differences.specs.declared.by_pairs.PairRows.{PairRows}
 use Rattle.p21_paired_differences.specs.ByPairs.{FailsToPair, IsTooLongByPairs, ListsOfRead}
+use Rattle.p21_spec_differences.specs.LeftOut.{LeftOut}
 use Rattle.p21_stream.specs.Answers.{first_failures, second_failures}
 use Rattle.p21_stream.specs.declared.comparing.Which.{Which}
 use Rattle.p21_stream.specs.declared.comparing.Which.TheVariants.{First, Second}
@@ -29,23 +31,31 @@ module _ (schema first_old first_new second_old second_new : Option (List ℕ)) 
   read = read_of schema first_old first_new second_old second_new
 
   -- the list
-  pub listed-by_pairs : (form : RowForm) (pairs : PairRows) (limits : Limits) (same : Bool) (text : List ℕ) → limits ≡ usual
-      → ListsOfRead form pairs s limits first_old first_new second_old second_new same text → IsListByPairs form pairs read same text
-  listed-by_pairs form pairs limits same text is_usual lists =
-      record {
-        declared = s;
-        declares = declares;
-        lists =
-            subst (λ (l : Limits). ListsOfRead form pairs s l first_old first_new second_old second_new same text) is_usual lists;
-      }
+  pub listed-by_pairs : (form : RowForm) (left : LeftOut) (pairs : PairRows) (limits : Limits) (same empty : Bool) (text : List ℕ)
+      → AreMeant s left → limits ≡ usual → ListsOfRead form left pairs s limits first_old first_new second_old second_new same empty text
+      → IsListByPairs form left pairs read empty text
+  listed-by_pairs form left pairs limits same empty text meant is_usual lists = record {
+    declared = s;
+    declares = declares;
+    meant = meant;
+    same = same;
+    lists = subst (λ (l : Limits). ListsOfRead form left pairs s l first_old first_new second_old second_new same empty text) is_usual
+        lists;
+  }
 
   module _ (IsAnswer : List ℕ → Type 0) (output : Option (List ℕ)) where
-    long-fails : (refusal : Refusal) (fault : CommandFault) → IsFaultOf (word_of First) refusal fault
-        → refusal.fault ≡ file.CanonicalTooLong → IsTooLongByPairs s usual first_old first_new second_old second_new
+    long-fails : (refusal : Refusal) (fault : CommandFault) → IsFaultOf (word_of First) refusal fault → refusal.fault
+        ≡ file.CanonicalTooLong → IsTooLongByPairs s usual first_old first_new second_old second_new
         → FailsBy IsAnswer (IsUnpaired read) output output fault
     long-fails refusal (command.Refused line) is too_long long =
-        let refused : IsLongByPairs read (string_bytes line) =
-        record { declared = s; declares = declares; long = long; refusal = refusal; fault_is = too_long; line_is = is.1 } in
+        let refused : IsLongByPairs read (string_bytes line) = record {
+          declared = s;
+          declares = declares;
+          long = long;
+          refusal = refusal;
+          fault_is = too_long;
+          line_is = is.1;
+        } in
         (inr refused, Keeps-refl output)
     long-fails refusal command.NoMemory is too_long long = Keeps-refl output
     long-fails refusal command.Read is too_long long = Keeps-refl output
@@ -62,8 +72,8 @@ module _ (schema first_old first_new second_old second_new : Option (List ℕ)) 
     unpaired which refusal fault word named is (inr (of_first, too_long, long)) =
         long-fails refusal fault (subst (λ (w : List ℕ). IsFaultOf w refusal fault) (named ∙ ap word_of of_first) is) too_long long
 
-    pub pairing-fails : (limits : Limits) (which : Which) (refusal : Refusal) (fault : CommandFault) (word : List ℕ) → limits ≡ usual
-        → word ≡ word_of which → IsFaultOf word refusal fault
+    pub pairing-fails : (limits : Limits) (which : Which) (refusal : Refusal) (fault : CommandFault) (word : List ℕ) → limits ≡ usual → word
+        ≡ word_of which → IsFaultOf word refusal fault
         → FailsToPair s limits first_old first_new second_old second_new which refusal.fault
         → FailsBy IsAnswer (IsUnpaired read) output output fault
     pairing-fails limits which refusal fault word is_usual named is fails =
@@ -87,8 +97,8 @@ pub pairing-failed : (s : Schema) (limits : Limits) (first_old first_new second_
     → FailedBy (first ∷ second ∷ []) [] fault
 pairing-failed s limits first_old first_new second_old second_new word first second which refusal fault is (inl fails) a b =
     comparing-failed s limits first_old first_new second_old second_new word first second which refusal fault is fails a b
-pairing-failed s limits first_old first_new second_old second_new word first second First refusal fault is (inr (of_first, too_long, long))
-    a b =
+pairing-failed s limits first_old first_new second_old second_new word first second First refusal fault is
+    (inr (of_first, too_long, long)) a b =
     before_reading first (second ∷ []) [] fault (reader-failed word first refusal fault is (unwritten refusal.fault too_long) a) (b, tt)
-pairing-failed s limits first_old first_new second_old second_new word first second Second refusal fault is (inr (of_first, too_long, long))
-    a b = cc of_first
+pairing-failed s limits first_old first_new second_old second_new word first second Second refusal fault is
+    (inr (of_first, too_long, long)) a b = cc of_first

@@ -19,6 +19,7 @@ pub mod Files
 pub mod Refusals
 pub mod Same
 pub mod Diff
+pub mod Unlisted
 pub mod Numbered
 pub mod SameButForNames
 pub mod DiffByPairs

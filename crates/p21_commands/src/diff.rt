@@ -10,34 +10,38 @@ ghost use Rattle.p21_commands.specs.Transfer as text;
 ghost use Rattle.p21_commands.specs.Transfer.{Writes};
 ghost use Rattle.p21_commands.specs.Same.{EndsBy, IsEither, IsFirstAccepted, IsRefused, read_in, read_of};
 ghost use Rattle.p21_commands.specs.Streams.{PairStreams, stream_of};
+ghost use Rattle.p21_commands.specs.Unlisted.{IsUnlisted};
+ghost use Rattle.p21_difference_rows.specs.Asked.{left_out_of};
 ghost use Rattle.p21_stream.specs.ReaderInput.{ConsumesAtMost};
 
 use crate::differences::differences;
 use crate::fault::{CommandFault, report};
 use crate::file_fault::fault_of;
+use crate::left_out::check_left_out;
 use crate::load::load_schema;
 use crate::same::word_of;
 use crate::status::{DONE, REFUSED};
 use crate::transfer::write_whole;
-use p21_difference_rows::RowForm;
+use p21_difference_rows::{LeftOut, RowForm};
 use p21_stream::Watched;
 use std::alloc::Global;
 use std::io::{Read, Write};
 
-/// Reads a schema and two files, the first to its end before the second, and writes to `output` what differs, a row for each difference,
-/// and how many these are; or to `faults` one line that says why one of them isn't accepted. Answers the exit status.
+/// Reads a schema and two files, the first to its end before the second, and writes to `output` what differs and isn't left out, a row for
+/// each difference, and how many these are; or to `faults` one line that says why one of them isn't accepted, or that an attribute is to
+/// be left out that the schema doesn't have. Answers the exit status.
 pub fn diff_command<S: Read, A: Read, B: Read, W: Write, F: Write>(
     alloc: Global,
     schema: &mut Watched<S>,
     first: &mut Watched<A>,
     second: &mut Watched<B>,
     form: RowForm,
+    left_out: LeftOut<'_>,
     output: &mut Watched<W>,
     faults: &mut Watched<F>,
 ) -> u8
-    ensures order { (second.new ≡ second.old) ⊎ IsFirstAccepted
-        (read_of (S.remaining schema.old.inner) (A.remaining first.old.inner) (A.remaining first.new.inner) (B.remaining second.old.inner)
-        (B.remaining second.new.inner)) }
+    ensures order { (second.new ≡ second.old) ⊎ IsFirstAccepted (read_of (S.remaining schema.old.inner) (A.remaining first.old.inner)
+        (A.remaining first.new.inner) (B.remaining second.old.inner) (B.remaining second.new.inner)) }
     ensures consumed_schema { text.ConsumesAtMost (S.remaining schema.old.inner) (S.remaining schema.new.inner) }
     ensures consumed_first { ConsumesAtMost usual (A.remaining first.old.inner) (A.remaining first.new.inner) }
     ensures consumed_second { ConsumesAtMost usual (B.remaining second.old.inner) (B.remaining second.new.inner) }
@@ -47,33 +51,36 @@ pub fn diff_command<S: Read, A: Read, B: Read, W: Write, F: Write>(
       second = stream_of B.remaining second.old second.new;
       output = stream_of W.contents output.old output.new;
       faults = stream_of F.contents faults.old faults.new;
-    } in EndsBy (IsDifferenceList form (read_in streams)) (IsRefused (read_in streams)) streams result }
+    } in EndsBy (IsDifferenceList form (left_out_of left_out.entry) (read_in streams))
+        (IsUnlisted (IsRefused (read_in streams)) (left_out_of left_out.entry) (read_in streams)) streams result }
 {
-    match write_differences(alloc, schema, first, second, form, output) {
+    match write_differences(alloc, schema, first, second, form, left_out, output) {
         Ok(true) => DONE,
         Ok(false) => REFUSED,
         Err(fault) => report(&fault, faults),
     }
 }
 
-/// Writes what differs in two files, and says whether nothing does.
+/// Writes what differs in two files, and says whether nothing is listed.
+#[tactic(auto, using(crate::proofs::Leaving::schema_fails))]
 fn write_differences<S: Read, A: Read, B: Read, W: Write>(
     alloc: Global,
     schema: &mut Watched<S>,
     first: &mut Watched<A>,
     second: &mut Watched<B>,
     form: RowForm,
+    left_out: LeftOut<'_>,
     output: &mut Watched<W>,
 ) -> Result<bool, CommandFault>
-    ensures ok { IfOk result (λ same. Writes (IsDifferenceList form
+    ensures ok { IfOk result (λ empty. Writes (IsDifferenceList form (left_out_of left_out.entry)
         (read_of (S.remaining schema.old.inner) (A.remaining first.old.inner) (A.remaining first.new.inner) (B.remaining second.old.inner)
-        (B.remaining second.new.inner)) same) (W.contents output.old.inner) (W.contents output.new.inner)) }
+        (B.remaining second.new.inner)) empty) (W.contents output.old.inner) (W.contents output.new.inner)) }
     ensures err { let read = read_of (S.remaining schema.old.inner) (A.remaining first.old.inner) (A.remaining first.new.inner)
         (B.remaining second.old.inner) (B.remaining second.new.inner) in
-        IfErr result (FailsBy (IsEither (IsDifferenceList form read)) (IsRefused read) (W.contents output.old.inner) (W.contents output.new.inner)) }
-    ensures order { (second.new ≡ second.old) ⊎ IsFirstAccepted
-        (read_of (S.remaining schema.old.inner) (A.remaining first.old.inner) (A.remaining first.new.inner) (B.remaining second.old.inner)
-        (B.remaining second.new.inner)) }
+        IfErr result (FailsBy (IsEither (IsDifferenceList form (left_out_of left_out.entry) read))
+        (IsUnlisted (IsRefused read) (left_out_of left_out.entry) read) (W.contents output.old.inner) (W.contents output.new.inner)) }
+    ensures order { (second.new ≡ second.old) ⊎ IsFirstAccepted (read_of (S.remaining schema.old.inner) (A.remaining first.old.inner)
+        (A.remaining first.new.inner) (B.remaining second.old.inner) (B.remaining second.new.inner)) }
     ensures consumed_schema { text.ConsumesAtMost (S.remaining schema.old.inner) (S.remaining schema.new.inner) }
     ensures consumed_first { ConsumesAtMost usual (A.remaining first.old.inner) (A.remaining first.new.inner) }
     ensures consumed_second { ConsumesAtMost usual (B.remaining second.old.inner) (B.remaining second.new.inner) }
@@ -84,12 +91,13 @@ fn write_differences<S: Read, A: Read, B: Read, W: Write>(
         second.new ∷ []) (failures_of output.old output.new ∷ [])) }
 {
     let schema = load_schema(alloc, schema)?;
-    let found = match differences(alloc, &schema, form, first, second) {
+    check_left_out(alloc, &schema, left_out)?;
+    let found = match differences(alloc, &schema, form, left_out, first, second) {
         Ok(found) => found,
         Err((which, refusal)) => return Err(fault_of(alloc, word_of(which), refusal)),
     };
     match write_whole(output, &found.text) {
-        Ok(()) => Ok(found.is_same),
+        Ok(()) => Ok(found.is_empty),
         Err(fault) => Err(fault),
     }
 }

@@ -3,10 +3,11 @@ ghost use Rattle.std.specs.Prelude.{◌≡◌, IfErr, IfOk, List, OnOk, Option, 
 ghost use Rattle.p21_spec_basics.specs.Limits.{usual};
 ghost use Rattle.p21_commands.specs.Diff.{Lists};
 ghost use Rattle.p21_commands.specs.Same.{read_of};
+ghost use Rattle.p21_difference_rows.specs.Asked.{left_out_of};
 ghost use Rattle.p21_stream.specs.Answers.{FailsToCompare, IfFirst, first_failures, second_failures};
 ghost use Rattle.p21_stream.specs.ReaderInput.{ConsumesAtMost};
 
-use p21_difference_rows::{DifferenceList, RowForm, list_differences};
+use p21_difference_rows::{DifferenceList, LeftOut, RowForm, list_differences};
 use p21_differences::{TwoFiles, lines_law};
 use p21_schema::Schema;
 use p21_stream::{At, Fault, Refusal, Watched, Which, accept, headline};
@@ -14,7 +15,7 @@ use p21_values::Limits;
 use std::alloc::Global;
 use std::io::Read;
 
-/// What differs from one file to another one. The first is read to its end before the second.
+/// What differs from one file to another one and isn't left out. The first is read to its end before the second.
 ///
 /// # Errors
 ///
@@ -23,12 +24,13 @@ pub(crate) fn differences<A: Read, B: Read>(
     alloc: Global,
     schema: &Schema,
     form: RowForm,
+    left_out: LeftOut<'_>,
     first: &mut Watched<A>,
     second: &mut Watched<B>,
 ) -> Result<DifferenceList, (Which, Refusal)>
-    ensures ok { (reader : Option (List ℕ)) → IfOk result
-        (λ found. Lists form schema.now (read_of reader (A.remaining first.old.inner) (A.remaining first.new.inner)
-        (B.remaining second.old.inner) (B.remaining second.new.inner)) found.is_same found.text.items) }
+    ensures ok { (reader : Option (List ℕ)) → IfOk result (λ found. Lists form (left_out_of left_out.entry) schema.now
+        (read_of reader (A.remaining first.old.inner) (A.remaining first.new.inner) (B.remaining second.old.inner)
+        (B.remaining second.new.inner)) found.is_same found.is_empty found.text.items) }
     ensures err { IfErr result (λ answer. FailsToCompare schema.now usual (A.remaining first.old.inner) (A.remaining first.new.inner)
         (B.remaining second.old.inner) (B.remaining second.new.inner) answer.0 answer.1.fault) }
     ensures order { IfErr result (λ answer. IfFirst answer.0 (second.new ≡ second.old)) }
@@ -55,7 +57,7 @@ pub(crate) fn differences<A: Read, B: Read>(
         first: &before,
         second: &after,
     };
-    match list_differences(alloc, form, None, files) {
+    match list_differences(alloc, form, left_out, None, files) {
         Ok(found) => Ok(found),
         Err(_no_memory) => Err((Which::Second, no_memory())),
     }

@@ -1,9 +1,9 @@
 -- The attributes at which the values of two instances differ, told one by one.
-use Rattle.std.specs.Prelude.{◌≡◌, ◌≢◌, ◌↔◌, ◌⊎◌, ℕ, List, [], ◌∷◌, ◌++◌, Some, None, Contains}
+use Rattle.std.specs.Prelude.{◌≡◌, ◌≢◌, ◌↔◌, ◌⊎◌, ℕ, List, [], ◌∷◌, ◌++◌, Some, None, Contains, refl}
 use Rattle.std.specs.List.{zip}
 use Rattle.std.proofs.Common.{ap, sym, subst, ◌∙◌, inl, inr}
 use Rattle.p21_difference_rows.proofs.Adding.{more-added, none-added, weaker-added}
-use Rattle.p21_difference_rows.specs.Steps.{AddsRows, TellsAlone, TellsValues}
+use Rattle.p21_difference_rows.specs.Steps.{AddsRows, Stays, TellsIfStays, TellsValues}
 use Rattle.p21_difference_rows.specs.declared.row.RowForm.{RowForm}
 use Rattle.p21_differences.specs.OtherValues.{HandsOutOther, HaveOnePlaces, HaveOtherAt, TellsBoth, TellsDifferences}
 use Rattle.p21_differences.specs.declared.values.OtherValue.{OtherValue}
@@ -12,6 +12,7 @@ use Rattle.p21_express_graph.specs.Meaning.{place as place_of}
 use Rattle.p21_model.specs.Rows.{Row}
 use Rattle.p21_spec_basics.proofs.Members.{Contains-none, Contains-first, Contains-later, Contains-cases}
 use Rattle.p21_spec_differences.specs.Difference.{Difference, HasOtherValue, value_changed}
+use Rattle.p21_spec_differences.specs.LeftOut.{LeftOut}
 use Rattle.p21_spec_exchange.specs.CanonicalText.{param_text}
 use Rattle.p21_spec_exchange.specs.Record.{Record}
 use Rattle.p21_spec_file.specs.CanonicalTexts.{IsInstanceText}
@@ -48,10 +49,6 @@ member-alone x y among = elim (Contains-cases x [] y among) [
 ]
 
 -- ---- rows beside each other
-
--- the difference is of the name, at a place where texts differ
-abbrev pub IsOtherOf : ℕ → List Row → List Row → Difference → Type 0
-IsOtherOf name rows others d = (place : Place) × (d ≡ value_changed name place) × HaveOtherAt rows others place
 
 module _ (row other : Row) (rows others : List Row) where
   -- behind rows of equal texts
@@ -90,159 +87,170 @@ none-other (row ∷ rows) (other ∷ others) new (inr handed) place have = absur
 
 -- ---- the next of them
 
-record IsStep (name : ℕ) (rows others : List Row) (found : OtherValue) (new : OtherValues) : Type 0 where
+record IsStep (rows others : List Row) (found : OtherValue) (new : OtherValues) : Type 0 where
   left : List Row
   left_ : List Row
   tells : TellsBoth new left left_
   beside : HaveOnePlaces left left_
-  told : (d : Difference) → ((value_changed name (place_of found.place) ≡ d) ⊎ IsOtherOf name left left_ d) ↔ IsOtherOf name rows others d
+  told : (place : Place) → ((place_of found.place ≡ place) ⊎ HaveOtherAt left left_ place) ↔ HaveOtherAt rows others place
 
 places-later : (row other : Row) (rows others : List Row) → HaveOnePlaces (row ∷ rows) (other ∷ others)
     → (row.0 ≡ other.0) × HaveOnePlaces rows others
 places-later row other rows others beside = (cc, cc)
 
-step-made : (name : ℕ) (rows others : List Row) (found : OtherValue) (new : OtherValues) → HaveOnePlaces rows others
-    → HandsOutOther rows others (Some found) new → IsStep name rows others found new
-step-made name [] others found new beside handed = absurd handed
-step-made name (row ∷ rows) [] found new beside handed = absurd handed
-step-made name (row ∷ rows) (other ∷ others) found new beside (inl handed) =
-    let more = step-made name rows others found new (places-later row other rows others beside).1 handed.1 in
+step-made : (rows others : List Row) (found : OtherValue) (new : OtherValues) → HaveOnePlaces rows others
+    → HandsOutOther rows others (Some found) new → IsStep rows others found new
+step-made [] others found new beside handed = absurd handed
+step-made (row ∷ rows) [] found new beside handed = absurd handed
+step-made (row ∷ rows) (other ∷ others) found new beside (inl handed) =
+    let more = step-made rows others found new (places-later row other rows others beside).1 handed.1 in
     record {
       left = more.left;
       left_ = more.left_;
       tells = more.tells;
       beside = more.beside;
-      told = λ d. (
-        λ is. let (place, same, have) = (more.told d).0 is in (place, same, other-before row other rows others place have),
-        λ (place, same, have). (more.told d).1 (place, same, other-later row other rows others place handed.0 have),
+      told = λ place. (
+        λ is. other-before row other rows others place ((more.told place).0 is),
+        λ have. (more.told place).1 (other-later row other rows others place handed.0 have),
       );
     }
-step-made name (row ∷ rows) (other ∷ others) found new beside (inr (differ, (place_is, before, after), tells)) =
+step-made (row ∷ rows) (other ∷ others) found new beside (inr (differ, (place_is, before, after), tells)) =
     let (first, later) = places-later row other rows others beside in
     record {
       left = rows;
       left_ = others;
       tells = tells;
       beside = later;
-      told = λ d. (there d, back d);
+      told = λ place. (there place, back place);
     }
   where
-    there : (d : Difference) → (value_changed name (place_of found.place) ≡ d) ⊎ IsOtherOf name rows others d
-        → IsOtherOf name (row ∷ rows) (other ∷ others) d
-    there d (inl is) = (
-      row.0,
-      sym is ∙ ap (value_changed name) place_is,
-      other-first row other rows others (places-later row other rows others beside).0 differ,
-    )
-    there d (inr (place, same, have)) = (place, same, other-before row other rows others place have)
+    there : (place : Place) → (place_of found.place ≡ place) ⊎ HaveOtherAt rows others place
+        → HaveOtherAt (row ∷ rows) (other ∷ others) place
+    there place (inl is) = subst (HaveOtherAt (row ∷ rows) (other ∷ others)) (sym place_is ∙ is)
+        (other-first row other rows others (places-later row other rows others beside).0 differ)
+    there place (inr have) = other-before row other rows others place have
 
-    back : (d : Difference) → IsOtherOf name (row ∷ rows) (other ∷ others) d → (value_changed name (place_of found.place) ≡ d)
-        ⊎ IsOtherOf name rows others d
-    back d (place, same, have) = elim (other-cases row other rows others place have) [
-      | inl is ↦ inl (ap (value_changed name) (place_is ∙ is) ∙ sym same)
-      | inr more ↦ inr (place, same, more)
+    back : (place : Place) → HaveOtherAt (row ∷ rows) (other ∷ others) place
+        → (place_of found.place ≡ place) ⊎ HaveOtherAt rows others place
+    back place have = elim (other-cases row other rows others place have) [
+      | inl is ↦ inl (place_is ∙ is)
+      | inr more ↦ inr more
     ]
 
 -- ---- so far
 
+-- the difference is of the name, at a place where texts differ, of an attribute that stays in instances of these entities
+abbrev pub IsStayingOf : Schema → LeftOut → List ℕ → ℕ → List Row → List Row → Difference → Type 0
+IsStayingOf s left entities name rows others d =
+    (place : Place) × (d ≡ value_changed name place) × HaveOtherAt rows others place × Stays s left entities place
+
 -- these attributes are left, and the others are told
-pub record IsHalfway (form : RowForm) (s : Schema) (real : ℕ → ℕ) (name : ℕ) (x y : Typed) (values : OtherValues) (old new : List ℕ) : Type
-    0 where
+abbrev pub AreTold : Schema → LeftOut → List ℕ → ℕ → List Row → List Row → List Row → List Row → List Difference → Type 0
+AreTold s left entities name rows others more more_ list = (d : Difference)
+    → (Contains list d ⊎ IsStayingOf s left entities name more more_ d) ↔ IsStayingOf s left entities name rows others d
+
+pub record IsHalfway (form : RowForm) (s : Schema) (real : ℕ → ℕ) (left : LeftOut) (name : ℕ) (x y : Typed) (values : OtherValues)
+    (old new : List ℕ) : Type 0 where
   pub rows : List Row
   pub others : List Row
   pub differ : (place : Place) → HaveOtherAt rows others place ↔ HasOtherValue x y place
-  pub left : List Row
-  pub left_ : List Row
-  pub tells : TellsBoth values left left_
-  pub beside : HaveOnePlaces left left_
-  pub adds : AddsRows form s real (λ (list : List Difference). (d : Difference) → (Contains list d ⊎ IsOtherOf name left left_ d)
-      ↔ IsOtherOf name rows others d) old new
+  pub more : List Row
+  pub more_ : List Row
+  pub tells : TellsBoth values more more_
+  pub beside : HaveOnePlaces more more_
+  pub adds : AddsRows form s real left (AreTold s left x.entities name rows others more more_) old new
 
-module _ (form : RowForm) (s : Schema) (real : ℕ → ℕ) (name : ℕ) (x y : Typed) where
-  module _ (rows others left left_ : List Row) where
-    abbrev AreTold : List Difference → Type 0
-    AreTold list = (d : Difference) → (Contains list d ⊎ IsOtherOf name left left_ d) ↔ IsOtherOf name rows others d
-
+module _ (form : RowForm) (s : Schema) (real : ℕ → ℕ) (left : LeftOut) (name : ℕ) (x y : Typed) where
   pub values-more : (values values_ : OtherValues) (found : OtherValue) (old text new : List ℕ)
-      → IsHalfway form s real name x y values old text
-      → ((left left_ : List Row) → TellsBoth values left left_ → HandsOutOther left left_ (Some found) values_)
-      → AddsRows form s real (TellsAlone (value_changed name (place_of found.place) ∷ [])) text new
-      → IsHalfway form s real name x y values_ old new
+      → IsHalfway form s real left name x y values old text
+      → ((more more_ : List Row) → TellsBoth values more more_ → HandsOutOther more more_ (Some found) values_)
+      → AddsRows form s real left (TellsIfStays s left x.entities name (place_of found.place)) text new
+      → IsHalfway form s real left name x y values_ old new
   values-more values values_ found old text new h hands adds =
-      let step = step-made name h.left h.left_ found values_ h.beside (hands h.left h.left_ h.tells) in
-      let v = value_changed name (place_of found.place) in
+      let step = step-made h.more h.more_ found values_ h.beside (hands h.more h.more_ h.tells) in
       record {
         rows = h.rows;
         others = h.others;
         differ = h.differ;
-        left = step.left;
-        left_ = step.left_;
+        more = step.left;
+        more_ = step.left_;
         tells = step.tells;
         beside = step.beside;
-        adds = more-added form s real (AreTold h.rows h.others h.left h.left_) (TellsAlone (v ∷ []))
-            (AreTold h.rows h.others step.left step.left_) old text new
-            (λ list more told is. let All : List Difference → Type 0 = λ m. AreTold h.rows h.others step.left step.left_ (list ++ m) in
-            subst All (sym is) (λ d. (there step list told d, back step list told d)))
+        adds = more-added form s real left (AreTold s left x.entities name h.rows h.others h.more h.more_)
+            (TellsIfStays s left x.entities name (place_of found.place))
+            (AreTold s left x.entities name h.rows h.others step.left step.left_) old text new
+            (λ list others told told_ d. (there step list others told told_ d, back step list others told told_ d))
             h.adds adds;
       }
     where
-      there : (step : IsStep name h.left h.left_ found values_) (list : List Difference) → AreTold h.rows h.others h.left h.left_ list
-          → (d : Difference)
-          → Contains (list ++ (value_changed name (place_of found.place) ∷ [])) d ⊎ IsOtherOf name step.left step.left_ d
-          → IsOtherOf name h.rows h.others d
-      there step list told d (inl among) = elim (member-of list (value_changed name (place_of found.place) ∷ []) d among) [
-        | inl front ↦ (told d).0 (inl front)
-        | inr back ↦ (told d).0 (inr ((step.told d).0 (inl (member-alone (value_changed name (place_of found.place)) d back))))
-      ]
-      there step list told d (inr left) = (told d).0 (inr ((step.told d).0 (inr left)))
+      p : Place
+      p = place_of found.place
 
-      back : (step : IsStep name h.left h.left_ found values_) (list : List Difference) → AreTold h.rows h.others h.left h.left_ list
+      there : (step : IsStep h.more h.more_ found values_) (list others : List Difference)
+          → AreTold s left x.entities name h.rows h.others h.more h.more_ list → TellsIfStays s left x.entities name p others
           → (d : Difference)
-          → IsOtherOf name h.rows h.others d → Contains (list ++ (value_changed name (place_of found.place) ∷ [])) d
-          ⊎ IsOtherOf name step.left step.left_ d
-      back step list told d is = elim ((told d).1 is) [
-        | inl front ↦ inl (member-front list (value_changed name (place_of found.place) ∷ []) d front)
-        | inr left ↦ elim ((step.told d).1 left) [
-          | inl same ↦
-              let P : Difference → Type 0 = λ e. Contains (list ++ (value_changed name (place_of found.place) ∷ [])) e in
-              inl (subst P same (member-back list (value_changed name (place_of found.place) ∷ [])
-              (value_changed name (place_of found.place)) (Contains-first (value_changed name (place_of found.place)) [])))
-          | inr more ↦ inr more
+          → Contains (list ++ others) d ⊎ IsStayingOf s left x.entities name step.left step.left_ d
+          → IsStayingOf s left x.entities name h.rows h.others d
+      there step list others told told_ d (inl among) = elim (member-of list others d among) [
+        | inl front ↦ (told d).0 (inl front)
+        | inr behind ↦ let (same, stays) = (told_ d).0 behind in (told d).0 (inr (p, same, (step.told p).0 (inl refl), stays))
+      ]
+      there step list others told told_ d (inr (place, same, have, stays)) =
+          (told d).0 (inr (place, same, (step.told place).0 (inr have), stays))
+
+      back : (step : IsStep h.more h.more_ found values_) (list others : List Difference)
+          → AreTold s left x.entities name h.rows h.others h.more h.more_ list → TellsIfStays s left x.entities name p others
+          → (d : Difference)
+          → IsStayingOf s left x.entities name h.rows h.others d
+          → Contains (list ++ others) d ⊎ IsStayingOf s left x.entities name step.left step.left_ d
+      back step list others told told_ d is = elim ((told d).1 is) [
+        | inl front ↦ inl (member-front list others d front)
+        | inr (place, same, have, stays) ↦ elim ((step.told place).1 have) [
+          | inl at ↦ inl (member-back list others d
+              ((told_ d).1 (same ∙ ap (value_changed name) (sym at), subst (Stays s left x.entities) (sym at) stays)))
+          | inr later ↦ inr (place, same, later, stays)
         ]
       ]
 
-  pub values-ended : (values values_ : OtherValues) (old new : List ℕ) → IsHalfway form s real name x y values old new
-      → ((left left_ : List Row) → TellsBoth values left left_ → HandsOutOther left left_ None values_)
-      → AddsRows form s real (TellsValues x y name) old new
+  pub values-ended : (values values_ : OtherValues) (old new : List ℕ) → IsHalfway form s real left name x y values old new
+      → ((more more_ : List Row) → TellsBoth values more more_ → HandsOutOther more more_ None values_)
+      → AddsRows form s real left (TellsValues s left x y name) old new
   values-ended values values_ old new h hands =
-      weaker-added form s real (AreTold h.rows h.others h.left h.left_) (TellsValues x y name) old new
+      weaker-added form s real left (AreTold s left x.entities name h.rows h.others h.more h.more_) (TellsValues s left x y name) old new
       (λ list told d. (there list told d, back list told d)) h.adds
     where
-      there : (list : List Difference) → AreTold h.rows h.others h.left h.left_ list → (d : Difference) → Contains list d
-          → (place : Place) × (d ≡ value_changed name place) × HasOtherValue x y place
-      there list told d among = let (place, is, have) = (told d).0 (inl among) in (place, is, (h.differ place).0 have)
+      there : (list : List Difference) → AreTold s left x.entities name h.rows h.others h.more h.more_ list → (d : Difference)
+          → Contains list d
+          → (place : Place) × (d ≡ value_changed name place) × HasOtherValue x y place × Stays s left x.entities place
+      there list told d among =
+          let (place, is, have, stays) = (told d).0 (inl among) in (place, is, (h.differ place).0 have, stays)
 
-      back : (list : List Difference) → AreTold h.rows h.others h.left h.left_ list → (d : Difference)
-          → (place : Place) × (d ≡ value_changed name place) × HasOtherValue x y place → Contains list d
-      back list told d (place, is, other) = elim ((told d).1 (place, is, (h.differ place).1 other)) [
+      back : (list : List Difference) → AreTold s left x.entities name h.rows h.others h.more h.more_ list → (d : Difference)
+          → (place : Place) × (d ≡ value_changed name place) × HasOtherValue x y place × Stays s left x.entities place
+          → Contains list d
+      back list told d (place, is, other, stays) = elim ((told d).1 (place, is, (h.differ place).1 other, stays)) [
         | inl among ↦ among
-        | inr (at, same, have) ↦ absurd (none-other h.left h.left_ values_ (hands h.left h.left_ h.tells) at have)
+        | inr (at, same, have, stays_) ↦ absurd (none-other h.more h.more_ values_ (hands h.more h.more_ h.tells) at have)
       ]
 
-pub values-begun : (form : RowForm) (s : Schema) (real : ℕ → ℕ) (name m : ℕ) (r q : Record) (line text : List ℕ)
+pub values-begun : (form : RowForm) (s : Schema) (real : ℕ → ℕ) (left : LeftOut) (name m : ℕ) (r q : Record) (line text : List ℕ)
     (first : IsInstanceText s name r line) (second : IsInstanceText s m q text) (values : OtherValues) (old : List ℕ)
-    → TellsDifferences first second values → IsHalfway form s real name first.canonical_meaning second.canonical_meaning values old old
-values-begun form s real name m r q line text first second values old tells = record {
+    → TellsDifferences first second values
+    → IsHalfway form s real left name first.canonical_meaning second.canonical_meaning values old old
+values-begun form s real left name m r q line text first second values old tells = record {
   rows = tells.rows;
   others = tells.others;
   differ = tells.differ;
-  left = tells.rows;
-  left_ = tells.others;
+  more = tells.rows;
+  more_ = tells.others;
   tells = tells.tells;
   beside = tells.beside;
-  adds = none-added form s real _ old (λ d. (there d, λ is. inr is));
+  adds = none-added form s real left (AreTold s left first.canonical_meaning.entities name tells.rows tells.others tells.rows tells.others)
+      old (λ d. (there d, λ is. inr is));
 }
   where
-    there : (d : Difference) → Contains [] d ⊎ IsOtherOf name tells.rows tells.others d → IsOtherOf name tells.rows tells.others d
+    there : (d : Difference)
+        → Contains [] d ⊎ IsStayingOf s left first.canonical_meaning.entities name tells.rows tells.others d
+        → IsStayingOf s left first.canonical_meaning.entities name tells.rows tells.others d
     there d (inl none) = absurd (Contains-none d none)
     there d (inr is) = is

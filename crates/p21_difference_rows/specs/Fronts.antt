@@ -80,6 +80,13 @@ abbrev pub front : RowForm → Schema → (ℕ → ℕ) → Subject → List ℕ
 front Text s real subject = line_front s real subject
 front Json s real subject = object_front s real subject
 
+-- ---- the first line
+
+-- the beginning of the line that says what is left out
+abbrev pub first_front : RowForm → List ℕ
+first_front Text = codes "left out: "
+first_front Json = codes "{\"kind\":\"left out\","
+
 -- ---- the last line
 
 -- that of files that mean the same

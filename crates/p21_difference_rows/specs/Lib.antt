@@ -1,3 +1,4 @@
+pub mod Asked
 pub mod RealNames
 pub mod Fronts
 pub mod Listed

@@ -1,13 +1,14 @@
 -- What is listed of two files.
-use Rattle.std.specs.Prelude.{◌≡◌, ◌≢◌, ◌↔◌, ℕ, Bool, true, false, List, [], ◌∷◌, ◌++◌, Contains}
+use Rattle.std.specs.Prelude.{◌≡◌, ◌≢◌, ◌↔◌, ℕ, Bool, true, false, IsTrue, List, [], ◌∷◌, ◌++◌, Contains}
 use Rattle.std.specs.List.{flat_map, AllByRecursion as Each}
-use Rattle.p21_difference_rows.specs.Fronts.{end_front, front, same_line}
+use Rattle.p21_difference_rows.specs.Fronts.{end_front, first_front, front, same_line}
 use Rattle.p21_difference_rows.specs.declared.row.RowForm.{RowForm}
 use Rattle.p21_difference_rows.specs.declared.row.Subject.{Subject}
 use Rattle.p21_difference_rows.specs.declared.row.Subject.TheVariants.{Header, Section, Moved, Came, Went, Set, Value}
 use Rattle.p21_express_graph.specs.Meaning.{place as place_of}
 use Rattle.p21_express_graph.specs.Resolved.{IsPlace}
-use Rattle.p21_spec_differences.specs.Difference.{Difference, Differs, instance_came, instance_went, set_changed, value_changed}
+use Rattle.p21_spec_differences.specs.Difference.{Difference, instance_came, instance_went, set_changed, value_changed}
+use Rattle.p21_spec_differences.specs.LeftOut.{IsToList, LeftOut, leaves_out}
 use Rattle.p21_spec_file.specs.File.{FileMeaning}
 use Rattle.p21_spec_schema.specs.Schema.{Schema}
 
@@ -37,6 +38,14 @@ abbrev pub IsOfSchema : Schema → Subject → Type 0
 IsOfSchema s (Value name place) = IsPlace s (place_of place)
 IsOfSchema s subject = Unit {0}
 
+-- a row about the header stands only where this isn't left out
+abbrev pub MayStand : LeftOut → Subject → Type 0
+MayStand left (Header happening) = left.header ≡ false
+MayStand left subject = Unit {0}
+
+abbrev pub AllMayStand : LeftOut → List Row → Type 0
+AllMayStand left rows = Each (λ (row : Row). MayStand left row.subject) rows
+
 -- ---- what is told of instances
 
 -- the difference that a row tells; none where it isn't about what instances mean
@@ -60,22 +69,40 @@ IsOfInstance (set_changed name) = Unit {0}
 IsOfInstance (value_changed name place) = Unit {0}
 IsOfInstance other = ⊥
 
--- exactly what differs in instances is told
-abbrev pub TellsInstances : FileMeaning → FileMeaning → List Difference → Type 0
-TellsInstances a b list = (d : Difference) → Contains list d ↔ (IsOfInstance d × Differs a b d)
+-- exactly what differs in instances, and isn't left out, is told
+abbrev pub TellsInstances : Schema → LeftOut → FileMeaning → FileMeaning → List Difference → Type 0
+TellsInstances s left a b list = (d : Difference) → Contains list d ↔ (IsOfInstance d × IsToList s left a b d)
 
 -- ---- the list
 
--- rows, each a line, which tell exactly what differs in instances, and a last line that says that the files differ
-pub record IsListOfOthers (form : RowForm) (s : Schema) (real : ℕ → ℕ) (a b : FileMeaning) (text : List ℕ) : Type 0 where
+-- where something is left out a line says so, and else there is none
+abbrev pub IsFirstLine : RowForm → Bool → List ℕ → Type 0
+IsFirstLine form true line = (rest : List ℕ) × HoldsNoFeed rest × (line ≡ first_front form ++ (rest ++ (10 ∷ [])))
+IsFirstLine form false line = line ≡ []
+
+-- behind a first line, rows, each a line, which tell exactly what differs in instances and isn't left out, and a last line that says that
+-- the files differ; there is no row although something is left out exactly if the answer is that the list is empty
+pub record IsListOfOthers (form : RowForm) (s : Schema) (real : ℕ → ℕ) (left : LeftOut) (a b : FileMeaning) (empty : Bool) (text : List ℕ) :
+    Type 0 where
+  pub first : List ℕ
+  pub first_is_line : IsFirstLine form (leaves_out left) first
   pub rows : List Row
   pub are_lines : AreLines rows
+  pub may_stand : AllMayStand left rows
   pub end : List ℕ
   pub end_is_line : HoldsNoFeed end
-  pub text_is : text ≡ rows_text form s real rows ++ (end_front form ++ (end ++ (10 ∷ [])))
-  pub tells : TellsInstances a b (all_told rows)
+  pub text_is : text ≡ first ++ (rows_text form s real rows ++ (end_front form ++ (end ++ (10 ∷ []))))
+  pub tells : TellsInstances s left a b (all_told rows)
+  pub if_empty : IsTrue empty ↔ (IsTrue (leaves_out left) × (rows ≡ []))
 
--- the list of two files, by whether they mean the same: where they do, it has one line alone, which says so
-abbrev pub IsList : RowForm → Schema → (ℕ → ℕ) → FileMeaning → FileMeaning → Bool → List ℕ → Type 0
-IsList form s real a b true text = text ≡ same_line form
-IsList form s real a b false text = IsListOfOthers form s real a b text
+-- that of files that mean the same: behind a first line, one that says so
+pub record IsListOfSame (form : RowForm) (left : LeftOut) (empty : Bool) (text : List ℕ) : Type 0 where
+  pub first : List ℕ
+  pub first_is_line : IsFirstLine form (leaves_out left) first
+  pub text_is : text ≡ first ++ same_line form
+  pub is_empty : IsTrue empty
+
+-- the list of two files, by whether they mean the same, and by whether it has a row
+abbrev pub IsList : RowForm → Schema → (ℕ → ℕ) → LeftOut → FileMeaning → FileMeaning → Bool → Bool → List ℕ → Type 0
+IsList form s real left a b true empty text = IsListOfSame form left empty text
+IsList form s real left a b false empty text = IsListOfOthers form s real left a b empty text

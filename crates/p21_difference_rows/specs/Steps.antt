@@ -1,8 +1,12 @@
 -- Rows that are put behind others.
-use Rattle.std.specs.Prelude.{◌≡◌, ◌↔◌, ℕ, List, [], ◌∷◌, ◌++◌, Contains}
-use Rattle.p21_difference_rows.specs.Listed.{AreLines, HoldsNoFeed, IsOfInstance, Row, all_told, rows_text}
+use Rattle.std.specs.Prelude.{◌≡◌, ◌↔◌, ℕ, Bool, List, [], ◌∷◌, ◌++◌, Contains}
+use Rattle.p21_difference_rows.specs.Asked.{left_out_of}
+use Rattle.p21_difference_rows.specs.Listed.{AllMayStand, AreLines, HoldsNoFeed, IsFirstLine, IsOfInstance, Row, all_told, rows_text}
+use Rattle.p21_difference_rows.specs.RealNames.{real_name}
 use Rattle.p21_difference_rows.specs.declared.row.RowForm.{RowForm}
-use Rattle.p21_spec_differences.specs.Difference.{Difference, Differs, HasOtherValue, instance_came, instance_went, set_changed, value_changed}
+use Rattle.p21_difference_rows.specs.declared.row.Style.{Style}
+use Rattle.p21_spec_differences.specs.Difference.{Difference, HasOtherValue, instance_came, instance_went, set_changed, value_changed}
+use Rattle.p21_spec_differences.specs.LeftOut.{IsIgnored, IsToList, LeftOut}
 use Rattle.p21_spec_file.specs.File.{FileMeaning}
 use Rattle.p21_spec_file.specs.Meaning.{Typed}
 use Rattle.p21_spec_schema.specs.Schema.{Place, Schema}
@@ -19,12 +23,24 @@ pub record AddsRest (old new : List ℕ) : Type 0 where
   pub holds_none : HoldsNoFeed rest
   pub new_is : new ≡ old ++ (rest ++ (10 ∷ []))
 
--- rows are put behind a text, and what they tell is so
-pub record AddsRows (form : RowForm) (s : Schema) (real : ℕ → ℕ) (IsTold : List Difference → Type 0) (old new : List ℕ) : Type 0 where
+-- the first line, if there is one
+pub record AddsFirst (form : RowForm) (asked : Bool) (old new : List ℕ) : Type 0 where
+  pub first : List ℕ
+  pub is_line : IsFirstLine form asked first
+  pub new_is : new ≡ old ++ first
+
+-- rows are put behind a text, none about a header that is left out, and what they tell is so
+pub record AddsRows (form : RowForm) (s : Schema) (real : ℕ → ℕ) (left : LeftOut) (IsTold : List Difference → Type 0) (old new : List ℕ) :
+    Type 0 where
   pub rows : List Row
   pub are_lines : AreLines rows
+  pub may_stand : AllMayStand left rows
   pub new_is : new ≡ old ++ rows_text form s real rows
   pub is_told : IsTold (all_told rows)
+
+-- the same in a style
+abbrev pub Puts : Style → (List Difference → Type 0) → List ℕ → List ℕ → Type 0
+Puts style IsTold old new = AddsRows style.form style.schema.now (real_name style.names) (left_out_of style.left_out) IsTold old new
 
 -- nothing of instances is told
 abbrev pub TellsNone : List Difference → Type 0
@@ -42,11 +58,20 @@ name_of (set_changed name) = name
 name_of (value_changed name place) = name
 name_of other = 0
 
--- exactly what differs in the instances of such names is told
-abbrev pub TellsOf : (ℕ → Type 0) → FileMeaning → FileMeaning → List Difference → Type 0
-TellsOf IsName a b list = (d : Difference) → Contains list d ↔ (IsOfInstance d × IsName (name_of d) × Differs a b d)
+-- exactly what differs in the instances of such names, and isn't left out, is told
+abbrev pub TellsOf : (ℕ → Type 0) → Schema → LeftOut → FileMeaning → FileMeaning → List Difference → Type 0
+TellsOf IsName s left a b list = (d : Difference) → Contains list d ↔ (IsOfInstance d × IsName (name_of d) × IsToList s left a b d)
 
--- exactly the attributes of this name are told at which the values differ
-abbrev pub TellsValues : Typed → Typed → ℕ → List Difference → Type 0
-TellsValues x y name list = (d : Difference) → Contains list d
-    ↔ ((place : Place) × (d ≡ value_changed name place) × HasOtherValue x y place)
+-- the attribute at the place of an instance of these entities isn't left out
+abbrev pub Stays : Schema → LeftOut → List ℕ → Place → Type 0
+Stays s left entities place = ¬ IsIgnored s left.attributes entities place
+
+-- the attribute of this name is told, if it stays
+abbrev pub TellsIfStays : Schema → LeftOut → List ℕ → ℕ → Place → List Difference → Type 0
+TellsIfStays s left entities name place list = (d : Difference) → Contains list d
+    ↔ ((d ≡ value_changed name place) × Stays s left entities place)
+
+-- exactly the attributes of this name are told at which the values differ, but for those that are left out
+abbrev pub TellsValues : Schema → LeftOut → Typed → Typed → ℕ → List Difference → Type 0
+TellsValues s left x y name list = (d : Difference) → Contains list d
+    ↔ ((place : Place) × (d ≡ value_changed name place) × HasOtherValue x y place × Stays s left x.entities place)

@@ -1,6 +1,7 @@
 //! The beginnings of rows.
 ghost use Rattle.std.specs.Prelude.{◌≡◌, ◌++◌, OnOk, codes};
-ghost use Rattle.p21_difference_rows.specs.Fronts.{entity_name, attribute_name, front, happening_word, line_front, object_front, value_object_front};
+ghost use Rattle.p21_difference_rows.specs.Fronts.{entity_name, attribute_name, front, happening_word};
+ghost use Rattle.p21_difference_rows.specs.Fronts.{line_front, object_front, value_object_front};
 ghost use Rattle.p21_difference_rows.specs.Listed.{IsOfSchema};
 ghost use Rattle.p21_difference_rows.specs.RealNames.{real_name};
 ghost use Rattle.p21_express_graph.specs.Meaning.{place as place_of};
@@ -173,7 +174,8 @@ fn push_attribute(
 ) -> Result<(), NoMemory>
     requires { IsPlace schema.now (place_of place) }
     ensures { OnOk result (text.new.items ≡ text.old.items
-        ++ (entity_name schema.now (place_of place).entity ++ (between.now ++ (attribute_name schema.now (place_of place) ++ behind.now)))) }
+        ++ (entity_name schema.now (place_of place).entity
+        ++ (between.now ++ (attribute_name schema.now (place_of place) ++ behind.now)))) }
 {
     push(schema.entity_name(place.entity), text)?;
     push(between, text)?;

@@ -1,8 +1,8 @@
 //! What differs in the instances of two files, name by name.
 ghost use Rattle.std.specs.Prelude.{◌≡◌, ◌≤◌, ◌<◌, ◌+◌, ◌^◌, IfSome, List, MatchOption, OnOk, ℕ};
+ghost use Rattle.p21_difference_rows.specs.Asked.{left_out_of};
 ghost use Rattle.p21_difference_rows.specs.Listed.{TellsInstances};
-ghost use Rattle.p21_difference_rows.specs.RealNames.{real_name};
-ghost use Rattle.p21_difference_rows.specs.Steps.{AddsRows, TellsOf};
+ghost use Rattle.p21_difference_rows.specs.Steps.{Puts, TellsOf};
 ghost use Rattle.p21_differences.specs.Changes.{FindsChange, IsChange, IsOfFiles, changed_name};
 ghost use Rattle.p21_differences.specs.Lines.{AreLinesOf};
 ghost use Rattle.p21_spec_file.specs.File.{FileMeaning};
@@ -27,7 +27,8 @@ pub(crate) fn list_instances<'a>(
     rows: &mut Rows,
 ) -> Result<(), NoMemory>
     ensures { (a b : FileMeaning) → AreLinesOf style.now.schema.now a first.now.kept → AreLinesOf style.now.schema.now b second.now.kept →
-        OnOk result (AddsRows style.now.form style.now.schema.now (real_name style.now.names) (TellsInstances a b) rows.old.text.items rows.new.text.items) }
+        OnOk result (Puts style.now (TellsInstances style.now.schema.now (left_out_of style.now.left_out) a b) rows.old.text.items
+        rows.new.text.items) }
 {
     style.schema.well_formed();
     let mut least = 0;
@@ -89,7 +90,9 @@ fn list_change(style: &Style<'_>, change: &Change<'_>, rows: &mut Rows) -> Resul
     ensures { (a b : FileMeaning) (kept others : List StoredInstance) → AreLinesOf style.now.schema.now a kept
         → AreLinesOf style.now.schema.now b others →
         IsChange a b change.now → IsOfFiles kept others change.now →
-        OnOk result (AddsRows style.now.form style.now.schema.now (real_name style.now.names) (TellsOf (λ (name : ℕ). name ≡ changed_name change.now) a b) rows.old.text.items rows.new.text.items) }
+        OnOk result (Puts style.now
+        (TellsOf (λ (name : ℕ). name ≡ changed_name change.now) style.now.schema.now (left_out_of style.now.left_out) a b)
+        rows.old.text.items rows.new.text.items) }
 {
     style.schema.well_formed();
     let mut rest = Vec::new(style.alloc);

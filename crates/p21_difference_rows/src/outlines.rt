@@ -1,12 +1,12 @@
 //! What differs in headers, in the data sections that there are, and in which of them instances stand. Which rows these functions put is
 //! tested; none of them is about what an instance means.
 ghost use Rattle.std.specs.Prelude.{OnOk};
-ghost use Rattle.p21_difference_rows.specs.RealNames.{real_name};
-ghost use Rattle.p21_difference_rows.specs.Steps.{AddsRows, TellsNone};
+ghost use Rattle.p21_difference_rows.specs.Steps.{Puts, TellsNone};
 
 use crate::keywords::{header_attribute, keyword_of};
+use crate::left_out::LeftOut;
 use crate::row::{Happening, RowForm, Style, Subject};
-use crate::rows::{Rows, put};
+use crate::rows::{Rows, put, put_header};
 use crate::texts::{push_both, push_member, push_shown_both, push_values};
 use p21_outlines::{
     OtherParameter, OtherParameters, Outline, RecordChange, SectionChange, first_moved_from,
@@ -21,8 +21,7 @@ pub(crate) fn list_outlines(
     after: &Accepted,
     rows: &mut Rows,
 ) -> Result<(), NoMemory>
-    ensures { OnOk result (AddsRows style.now.form style.now.schema.now (real_name style.now.names) TellsNone rows.old.text.items
-        rows.new.text.items) }
+    ensures { OnOk result (Puts style.now TellsNone rows.old.text.items rows.new.text.items) }
 {
     let first = Outline::new(style.alloc, before)?;
     let second = Outline::new(style.alloc, after)?;
@@ -41,8 +40,7 @@ fn list_headers(
     second: &Outline,
     rows: &mut Rows,
 ) -> Result<(), NoMemory>
-    ensures { OnOk result (AddsRows style.now.form style.now.schema.now (real_name style.now.names) TellsNone rows.old.text.items
-        rows.new.text.items) }
+    ensures { OnOk result (Puts style.now TellsNone rows.old.text.items rows.new.text.items) }
 {
     let mut changes = first.record_changes(second);
     for _ in 0..u64::MAX {
@@ -56,22 +54,21 @@ fn list_headers(
 
 /// Puts rows for what changed about a header record.
 fn list_record(style: &Style<'_>, change: RecordChange<'_>, rows: &mut Rows) -> Result<(), NoMemory>
-    ensures { OnOk result (AddsRows style.now.form style.now.schema.now (real_name style.now.names) TellsNone rows.old.text.items
-        rows.new.text.items) }
+    ensures { OnOk result (Puts style.now TellsNone rows.old.text.items rows.new.text.items) }
 {
     let mut rest = Vec::new(style.alloc);
     match change {
         RecordChange::Came(line) => {
             push_record(style.form, None, Some(line), &mut rest)?;
-            put(style, &Subject::Header(Happening::Came), &rest, rows)
+            put_header(style, Happening::Came, &rest, rows)
         }
         RecordChange::Went(line) => {
             push_record(style.form, Some(line), None, &mut rest)?;
-            put(style, &Subject::Header(Happening::Went), &rest, rows)
+            put_header(style, Happening::Went, &rest, rows)
         }
         RecordChange::Record(line, other) => {
             push_record(style.form, Some(line), Some(other), &mut rest)?;
-            put(style, &Subject::Header(Happening::Changed), &rest, rows)
+            put_header(style, Happening::Changed, &rest, rows)
         }
         RecordChange::Parameters(line, other) => list_parameters(style, line, other, rows),
     }
@@ -109,34 +106,63 @@ fn list_parameters(
     other: &[u8],
     rows: &mut Rows,
 ) -> Result<(), NoMemory>
-    ensures { OnOk result (AddsRows style.now.form style.now.schema.now (real_name style.now.names) TellsNone rows.old.text.items
-        rows.new.text.items) }
+    ensures { OnOk result (Puts style.now TellsNone rows.old.text.items rows.new.text.items) }
 {
     let mut parameters = OtherParameters::new(line, other);
     for _ in 0..u64::MAX {
         let Some(found) = parameters.next() else {
             break;
         };
-        let mut rest = Vec::new(style.alloc);
-        push_parameter(style, parameters.keyword, found, &mut rest)?;
-        put(style, &Subject::Header(Happening::Changed), &rest, rows)?;
+        list_parameter(style, parameters.keyword, found, rows)?;
     }
     Ok(())
+}
+
+/// Puts a row for a parameter that is another one, if it isn't left out.
+fn list_parameter(
+    style: &Style<'_>,
+    keyword: &[u8],
+    found: OtherParameter<'_>,
+    rows: &mut Rows,
+) -> Result<(), NoMemory>
+    ensures { OnOk result (Puts style.now TellsNone rows.old.text.items rows.new.text.items) }
+{
+    let numbered = format!(in style.alloc; "{}", found.number.saturating_add(1))?;
+    let attribute = match header_attribute(keyword, found.number) {
+        Some(name) => name,
+        None => numbered.as_bytes(),
+    };
+    if is_ignored(style.left_out, keyword, attribute) {
+        rows.ignored = rows.ignored.saturating_add(1);
+        rows.ignored_in_header = rows.ignored_in_header.saturating_add(1);
+        return Ok(());
+    }
+    let mut rest = Vec::new(style.alloc);
+    push_parameter(style, keyword, attribute, found, &mut rest)?;
+    put_header(style, Happening::Changed, &rest, rows)
+}
+
+/// Whether a parameter of a header record is left out by its name, and not with the header. What it answers is tested.
+fn is_ignored(left_out: LeftOut<'_>, keyword: &[u8], attribute: &[u8]) -> bool {
+    if left_out.header {
+        return false;
+    }
+    for name in left_out.attributes {
+        if name.entity == keyword && name.attribute == attribute {
+            return true;
+        }
+    }
+    false
 }
 
 /// Appends a parameter that is another one.
 fn push_parameter(
     style: &Style<'_>,
     keyword: &[u8],
+    attribute: &[u8],
     found: OtherParameter<'_>,
     rest: &mut Vec<u8>,
 ) -> Result<(), NoMemory> {
-    let number = found.number;
-    let numbered = format!(in style.alloc; "{}", number.saturating_add(1))?;
-    let attribute = match header_attribute(keyword, number) {
-        Some(name) => name,
-        None => numbered.as_bytes(),
-    };
     match style.form {
         RowForm::Text => {
             rest.extend_from_slice(keyword)?;
@@ -160,8 +186,7 @@ fn list_sections(
     second: &Outline,
     rows: &mut Rows,
 ) -> Result<(), NoMemory>
-    ensures { OnOk result (AddsRows style.now.form style.now.schema.now (real_name style.now.names) TellsNone rows.old.text.items
-        rows.new.text.items) }
+    ensures { OnOk result (Puts style.now TellsNone rows.old.text.items rows.new.text.items) }
 {
     let mut changes = first.section_changes(second);
     for _ in 0..u64::MAX {
@@ -186,8 +211,7 @@ fn list_moved<'a>(
     second: &'a Accepted,
     rows: &mut Rows,
 ) -> Result<(), NoMemory>
-    ensures { OnOk result (AddsRows style.now.form style.now.schema.now (real_name style.now.names) TellsNone rows.old.text.items
-        rows.new.text.items) }
+    ensures { OnOk result (Puts style.now TellsNone rows.old.text.items rows.new.text.items) }
 {
     let mut least = 0;
     for _ in 0..u64::MAX {

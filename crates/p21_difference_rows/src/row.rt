@@ -1,4 +1,5 @@
 //! What rows are about.
+use crate::left_out::LeftOut;
 use p21_express_graph::Place;
 use p21_schema::Schema;
 use p21_stream_output::Accepted;
@@ -41,12 +42,13 @@ pub enum Subject {
 }
 
 /// How rows are written, of what schema, and under which names: those that the instances of the first file really have, where it stands
-/// under others. The second file says which instances it has.
+/// under others; and what is left out. The second file says which instances it has.
 #[derive(Clone, Copy)]
 pub(crate) struct Style<'a> {
     pub alloc: Global,
     pub form: RowForm,
     pub schema: &'a Schema,
     pub names: Option<&'a BTreeMap<u64, u64>>,
+    pub left_out: LeftOut<'a>,
     pub second: &'a Accepted,
 }

@@ -1,8 +1,8 @@
 //! Rows one behind the other.
 ghost use Rattle.std.specs.Prelude.{◌≡◌, [], OnOk};
-ghost use Rattle.p21_difference_rows.specs.Listed.{IsOfSchema, told};
-ghost use Rattle.p21_difference_rows.specs.RealNames.{real_name};
-ghost use Rattle.p21_difference_rows.specs.Steps.{AddsRows, TellsAlone};
+ghost use Rattle.p21_difference_rows.specs.Asked.{left_out_of};
+ghost use Rattle.p21_difference_rows.specs.Listed.{IsOfSchema, MayStand, told};
+ghost use Rattle.p21_difference_rows.specs.Steps.{Puts, TellsAlone, TellsNone};
 
 use crate::fronts::push_front;
 use crate::pushing::push_rest;
@@ -10,13 +10,17 @@ use crate::row::{Happening, Style, Subject};
 use p21_values::NoMemory;
 use std::alloc::Global;
 
-/// Rows, each a line, and how many there are of each kind.
+/// Rows, each a line, and how many there are of each kind; and how many differences were left out: of the header as a whole, and of
+/// attributes that are named, those of header records among them.
 #[derive(Drop)]
 pub(crate) struct Rows {
     pub text: Vec<u8>,
     pub changed: u64,
     pub came: u64,
     pub went: u64,
+    pub in_header: u64,
+    pub ignored: u64,
+    pub ignored_in_header: u64,
 }
 
 impl Rows {
@@ -29,6 +33,9 @@ impl Rows {
             changed: 0,
             came: 0,
             went: 0,
+            in_header: 0,
+            ignored: 0,
+            ignored_in_header: 0,
         }
     }
 }
@@ -40,13 +47,29 @@ pub(crate) fn put(
     rest: &[u8],
     rows: &mut Rows,
 ) -> Result<(), NoMemory>
-    requires { IsOfSchema style.now.schema.now subject.now }
-    ensures { OnOk result (AddsRows style.now.form style.now.schema.now (real_name style.now.names) (TellsAlone (told subject.now))
-        rows.old.text.items rows.new.text.items) }
+    requires of_schema { IsOfSchema style.now.schema.now subject.now }
+    requires may_stand { MayStand (left_out_of style.now.left_out) subject.now }
+    ensures { OnOk result (Puts style.now (TellsAlone (told subject.now)) rows.old.text.items rows.new.text.items) }
 {
     count(happening_of(subject), rows);
     push_front(style, subject, &mut rows.text)?;
     push_rest(rest, &mut rows.text)
+}
+
+/// Puts a row about the header behind the others, where the header isn't left out.
+pub(crate) fn put_header(
+    style: &Style<'_>,
+    happening: Happening,
+    rest: &[u8],
+    rows: &mut Rows,
+) -> Result<(), NoMemory>
+    ensures { OnOk result (Puts style.now TellsNone rows.old.text.items rows.new.text.items) }
+{
+    if style.left_out.header {
+        rows.in_header = rows.in_header.saturating_add(1);
+        return Ok(());
+    }
+    put(style, &Subject::Header(happening), rest, rows)
 }
 
 /// Counts a row.

@@ -10,6 +10,7 @@ use Rattle.p21_difference_rows.specs.declared.row.RowForm.{RowForm}
 use Rattle.p21_differences.specs.Lines.{AreLinesOf}
 use Rattle.p21_numbered_file.specs.Pairing.{IsPairedFile}
 use Rattle.p21_spec_basics.specs.Limits.{AreLimits, Limits}
+use Rattle.p21_spec_differences.specs.LeftOut.{LeftOut}
 use Rattle.p21_spec_file.proofs.SameFiles.{SameFileMeaning-symmetric, SameFileMeaning-transitive}
 use Rattle.p21_spec_file.specs.Accepted.{IsAccepted, IsCanonicalOf}
 use Rattle.p21_spec_file.specs.File.{FileMeaning}
@@ -40,7 +41,8 @@ text-accepted s formed limits are output is = (only-canonical s formed limits ar
 named-by_map : (names : BTreeMap ℕ ℕ) (m n : ℕ) → get nat_cmp names m ≡ Some n → by_map names m ≡ n
 named-by_map names m n is = ap (λ (o : Option ℕ). elim o [ Some real ↦ real | None ↦ m ]) is
 
-module _ (form : RowForm) (shown : PairRows) (s : Schema) (formed : IsWellFormed s) (limits : Limits) (pairs : PairsAreOneToOne)
+module _ (form : RowForm) (left : LeftOut) (shown : PairRows) (s : Schema) (formed : IsWellFormed s) (limits : Limits)
+    (pairs : PairsAreOneToOne)
     (none : SameIfNothingDiffers) (told : TheSameArePaired)
     (first second file : Output) (old_names : BTreeMap ℕ ℕ)
     (paired : IsPairedFile s limits (output_text first) (output_text second) file old_names)
@@ -109,9 +111,10 @@ module _ (form : RowForm) (shown : PairRows) (s : Schema) (formed : IsWellFormed
   behind-pairs Hidden list text is = is
   behind-pairs Shown list text (rows, are, is) = (rows, are-pairs rows are, is)
 
-  listed : (same : Bool) (text : List ℕ) → IsTrue same ↔ (output_text file ≡ output_text second)
-      → IsListOrUndecided form shown s new (by_map old_names) a b same text → ListsOfFiles form shown s limits first second same text
-  listed same text if_equal list = record {
+  listed : (same empty : Bool) (text : List ℕ) → IsTrue same ↔ (output_text file ≡ output_text second)
+      → IsListOrUndecided form left shown s new (by_map old_names) a b same empty text
+      → ListsOfFiles form left shown s limits first second same empty text
+  listed same empty text if_equal list = record {
     a = a;
     first_means = paired.paired.means;
     b = b;
@@ -131,24 +134,26 @@ module _ (form : RowForm) (shown : PairRows) (s : Schema) (formed : IsWellFormed
   }
 
   -- the list is made
-  pub decided : (same told : Bool) (list text : List ℕ) → IsTrue same ↔ (output_text file ≡ output_text second)
-      → ((m n : FileMeaning) → AreLinesOf s m file.kept → AreLinesOf s n second.kept → IsList form s (by_map old_names) m n same list)
-      → told ≡ same
+  pub decided : (same told empty empty_ : Bool) (list text : List ℕ) → IsTrue same ↔ (output_text file ≡ output_text second)
+      → ((m n : FileMeaning) → AreLinesOf s m file.kept → AreLinesOf s n second.kept
+      → IsList form s (by_map old_names) left m n same empty list)
+      → told ≡ same → empty_ ≡ empty
       → ((m n : FileMeaning) → AreLinesOf s m file.kept → AreLinesOf s n second.kept
       → IsBehindRows shown form (by_map old_names) (names m) (names n) list text)
-      → ListsOfFiles form shown s limits first second told text
-  decided same told list text if_equal is_list is behind =
-      let P : Bool → Type 0 = λ e. ListsOfFiles form shown s limits first second e text in
-      subst P (sym is) (listed same text if_equal (inl (record {
+      → ListsOfFiles form left shown s limits first second told empty_ text
+  decided same told empty empty_ list text if_equal is_list is is_ behind =
+      let P : Bool → Type 0 = λ e. ListsOfFiles form left shown s limits first second e empty_ text in
+      let Q : Bool → Type 0 = λ e. ListsOfFiles form left shown s limits first second same e text in
+      subst P (sym is) (subst Q (sym is_) (listed same empty text if_equal (inl (record {
         list = list;
         is_list = is_list (renamed new a) b first-lines second-lines;
         behind = behind-pairs shown list text (behind (renamed new a) b first-lines second-lines);
-      })))
+      }))))
 
   -- it isn't
-  pub not-decided : (equal same : Bool) (text : List ℕ) → IsTrue equal ↔ (output_text file ≡ output_text second) → equal ≡ false
-      → same ≡ false → text ≡ undecided_line form
-      → ListsOfFiles form shown s limits first second same text
-  not-decided equal same text if_equal is_other is line_is =
+  pub not-decided : (equal same empty : Bool) (text : List ℕ) → IsTrue equal ↔ (output_text file ≡ output_text second) → equal ≡ false
+      → same ≡ false → empty ≡ false → text ≡ undecided_line form
+      → ListsOfFiles form left shown s limits first second same empty text
+  not-decided equal same empty text if_equal is_other is none line_is =
       let P : Bool → Type 0 = λ e. IsTrue e ↔ (output_text file ≡ output_text second) in
-      listed same text (subst P (is_other ∙ sym is) if_equal) (inr (is, line_is))
+      listed same empty text (subst P (is_other ∙ sym is) if_equal) (inr (is, none, line_is))

@@ -5,6 +5,7 @@ use Rattle.p21_difference_rows.specs.declared.row.RowForm.{RowForm}
 use Rattle.p21_numbered_file.specs.declared.pairing.Unpaired.{Unpaired}
 use Rattle.p21_numbered_file.specs.declared.pairing.Unpaired.TheVariants as unpaired
 use Rattle.p21_spec_basics.specs.Limits.{AreLimits, Limits}
+use Rattle.p21_spec_differences.specs.LeftOut.{LeftOut}
 use Rattle.p21_spec_schema.specs.Schema.{Schema}
 use Rattle.p21_spec_schema.specs.WellFormed.{IsWellFormed}
 use Rattle.p21_stream.proofs.Canonicals.{canonical-of_read}
@@ -29,11 +30,11 @@ module _ (s : Schema) (formed : IsWellFormed s) (limits : Limits) (are : AreLimi
   has-canonical output is = (output_text output, canonical-of_read s formed limits are first_old first_new output is)
 
   module _ (second_old second_new : Option (List ℕ)) where
-    pub read-listed : (form : RowForm) (pairs : PairRows) (before after : Output) (same : Bool) (text : List ℕ)
+    pub read-listed : (form : RowForm) (left : LeftOut) (pairs : PairRows) (before after : Output) (same empty : Bool) (text : List ℕ)
         → IsAcceptedInput s limits first_old first_new before → IsAcceptedInput s limits second_old second_new after
-        → ListsOfFiles form pairs s limits before after same text
-        → ListsOfRead form pairs s limits first_old first_new second_old second_new same text
-    read-listed form pairs before after same text first second lists = record {
+        → ListsOfFiles form left pairs s limits before after same empty text
+        → ListsOfRead form left pairs s limits first_old first_new second_old second_new same empty text
+    read-listed form left pairs before after same empty text first second lists = record {
       first_text = output_text before;
       first = canonical-of_read s formed limits are first_old first_new before first;
       second_text = output_text after;

@@ -1,6 +1,7 @@
 -- What differs in two files whose instances are paired.
 use Rattle.std.specs.Prelude.{◌≡◌, ◌⊎◌, ◌↔◌, ℕ, Bool, false, IsTrue, List, ◌++◌, Option, Contains, codes}
 use Rattle.p21_spec_basics.specs.Limits.{Limits}
+use Rattle.p21_spec_differences.specs.LeftOut.{LeftOut}
 use Rattle.p21_difference_rows.specs.Listed.{IsList}
 use Rattle.p21_difference_rows.specs.Pairs.{Rise, pair_lines}
 use Rattle.p21_difference_rows.specs.declared.row.RowForm.{RowForm}
@@ -44,28 +45,31 @@ abbrev pub IsBehindPairs : PairRows → RowForm → (ℕ → ℕ) → (ℕ → �
 IsBehindPairs Hidden form new real a b list text = text ≡ list
 IsBehindPairs Shown form new real a b list text = (lines : List ℕ) × ArePairs form new real a b lines × (text ≡ lines ++ list)
 
--- the list of what differs in the first file under its new names and the second, maybe behind the pairs
-pub record IsListWithPairs (form : RowForm) (pairs : PairRows) (s : Schema) (new real : ℕ → ℕ) (a b : FileMeaning) (same : Bool)
-    (text : List ℕ) : Type 0 where
+-- the list of what differs in the first file under its new names and the second, and isn't left out, maybe behind the pairs
+pub record IsListWithPairs (form : RowForm) (left : LeftOut) (pairs : PairRows) (s : Schema) (new real : ℕ → ℕ) (a b : FileMeaning)
+    (same empty : Bool) (text : List ℕ) : Type 0 where
   pub list : List ℕ
-  pub is_list : IsList form s real (renamed new a) b same list
+  pub is_list : IsList form s real left (renamed new a) b same empty list
   pub behind : IsBehindPairs pairs form new real a b list text
 
 -- the same; or, of files that differ, that it isn't decided
-abbrev pub IsListOrUndecided : RowForm → PairRows → Schema → (ℕ → ℕ) → (ℕ → ℕ) → FileMeaning → FileMeaning → Bool → List ℕ → Type 0
-IsListOrUndecided form pairs s new real a b same text =
-    IsListWithPairs form pairs s new real a b same text ⊎ ((same ≡ false) × (text ≡ undecided_line form))
+abbrev pub IsListOrUndecided : RowForm → LeftOut → PairRows → Schema → (ℕ → ℕ) → (ℕ → ℕ) → FileMeaning → FileMeaning → Bool → Bool
+    → List ℕ → Type 0
+IsListOrUndecided form left pairs s new real a b same empty text =
+    IsListWithPairs form left pairs s new real a b same empty text
+    ⊎ ((same ≡ false) × (empty ≡ false) × (text ≡ undecided_line form))
 
--- the instances of both are paired by new names for the first; what differs is listed in the first under these and the second, with both
--- names in each row. Nothing does exactly if the answer is that they are the same: then they are so but for names, and where ranks tell
--- instances apart, files that are so have this answer
-pub record ListsByPairs (form : RowForm) (pairs : PairRows) (s : Schema) (a b : FileMeaning) (same : Bool) (text : List ℕ) : Type 0 where
+-- the instances of both are paired by new names for the first; what differs in the first under these and the second, and isn't left out,
+-- is listed, with both names in each row. Nothing differs exactly if the answer is that they are the same: then they are so but for names,
+-- and where ranks tell instances apart, files that are so have this answer
+pub record ListsByPairs (form : RowForm) (left : LeftOut) (pairs : PairRows) (s : Schema) (a b : FileMeaning) (same empty : Bool)
+    (text : List ℕ) : Type 0 where
   pub new : ℕ → ℕ
   pub pairing : IsPairing (ranking_of s) a b new
   pub one_to_one : IsOneToOne new a b
   pub real : ℕ → ℕ
   pub gives_back : (n : ℕ) → Contains (names a) n → real (new n) ≡ n
-  pub list : IsListOrUndecided form pairs s new real a b same text
+  pub list : IsListOrUndecided form left pairs s new real a b same empty text
   pub if_same : IsTrue same ↔ NothingDiffers new a b
   pub same_but_for_names : IsTrue same → SameButForNames a b
   pub told_apart : AreToldApart (ranking_of s) a b → SameButForNames a b → IsTrue same
@@ -77,17 +81,17 @@ abbrev pub IsAcceptedFile : Schema → Limits → Output → Type 0
 IsAcceptedFile s limits output = (bytes : List ℕ) × IsCanonicalOutput s limits bytes output
 
 -- what the texts of both mean is listed so
-pub record ListsOfTexts (form : RowForm) (pairs : PairRows) (s : Schema) (limits : Limits) (first second : List ℕ) (same : Bool)
-    (text : List ℕ) : Type 0 where
+pub record ListsOfTexts (form : RowForm) (left : LeftOut) (pairs : PairRows) (s : Schema) (limits : Limits) (first second : List ℕ)
+    (same empty : Bool) (text : List ℕ) : Type 0 where
   pub a : FileMeaning
   pub first_means : Means s limits first a
   pub b : FileMeaning
   pub second_means : Means s limits second b
-  pub lists : ListsByPairs form pairs s a b same text
+  pub lists : ListsByPairs form left pairs s a b same empty text
 
-abbrev pub ListsOfFiles : RowForm → PairRows → Schema → Limits → Output → Output → Bool → List ℕ → Type 0
-ListsOfFiles form pairs s limits first second same text =
-    ListsOfTexts form pairs s limits (output_text first) (output_text second) same text
+abbrev pub ListsOfFiles : RowForm → LeftOut → PairRows → Schema → Limits → Output → Output → Bool → Bool → List ℕ → Type 0
+ListsOfFiles form left pairs s limits first second same empty text =
+    ListsOfTexts form left pairs s limits (output_text first) (output_text second) same empty text
 
 -- why there is no list; want of memory says nothing
 abbrev pub HasNoList : Schema → Limits → List ℕ → List ℕ → Unpaired → Type 0
@@ -97,13 +101,13 @@ HasNoList s limits first second unpaired.NoMemory = Unit {0}
 -- ---- of two readers
 
 -- both were read to their ends, and what differs is listed in their canonical files, which mean what they mean
-pub record ListsOfRead (form : RowForm) (pairs : PairRows) (s : Schema) (limits : Limits)
-    (first_old first_new second_old second_new : Option (List ℕ)) (same : Bool) (text : List ℕ) : Type 0 where
+pub record ListsOfRead (form : RowForm) (left : LeftOut) (pairs : PairRows) (s : Schema) (limits : Limits)
+    (first_old first_new second_old second_new : Option (List ℕ)) (same empty : Bool) (text : List ℕ) : Type 0 where
   pub first_text : List ℕ
   pub first : IsCanonicalOfRead s limits first_old first_new first_text
   pub second_text : List ℕ
   pub second : IsCanonicalOfRead s limits second_old second_new second_text
-  pub lists : ListsOfTexts form pairs s limits first_text second_text same text
+  pub lists : ListsOfTexts form left pairs s limits first_text second_text same empty text
 
 -- both were read to their ends, and the first is too long under the names of its partners
 pub record IsTooLongByPairs (s : Schema) (limits : Limits) (first_old first_new second_old second_new : Option (List ℕ)) : Type 0 where

@@ -1,12 +1,13 @@
 //! What differs in two files that are read, by pairs of their instances.
 ghost use Rattle.std.specs.Prelude.{◌≡◌, ◌⊎◌, IfErr, IfOk, OnOk};
+ghost use Rattle.p21_difference_rows.specs.Asked.{left_out_of};
 ghost use Rattle.p21_paired_differences.specs.ByPairs.{FailsToPair, IsFaultOfPairs, ListsOfRead};
 ghost use Rattle.p21_stream.specs.ReaderInput.{ConsumesAtMost};
 ghost use Rattle.p21_stream_numbered.specs.Compared.{HasCanonical};
 ghost use Rattle.p21_stream.specs.Answers.{first_failures, second_failures};
 
 use crate::by_pairs::{PairRows, list_by_pairs};
-use p21_difference_rows::{DifferenceList, RowForm};
+use p21_difference_rows::{DifferenceList, LeftOut, RowForm};
 use p21_numbered_file::{Unpaired, text_of};
 use p21_schema::Schema;
 use p21_stream::{Accepted, At, Fault, Refusal, Watched, Which, accept, headline};
@@ -15,7 +16,7 @@ use std::alloc::Global;
 use std::io::Read;
 
 /// What differs from one file to another one, whose instances are paired by what they say and what is around them, whatever their names
-/// are; or that it isn't decided. The first is read to its end before the second.
+/// are; or that it isn't decided. What is to be left out isn't listed. The first file is read to its end before the second.
 ///
 /// # Errors
 ///
@@ -26,12 +27,14 @@ pub fn paired_differences<A: Read, B: Read>(
     schema: &Schema,
     limits: Limits,
     form: RowForm,
+    left_out: LeftOut<'_>,
     pairs: PairRows,
     first: &mut Watched<A>,
     second: &mut Watched<B>,
 ) -> Result<DifferenceList, (Which, Refusal)>
-    ensures ok { IfOk result (λ found. ListsOfRead form pairs schema.now limits (A.remaining first.old.inner) (A.remaining first.new.inner)
-        (B.remaining second.old.inner) (B.remaining second.new.inner) found.is_same found.text.items) }
+    ensures ok { IfOk result (λ found. ListsOfRead form (left_out_of left_out.entry) pairs schema.now limits (A.remaining first.old.inner)
+        (A.remaining first.new.inner) (B.remaining second.old.inner) (B.remaining second.new.inner) found.is_same found.is_empty
+        found.text.items) }
     ensures err { IfErr result (λ answer. FailsToPair schema.now limits (A.remaining first.old.inner) (A.remaining first.new.inner)
         (B.remaining second.old.inner) (B.remaining second.new.inner) answer.0 answer.1.fault) }
     ensures order { (second.new ≡ second.old) ⊎ HasCanonical schema.now limits (A.remaining first.old.inner) (A.remaining first.new.inner) }
@@ -51,7 +54,9 @@ pub fn paired_differences<A: Read, B: Read>(
         Ok(accepted) => accepted,
         Err(refusal) => return Err((Which::Second, refusal)),
     };
-    match list_by_pairs(alloc, schema, limits, form, pairs, &before, &after) {
+    match list_by_pairs(
+        alloc, schema, limits, form, left_out, pairs, &before, &after,
+    ) {
         Ok(found) => Ok(found),
         Err(fault) => Err(refused(alloc, fault, &before)),
     }

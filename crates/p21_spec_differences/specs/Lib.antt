@@ -1,2 +1,4 @@
 pub mod Difference
+pub mod HeaderNames
+pub mod LeftOut
 pub mod Laws

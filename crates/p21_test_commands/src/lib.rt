@@ -17,6 +17,8 @@ mod headers;
 #[cfg(test)]
 mod large;
 #[cfg(test)]
+mod left_out;
+#[cfg(test)]
 mod names;
 #[cfg(test)]
 mod param_texts;

@@ -2,7 +2,7 @@
 use crate::devices::{Behind, Full, SmallReader, SmallWriter};
 use crate::schemas::File;
 use p21_commands::{
-    Details, PairRows, RowForm, canon_command, check_all_command, check_command,
+    Details, LeftOut, PairRows, RowForm, canon_command, check_all_command, check_command,
     check_numbered_command, diff_by_pairs_command, diff_command, numbered_command, param_command,
     same_but_for_names_command, same_command, schema_command, show_command, syntax_command,
 };
@@ -230,12 +230,18 @@ pub(crate) fn same<S: Read, A: Read + Drop, B: Read + Drop>(
     run
 }
 
+/// Nothing is left out of a list.
+const WHOLE: LeftOut<'static> = LeftOut {
+    header: false,
+    attributes: &[],
+};
+
 /// Whether what is listed of two files leaves this.
 fn lists(
     alloc: Global,
     schema: &str,
     first: &str,
-    (form, second): (RowForm, File),
+    (form, left_out, second): (RowForm, LeftOut<'_>, File),
     rooms: Rooms,
     left: Left,
 ) -> bool {
@@ -250,6 +256,7 @@ fn lists(
         &mut Watched::new(first.as_bytes()),
         &mut Watched::new(second.as_bytes()),
         form,
+        left_out,
         &mut output,
         &mut faults,
     );
@@ -261,7 +268,7 @@ fn lists_by_pairs(
     alloc: Global,
     schema: &str,
     first: &str,
-    (form, pairs, second): (RowForm, PairRows, File),
+    (form, left_out, pairs, second): (RowForm, LeftOut<'_>, PairRows, File),
     rooms: Rooms,
     left: Left,
 ) -> bool {
@@ -276,6 +283,7 @@ fn lists_by_pairs(
         &mut Watched::new(first.as_bytes()),
         &mut Watched::new(second.as_bytes()),
         form,
+        left_out,
         pairs,
         &mut output,
         &mut faults,
@@ -352,8 +360,11 @@ pub(crate) enum Command {
     Same(File),
     /// With the form of rows and the second file.
     Diff(RowForm, File),
-    /// The same, of instances that are paired.
+    /// The same, with what is left out.
+    DiffWithout(LeftOut<'static>, RowForm, File),
+    /// The same of instances that are paired.
     DiffByPairs(RowForm, PairRows, File),
+    PairsWithout(LeftOut<'static>, RowForm, PairRows, File),
     Numbered,
     CheckNumbered,
     /// With the second file.
@@ -403,9 +414,19 @@ pub(crate) fn leaves_of(
         Command::Canon => canon(alloc, &mut reader, bytes, rooms).is(left),
         Command::Show(name) => show(alloc, &mut reader, bytes, name, rooms).is(left),
         Command::Same(second) => compares(alloc, declared, text, second, rooms, left),
-        Command::Diff(form, second) => { lists(alloc, declared, text, (form, second), rooms, left) }
+        Command::Diff(form, second) => {
+            lists(alloc, declared, text, (form, WHOLE, second), rooms, left)
+        }
+        Command::DiffWithout(left_out, form, second) => {
+            lists(alloc, declared, text, (form, left_out, second), rooms, left)
+        }
         Command::DiffByPairs(form, pairs, second) => {
-            lists_by_pairs(alloc, declared, text, (form, pairs, second), rooms, left)
+            let given = (form, WHOLE, pairs, second);
+            lists_by_pairs(alloc, declared, text, given, rooms, left)
+        }
+        Command::PairsWithout(left_out, form, pairs, second) => {
+            let given = (form, left_out, pairs, second);
+            lists_by_pairs(alloc, declared, text, given, rooms, left)
         }
         Command::Numbered => numbers(alloc, declared, text, rooms, left),
         Command::CheckNumbered => checks_numbers(alloc, declared, text, rooms, left),
@@ -546,7 +567,9 @@ impl Row {
             Row::Leaves(
                 Command::Same(file)
                 | Command::Diff(_, file)
+                | Command::DiffWithout(_, _, file)
                 | Command::DiffByPairs(_, _, file)
+                | Command::PairsWithout(_, _, _, file)
                 | Command::SameButForNames(file),
                 _,
                 _,

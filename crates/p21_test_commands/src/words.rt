@@ -108,6 +108,34 @@ const COMMANDS: Taken = &[
         "true",
     ),
     (
+        &["p21", "diff", "--data", "s", "a", "b"],
+        "diff",
+        "data",
+        "true",
+    ),
+    (&["p21", "diff", "s", "a", "b"], "diff", "data", "false"),
+    (
+        &["p21", "diff", "s", "a", "b", "--ignore", "E.A"],
+        "diff",
+        "ignore",
+        "E.A",
+    ),
+    (
+        &[
+            "p21",
+            "diff",
+            "--ignore=E.A",
+            "s",
+            "--ignore",
+            "E.B",
+            "a",
+            "b",
+        ],
+        "diff",
+        "B",
+        "b",
+    ),
+    (
         &["p21", "syntax", "--where", "f"],
         "syntax",
         "where",
@@ -289,6 +317,18 @@ const MISTAKES: NotTaken = &[
     (
         &["p21", "diff", "s", "a", "b", "--names", "--names"],
         ErrorKind::ArgumentConflict,
+    ),
+    (
+        &["p21", "diff", "s", "a", "b", "--ignore"],
+        ErrorKind::InvalidValue,
+    ),
+    (
+        &["p21", "diff", "--data", "s", "a", "b", "--data"],
+        ErrorKind::ArgumentConflict,
+    ),
+    (
+        &["p21", "same", "s", "a", "b", "--data"],
+        ErrorKind::UnknownArgument,
     ),
     (
         &["p21", "check", "s", "f", "--format", "json"],

@@ -22,12 +22,15 @@ returns-clause-app c =
     c.in_ok-arg-4.ensures in
     let paired = adds_argument c.in_ok-arg-4.field-0 c.in_ok-arg-5.field-0 c.pairs.result named c.pairs.ensures.rule c.pairs.ensures.local
     c.in_ok-arg-5.ensures in
-    let form_is = c.format.ensures.rule in
-    let form = adds_argument c.in_ok-arg-5.field-0 c.in_ok-arg-6.field-0 c.format.result paired form_is.2 c.format.ensures.local
+    let without = adds_argument c.in_ok-arg-5.field-0 c.in_ok-arg-6.field-0 c.data.result paired c.data.ensures.rule c.data.ensures.local
     c.in_ok-arg-6.ensures in
+    let ignoring = adds_argument c.in_ok-arg-6.field-0 c.in_ok-arg-7.field-0 c.ignore.result without c.ignore.ensures.rule
+    c.ignore.ensures.local c.in_ok-arg-7.ensures in
+    let form_is = c.format.ensures.rule in
+    let form = adds_argument c.in_ok-arg-7.field-0 c.in_ok-arg-8.field-0 c.format.result ignoring form_is.2 c.format.ensures.local
+    c.in_ok-arg-8.ensures in
     IfOk-weaker _ _ _ (λ new added. of_forms new diff_app form_is.0 form_is.1
-    (adds_argument c.in_ok-arg-6.field-0 new c.progress.result form c.progress.ensures.rule c.progress.ensures.local added))
-    c.arg-7.ensures
+    (adds_argument c.in_ok-arg-8.field-0 new c.progress.result form c.progress.ensures.rule c.progress.ensures.local added)) c.arg-9.ensures
 
 pub returns-clause-local : goal.returns-clause-local
 returns-clause-local c =
@@ -40,6 +43,9 @@ returns-clause-local c =
     c.in_ok-arg-3.ensures in
     let named = stays_local c.in_ok-arg-3.field-0 c.in_ok-arg-4.field-0 c.names.result second c.names.ensures.local c.in_ok-arg-4.ensures in
     let paired = stays_local c.in_ok-arg-4.field-0 c.in_ok-arg-5.field-0 c.pairs.result named c.pairs.ensures.local c.in_ok-arg-5.ensures in
-    let form = stays_local c.in_ok-arg-5.field-0 c.in_ok-arg-6.field-0 c.format.result paired c.format.ensures.local
-    c.in_ok-arg-6.ensures in
-    IfOk-weaker _ _ _ (λ new. stays_local c.in_ok-arg-6.field-0 new c.progress.result form c.progress.ensures.local) c.arg-7.ensures
+    let without = stays_local c.in_ok-arg-5.field-0 c.in_ok-arg-6.field-0 c.data.result paired c.data.ensures.local c.in_ok-arg-6.ensures in
+    let ignoring = stays_local c.in_ok-arg-6.field-0 c.in_ok-arg-7.field-0 c.ignore.result without c.ignore.ensures.local
+    c.in_ok-arg-7.ensures in
+    let form = stays_local c.in_ok-arg-7.field-0 c.in_ok-arg-8.field-0 c.format.result ignoring c.format.ensures.local c.in_ok-arg-8.ensures
+    in
+    IfOk-weaker _ _ _ (λ new. stays_local c.in_ok-arg-8.field-0 new c.progress.result form c.progress.ensures.local) c.arg-9.ensures

@@ -1,27 +1,66 @@
-use Rattle.std.proofs.Common.{[], ◌∷◌, ◌≡◌, refl, sym, subst, List, ℕ}
+use Rattle.std.proofs.Common.{[], ◌∷◌, ◌≡◌, inl, refl, sym, subst, List, ℕ}
+use Rattle.p21_commands.proofs.Leaving.{attribute-failed, attribute-fails, handed-on}
+use Rattle.p21_commands.specs.Unlisted.{IsUnlisted}
+use Rattle.p21_difference_rows.specs.Asked.{left_out_of}
 use Rattle.p21_commands.specs.DiffByPairs.{IsListByPairs, IsUnpaired}
-use Rattle.p21_commands.specs.Failures.{failures_of}
+use Rattle.p21_commands.specs.Command.{FailsBy}
+use Rattle.p21_commands.specs.Failures.{FailedBy, failures_of}
 use Rattle.p21_commands.specs.Same.{IsEither, read_of}
 use Rattle.p21_commands.proofs.Comparing.{answer-fails}
 use Rattle.p21_commands.proofs.Failing.{after_reading, before_writing}
-use Rattle.p21_commands.proofs.Numbering.{read-in_order}
+use Rattle.p21_commands.proofs.Numbering.{fails-weaker, read-in_order}
 use Rattle.p21_commands.proofs.Pairing.{listed-by_pairs, pairing-failed, pairing-fails}
+use Rattle.p21_spec_basics.specs.Limits.{Limits}
+use Rattle.p21_stream.specs.ReaderInput.{ConsumesAtMost}
 use Rattle.p21_commands.proofs.diff_by_pairs.write_by_pairs.Goals as goal
 
+pub returns-in_err-check_left_out-clause-err : goal.returns-in_err-check_left_out-clause-err
+returns-in_err-check_left_out-clause-err g c =
+    let schema = g.S.Read.remaining c.args.schema.now.inner in
+    let first = g.A.Read.remaining c.args.first.now.inner in
+    let second = g.B.Read.remaining c.args.second.now.inner in
+    let output = g.W.Write.contents c.args.output.now.inner in
+    let left = left_out_of c.args.left_out in
+    let read = read_of schema first first second second in
+    let IsAnswer = IsEither (IsListByPairs c.args.form left c.args.pairs read) in
+    let fault = c.in_err-check_left_out.field-0.0 in
+    let handed = c.from_residual-in_err-check_left_out in
+    handed-on (FailsBy IsAnswer (IsUnlisted (IsUnpaired read) left read) output output) handed.result fault handed.ensures.0 handed.ensures.1
+    (attribute-fails IsAnswer (IsUnpaired read) schema first second output c.in_ok-schema.schema left fault c.in_ok-schema.ensures.ok
+    c.in_err-check_left_out.ensures.err)
+
+pub returns-in_err-check_left_out-clause-failed : goal.returns-in_err-check_left_out-clause-failed
+returns-in_err-check_left_out-clause-failed g c =
+    let readers = failures_of c.args.schema.now c.load_schema.new.reader ∷ failures_of c.args.first.now c.args.first.now
+    ∷ failures_of c.args.second.now c.args.second.now ∷ [] in
+    let writers = failures_of c.args.output.now c.args.output.now ∷ [] in
+    let handed = c.from_residual-in_err-check_left_out in
+    let failed = attribute-failed c.in_ok-schema.schema (left_out_of c.args.left_out) readers writers c.in_err-check_left_out.field-0.0
+    c.in_err-check_left_out.ensures.err (c.in_ok-schema.ensures.read, (refl, (refl, tt))) (refl, tt) in
+    handed-on (FailedBy readers writers) handed.result c.in_err-check_left_out.field-0.0 handed.ensures.0 handed.ensures.1 failed
+
 pub returns-in-Err-clause-err : goal.returns-in-Err-clause-err
-returns-in-Err-clause-err g c = pairing-fails _ _ _ _ _ _ c.in_ok-schema.ensures.ok _ _ _ c.in-Err.which c.in-Err.refusal _ _
-    c.usual.ensures c.word_of.ensures c.fault_of.ensures c.in-Err.ensures.err
+returns-in-Err-clause-err g c =
+    let new = c.paired_differences.new in
+    let read = read_of (g.S.Read.remaining c.args.schema.now.inner) (g.A.Read.remaining c.args.first.now.inner)
+    (g.A.Read.remaining new.first.inner) (g.B.Read.remaining c.args.second.now.inner) (g.B.Read.remaining new.second.inner) in
+    fails-weaker _ (IsUnpaired read) (IsUnlisted (IsUnpaired read) (left_out_of c.args.left_out) read)
+    (λ line refused. inl refused) _ _ c.fault_of.result
+    (pairing-fails _ _ _ _ _ _ c.in_ok-schema.ensures.ok _ _ _ c.in-Err.which c.in-Err.refusal _ _ c.usual.ensures c.word_of.ensures
+    c.fault_of.ensures c.in-Err.ensures.err)
 
 pub returns-in-Ok-write_whole-clause-ok : goal.returns-in-Ok-write_whole-clause-ok
 returns-in-Ok-write_whole-clause-ok g c =
     let new = c.paired_differences.new in
     let read = read_of (g.S.Read.remaining c.args.schema.now.inner) (g.A.Read.remaining c.args.first.now.inner)
     (g.A.Read.remaining new.first.inner) (g.B.Read.remaining c.args.second.now.inner) (g.B.Read.remaining new.second.inner) in
-    let IsText : List ℕ → Type 0 = λ text. IsListByPairs c.args.form c.args.pairs read c.in-Ok.found.is_same text in
+    let IsText : List ℕ → Type 0 = λ text. IsListByPairs c.args.form (left_out_of c.args.left_out) c.args.pairs read c.in-Ok.found.is_empty
+    text in
     record {
       line = c.deref.result.now;
-      is_line = subst IsText (sym c.deref.ensures.value)
-          (listed-by_pairs _ _ _ _ _ _ c.in_ok-schema.ensures.ok c.args.form c.args.pairs _ _ _ c.usual.ensures c.in-Ok.ensures.ok);
+      is_line = subst IsText (sym c.deref.ensures.value) (listed-by_pairs _ _ _ _ _ _ c.in_ok-schema.ensures.ok c.args.form
+          (left_out_of c.args.left_out) c.args.pairs _ _ _ _
+          c.in_ok-check_left_out.ensures.ok c.usual.ensures c.in-Ok.ensures.ok);
       appended = c.in-Ok-write_whole.ensures.ok;
     }
 
@@ -30,11 +69,14 @@ returns-clause-err g c =
     let new = c.paired_differences.new in
     let read = read_of (g.S.Read.remaining c.args.schema.now.inner) (g.A.Read.remaining c.args.first.now.inner)
     (g.A.Read.remaining new.first.inner) (g.B.Read.remaining c.args.second.now.inner) (g.B.Read.remaining new.second.inner) in
-    let IsText : List ℕ → Type 0 = λ text. IsListByPairs c.args.form c.args.pairs read c.in-Ok.found.is_same text in
-    let is = subst IsText (sym c.deref.ensures.value) (listed-by_pairs _ _ _ _ _ _ c.in_ok-schema.ensures.ok c.args.form c.args.pairs _ _ _
-    c.usual.ensures c.in-Ok.ensures.ok) in
-    answer-fails (IsEither (IsListByPairs c.args.form c.args.pairs read)) (IsUnpaired read) _ _ c.deref.result.now
-    c.in-Err-write_whole.fault (c.in-Ok.found.is_same, is) c.in-Err-write_whole.ensures.err c.in-Err-write_whole.ensures.fault
+    let IsText : List ℕ → Type 0 = λ text. IsListByPairs c.args.form (left_out_of c.args.left_out) c.args.pairs read c.in-Ok.found.is_empty
+    text in
+    let is = subst IsText (sym c.deref.ensures.value) (listed-by_pairs _ _ _ _ _ _ c.in_ok-schema.ensures.ok c.args.form
+    (left_out_of c.args.left_out) c.args.pairs _ _ _ _
+    c.in_ok-check_left_out.ensures.ok c.usual.ensures c.in-Ok.ensures.ok) in
+    answer-fails (IsEither (IsListByPairs c.args.form (left_out_of c.args.left_out) c.args.pairs read))
+    (IsUnlisted (IsUnpaired read) (left_out_of c.args.left_out) read) _ _ c.deref.result.now c.in-Err-write_whole.fault
+    (c.in-Ok.found.is_empty, is) c.in-Err-write_whole.ensures.err c.in-Err-write_whole.ensures.fault
 
 pub returns-in-Err-clause-failed : goal.returns-in-Err-clause-failed
 returns-in-Err-clause-failed g c =
@@ -48,13 +90,29 @@ returns-in-Err-clause-failed g c =
     (refl, tt)
 
 pub returns-in-Err-clause-order : goal.returns-in-Err-clause-order
-returns-in-Err-clause-order g c = read-in_order _ _ _ _ _ _ c.in_ok-schema.ensures.ok (c.paired_differences.new.second ≡ c.args.second.now)
-    _ c.usual.ensures c.in-Err.ensures.order
+returns-in-Err-clause-order g c = read-in_order _ _ _ _ _ _ c.in_ok-schema.ensures.ok
+    (c.paired_differences.new.second ≡ c.args.second.now) _ c.usual.ensures c.in-Err.ensures.order
 
 pub returns-in-Ok-write_whole-clause-order : goal.returns-in-Ok-write_whole-clause-order
 returns-in-Ok-write_whole-clause-order g c = read-in_order _ _ _ _ _ _ c.in_ok-schema.ensures.ok
     (c.paired_differences.new.second ≡ c.args.second.now) _ c.usual.ensures c.in-Ok.ensures.order
 
 pub returns-clause-order : goal.returns-clause-order
-returns-clause-order g c = read-in_order _ _ _ _ _ _ c.in_ok-schema.ensures.ok (c.paired_differences.new.second ≡ c.args.second.now) _
-    c.usual.ensures c.in-Ok.ensures.order
+returns-clause-order g c = read-in_order _ _ _ _ _ _ c.in_ok-schema.ensures.ok
+    (c.paired_differences.new.second ≡ c.args.second.now) _ c.usual.ensures c.in-Ok.ensures.order
+
+pub returns-in-Ok-write_whole-clause-consumed_first : goal.returns-in-Ok-write_whole-clause-consumed_first
+returns-in-Ok-write_whole-clause-consumed_first g c = subst (λ (l : Limits). ConsumesAtMost l (g.A.Read.remaining c.args.first.now.inner)
+    (g.A.Read.remaining c.paired_differences.new.first.inner)) c.usual.ensures c.paired_differences.ensures.consumed_first
+
+pub returns-in-Ok-write_whole-clause-consumed_second : goal.returns-in-Ok-write_whole-clause-consumed_second
+returns-in-Ok-write_whole-clause-consumed_second g c = subst (λ (l : Limits). ConsumesAtMost l (g.B.Read.remaining c.args.second.now.inner)
+    (g.B.Read.remaining c.paired_differences.new.second.inner)) c.usual.ensures c.paired_differences.ensures.consumed_second
+
+pub returns-clause-consumed_first : goal.returns-clause-consumed_first
+returns-clause-consumed_first g c = subst (λ (l : Limits). ConsumesAtMost l (g.A.Read.remaining c.args.first.now.inner)
+    (g.A.Read.remaining c.paired_differences.new.first.inner)) c.usual.ensures c.paired_differences.ensures.consumed_first
+
+pub returns-clause-consumed_second : goal.returns-clause-consumed_second
+returns-clause-consumed_second g c = subst (λ (l : Limits). ConsumesAtMost l (g.B.Read.remaining c.args.second.now.inner)
+    (g.B.Read.remaining c.paired_differences.new.second.inner)) c.usual.ensures c.paired_differences.ensures.consumed_second

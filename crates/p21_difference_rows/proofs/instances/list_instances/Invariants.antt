@@ -1,15 +1,15 @@
 use Rattle.std.proofs.Common.{ℕ, ◌<◌, ◌-◌, ◌^◌}
-use Rattle.p21_difference_rows.specs.Steps.{AddsRows, TellsOf}
+use Rattle.p21_difference_rows.specs.Steps.{Puts, TellsOf}
 use Rattle.p21_differences.specs.Lines.{AreLinesOf}
 use Rattle.p21_spec_file.specs.File.{FileMeaning}
-use Rattle.p21_difference_rows.specs.RealNames.{real_name}
+use Rattle.p21_difference_rows.specs.Asked.{left_out_of}
 use Rattle.p21_difference_rows.proofs.instances.list_instances.Given as goal
 
 -- the names so far are told
 abbrev pub invariant-loop-change : goal.invariant-loop-change
 invariant-loop-change l =
     (a b : FileMeaning) → AreLinesOf l.style.schema.now a l.first.kept → AreLinesOf l.style.schema.now b l.second.kept
-    → AddsRows l.style.form l.style.schema.now (real_name l.style.names) (TellsOf (λ (n : ℕ). n < l.least) a b) l.fn.rows.text.items
+    → Puts l.style (TellsOf (λ (n : ℕ). n < l.least) l.style.schema.now (left_out_of l.style.left_out) a b) l.fn.rows.text.items
     l.rows.text.items
 
 abbrev pub decreases-loop-change : goal.decreases-loop-change

@@ -1,4 +1,5 @@
 use Rattle.std.proofs.Common.{sym, ◌∙◌, inl, inr}
+use Rattle.p21_difference_rows.specs.Asked.{left_out_of}
 use Rattle.std.proofs.KnownBytes.{Keeps-refl}
 use Rattle.p21_paired_differences.proofs.ReadFiles.{has-canonical, is-accepted_file, no-first_failure, no-second_failure, pairing-fails, read-listed, second-fails}
 use Rattle.p21_paired_differences.proofs.reading.paired_differences.Goals as goal
@@ -20,8 +21,9 @@ list_by_pairs-requires-clause-second g c = is-accepted_file c.args.schema.now c.
 
 pub returns-in-Ok-list_by_pairs-clause-ok : goal.returns-in-Ok-list_by_pairs-clause-ok
 returns-in-Ok-list_by_pairs-clause-ok g c =
-    read-listed c.args.schema.now c.headline.ensures.formed c.args.limits c.headline.ensures.limits _ _ _ _ c.args.form c.args.pairs
-    c.in-Ok.accepted c.in-Ok-accept.accepted c.in-Ok-list_by_pairs.found.is_same c.in-Ok-list_by_pairs.found.text.items
+    read-listed c.args.schema.now c.headline.ensures.formed c.args.limits c.headline.ensures.limits _ _ _ _ c.args.form
+    (left_out_of c.args.left_out) c.args.pairs c.in-Ok.accepted c.in-Ok-accept.accepted c.in-Ok-list_by_pairs.found.is_same
+    c.in-Ok-list_by_pairs.found.is_empty c.in-Ok-list_by_pairs.found.text.items
     c.in-Ok.ensures.ok c.in-Ok-accept.ensures.ok c.in-Ok-list_by_pairs.ensures.list
 
 pub returns-clause-err : goal.returns-clause-err
