@@ -5,6 +5,7 @@ mod front;
 mod limits;
 mod name;
 mod text;
+mod tolerance;
 mod want_of_memory;
 mod whole;
 mod word;
