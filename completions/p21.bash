@@ -16,7 +16,7 @@ _p21() {
         canon) words='--names --progress --help' ;;
         show) words='--name --help' ;;
         same) words='--names --progress --help' ;;
-        diff) words='--names --pairs --data --ignore --format --progress --help' ;;
+        diff) words='--names --pairs --data --ignore --tolerance --format --progress --help' ;;
         faults) words='--help' ;;
         help) words='param syntax schema check canon show same diff faults' ;;
     esac

@@ -38,6 +38,7 @@ complete -c p21 -n '__fish_seen_subcommand_from diff' -l names -d 'Pairs instanc
 complete -c p21 -n '__fish_seen_subcommand_from diff' -l pairs -d 'Pairs instances as --names does, and lists all pairs in front of what differs'
 complete -c p21 -n '__fish_seen_subcommand_from diff' -l data -d 'Leaves the header out'
 complete -c p21 -n '__fish_seen_subcommand_from diff' -l ignore -x -d 'Leaves an attribute out of instances of the entity; may be given several times'
+complete -c p21 -n '__fish_seen_subcommand_from diff' -l tolerance -x -d 'Leaves out values with reals that are within X, or within X times the greater one'
 complete -c p21 -n '__fish_seen_subcommand_from diff' -l format -x -d 'With jsonl gives differences as JSON, an object a line [possible values: text, jsonl]'
 complete -c p21 -n '__fish_seen_subcommand_from diff' -l progress -d 'Says on a terminal how much of a file is read, a line for each 64 MiB'
 complete -c p21 -n '__fish_seen_subcommand_from diff' -l help -d 'Print help'

@@ -10,6 +10,7 @@ import re
 import subprocess
 import sys
 import tempfile
+from fractions import Fraction
 
 from tooling import FRAME, ROOT, SCHEMA, file_of
 
@@ -324,6 +325,22 @@ LEFT_OUT = [
     ),
 ]
 
+# Each row, under 0.1: a name, the coordinates in the file A and in the file B, and the row that is printed, if one is.
+NEAR = [
+    ("a real that is as far away as may be", "1.", "1.1", None),
+    ("a real that is further away", "0.", "0.11", "0. 1.1E-1"),
+    ("a real that is further away by its last digit", "0.", f"0.1{30 * '0'}1", f"0. 1.{30 * '0'}1E-1"),
+    ("reals of two signs", "-0.05", "0.05", None),
+    ("reals of two signs that are far away", "100.", "-90.9", "1.E2 -9.09E1"),
+    ("a share of the greater one, in either file", "100.", "109.", None),
+    ("a share of the greater one, in the first file", "-109.", "-100.", None),
+    ("more than a share", "100.", "112.", "1.E2 1.12E2"),
+    ("reals with large exponents", "1.E900", "1.05E900", None),
+]
+
+# Each row: a word that is no tolerance, and how it is shown.
+NO_TOLERANCES = [("-1", "-1"), ("+1", "+1"), ("1,5", "1,5"), ("1E", "1E"), (".", "."), ("NaN", "NaN"), ("1E-6\n", "1E-6\\n")]
+
 # What is said of each attribute that can't be left out, of files that aren't read.
 REFUSED = [
     ("PERSON.SIZE", "--ignore PERSON.SIZE: PERSON has no attribute SIZE of which files have values"),
@@ -536,9 +553,21 @@ def is_ignored(row, names, above):
     return any(name == row["attribute"] and entity in of_instance and row["entity"] in above[entity] for entity, name in named)
 
 
-def without(name, paths, words, names, above):
+def is_near(row, most):
+    """Are the texts of a row the same but for reals that are within this, or within this times the greater one?"""
+    if row["what"] != "instance" or not {"attribute", "before", "after"} <= row.keys():
+        return False
+    before, after = (re.split(r"(-?\d+\.\d*(?:E-?\d+)?)", row[key]) for key in ("before", "after"))
+    if before[::2] != after[::2]:
+        return False
+    reals = [(Fraction(one), Fraction(other)) for one, other in zip(before[1::2], after[1::2])]
+    return all(abs(one - other) <= Fraction(most) * max(1, abs(one), abs(other)) for one, other in reals)
+
+
+def without(name, paths, words, names, most, above):
     """What the program lists otherwise than without what is left out, if anything."""
-    options = [*words, *(word for each in names for word in ("--ignore", each))]
+    within = ["--tolerance", most] if most else []
+    options = [*words, *within, *(word for each in names for word in ("--ignore", each))]
     whole = [json.loads(line) for line in run("diff", "--format", "jsonl", SCHEMA, *paths)[0].splitlines()]
     output, error, status = run("diff", "--format", "jsonl", *options, SCHEMA, *paths)
     if error:
@@ -546,23 +575,28 @@ def without(name, paths, words, names, above):
     first, *rows, last = [json.loads(line) for line in output.splitlines()]
     in_header = [row for row in whole[:-1] if words and row["what"] == "header"]
     ignored = [row for row in whole[:-1] if row not in in_header and is_ignored(row, names, above)]
-    wanted = [row for row in whole[:-1] if row not in in_header and row not in ignored]
+    listed = [row for row in whole[:-1] if row not in in_header and row not in ignored]
+    near = [row for row in listed if most and is_near(row, most)]
+    wanted = [row for row in listed if row not in near]
     said = {"kind": "left out", **({"header": True} if words else {}), **({"ignore": names} if names else {})}
+    said.update({"tolerance": most} if most else {})
     counts = {kind: sum(row["kind"] == kind for row in wanted) for kind in ("changed", "came", "went")}
     end = {"kind": "verdict", "verdict": whole[-1]["verdict"], **counts}
     if end["verdict"] == "different":
         end.update({"in_header": len(in_header)} if words else {})
         of_header = sum(row["what"] == "header" for row in ignored)
         end.update({"ignored": len(ignored), "ignored_in_header": of_header} if names else {})
+        end.update({"tolerance": most, "near": len(near)} if most else {})
     found = first, rows, last, status
     return None if found == (said, wanted, end, int(bool(wanted))) else f"{name} {options}: {found} and not {wanted} {end}"
 
 
 def chosen(chance, listed):
-    """The word that leaves the header out, or none, and attributes to leave out; one of both at least."""
+    """The word that leaves the header out, or none, and attributes to leave out, one of both at least; and a tolerance, or none."""
     known = [f"{entity}.{name}" for entity in OFTEN for name in listed[entity] if name != "*"]
     names = chance.sample([*known, "FILE_NAME.TIME_STAMP", "FILE_NAME.NAME"], chance.randrange(5))
-    return ["--data"] if not names or chance.random() < 0.4 else [], names
+    words = ["--data"] if not names or chance.random() < 0.4 else []
+    return words, names, chance.choice([None, "1", "1E-7", "0.001", "2.50"])
 
 
 def listed_attributes():
@@ -654,6 +688,20 @@ def main():
             found, wanted = run("diff", *words, SCHEMA, *paths), ("".join(line + "\n" for line in lines), "", status)
             passed += found == wanted
             failed += [] if found == wanted else [f"{name}: {found} and not {wanted}"]
+        for name, one, other, row in NEAR:
+            make(file_of(f"#1=CARTESIAN_POINT('',({one},1.));"), file_of(f"#1=CARTESIAN_POINT('',({other},1.));"))
+            for words in ([], ["--names"]):
+                changed = f"changed #1 CARTESIAN_POINT.COORDINATES [1] {row}\n" if row else ""
+                counts = "different: 1 changed, 0 came, 0 went; 0 values" if row else "different: 0 changed, 0 came, 0 went; 1 value"
+                lines = f"left out: reals within the tolerance .1\n{changed}{counts} within the tolerance .1 not listed\n"
+                found, wanted = run("diff", *words, "--tolerance", ".1", SCHEMA, *paths), (lines, "", int(bool(row)))
+                passed += found == wanted
+                failed += [] if found == wanted else [f"{name} {words}: {found} and not {wanted}"]
+        for word, shown in NO_TOLERANCES:
+            line = f"--tolerance {shown}: a tolerance is a number of 0 or more, as 1E-6\n"
+            found = run("diff", f"--tolerance={word}", SCHEMA, "/dev/null", "/dev/null")
+            passed += found == ("", line, 1)
+            failed += [] if found == ("", line, 1) else [f"--tolerance {word!r}: {found}"]
         for word, line in REFUSED:
             for words in ([], ["--names"], ["--data", "--ignore", "PERSON.ID"]):
                 found, wanted = run("diff", *words, "--ignore", word, SCHEMA, "/dev/null", "/dev/null"), ("", line + "\n", 1)
@@ -680,7 +728,8 @@ def main():
         problem = None if (found[0], first_line, found[2]) == wanted else f"a file that is refused: {found}"
         passed += problem is None
         failed += [problem] if problem else []
-        for words, status in ((["--format", "xml"], 2), (["--format"], 2), (["--ignore"], 2), (["--data", "--data"], 2)):
+        alone = [["--format", "xml"], ["--format"], ["--ignore"], ["--tolerance"], ["--data", "--data"]]
+        for words, status in ((each, 2) for each in alone):
             found = run("diff", *words, SCHEMA, "examples/product.step", "examples/product.step")
             passed += found[2] == status
             failed += [] if found[2] == status else [f"{words}: {found}"]

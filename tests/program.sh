@@ -870,6 +870,13 @@ run diff --names --ignore point.y --ignore SHAPE.LABEL "$demo" "$here/told" "$he
 expect 'nothing but what is left out differs' 0 'left out: POINT.Y, SHAPE.LABEL
 different: 0 changed, 0 came, 0 went; 1 difference at ignored attributes not listed' ''
 
+run diff --names --tolerance 1E3 --ignore SHAPE.LABEL "$demo" "$here/told" "$here/changed"
+expect 'nothing but what is near or left out differs' 0 'left out: SHAPE.LABEL, reals within the tolerance 1E3
+different: 0 changed, 0 came, 0 went; 1 value within the tolerance 1E3 not listed' ''
+
+run diff --tolerance 1,5 "$demo" "$here/told" "$here/told"
+expect 'a tolerance that is no number' 1 '' '--tolerance 1,5: a tolerance is a number of 0 or more, as 1E-6'
+
 run diff --data "$demo" "$here/told" "$here/told"
 expect 'the same with its header left out' 0 'left out: the header
 same' ''

@@ -6,6 +6,7 @@ use crate::commands::{Stopped, given, with_progress};
 use crate::ignored::{names_in, words_given};
 use crate::input::{Inputs, Kept};
 use crate::notes::{Given, Wanted, note_files, note_listing};
+use crate::tolerance::tolerance_given;
 use clap::ArgMatches;
 use p21_commands::{
     CommandFault, LeftOut, PairRows, RowForm, diff_by_pairs_command, diff_command, report,
@@ -13,7 +14,7 @@ use p21_commands::{
 use p21_stream_io::Watched;
 use std::io::{Read, Write};
 
-/// `diff S A B [--names] [--pairs] [--data] [--ignore ENTITY.ATTRIBUTE].. [--format FORM] [--progress]`.
+/// `diff S A B [--names] [--pairs] [--data] [--ignore ENTITY.ATTRIBUTE].. [--tolerance X] [--format FORM] [--progress]`.
 pub fn run_diff<'a>(rt: &HostRuntime, found: &ArgMatches<'a>) -> Result<u8, Stopped<'a>>
     ensures ran { IfOk result IsOfCommand }
     ensures unopened { IfErr result IsUnopened }
@@ -67,9 +68,14 @@ fn run_diff_without<S: Read, A: Read, B: Read, F: Write>(
     let Ok(attributes) = names_in(rt.alloc(), &words) else {
         return report(&CommandFault::NoMemory, faults);
     };
+    let tolerance = match tolerance_given(rt.alloc(), found) {
+        Ok(tolerance) => tolerance,
+        Err(fault) => return report(&fault, faults),
+    };
     let left_out = LeftOut {
         header: found.get_flag("data"),
         attributes: &attributes,
+        tolerance,
     };
     let pairs = pairs_given(found);
     run_diff_over(rt, pairs, form, left_out, schema, first, second, faults)

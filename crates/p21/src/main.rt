@@ -26,6 +26,7 @@ mod recorded;
 mod refusals;
 mod several;
 mod shown;
+mod tolerance;
 
 use clap::error::{Error, ErrorKind};
 use commands::{Stopped, run_command};

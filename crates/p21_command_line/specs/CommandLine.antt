@@ -71,6 +71,10 @@ ignore_rule = record (new_rule (codes "ignore")) {
   value_names = 1;
 }
 
+-- `--tolerance X`
+abbrev pub tolerance_rule : Rule
+tolerance_rule = record (new_rule (codes "tolerance")) { action = Some Set; long = Some (codes "tolerance"); value_names = 1 }
+
 -- the words that may stand behind `--format`, wherever these lie
 abbrev pub AreForms : ValueParser → Type 0
 AreForms (Names names) = map (λ name. name.now) names.now ≡ codes "text" ∷ codes "jsonl" ∷ []
@@ -129,12 +133,12 @@ abbrev pub same_app : App
 same_app = with_rule (with_rule (with_rule (with_rule (with_rule (new_app (codes "same"))
     (given_rule (codes "S"))) (given_rule (codes "A"))) (given_rule (codes "B"))) names_rule) progress_rule
 
--- `diff S A B [--names] [--pairs] [--data] [--ignore ENTITY.ATTRIBUTE].. [--format FORM] [--progress]`
+-- `diff S A B [--names] [--pairs] [--data] [--ignore ENTITY.ATTRIBUTE].. [--tolerance X] [--format FORM] [--progress]`
 abbrev pub diff_app : ValueParser → App
 diff_app forms =
-    with_rule (with_rule (with_rule (with_rule (with_rule (with_rule (with_rule (with_rule (with_rule (new_app (codes "diff"))
+    with_rule (with_rule (with_rule (with_rule (with_rule (with_rule (with_rule (with_rule (with_rule (with_rule (new_app (codes "diff"))
     (given_rule (codes "S"))) (given_rule (codes "A"))) (given_rule (codes "B"))) names_rule) pairs_rule) data_rule) ignore_rule)
-    (format_rule forms)) progress_rule
+    tolerance_rule) (format_rule forms)) progress_rule
 
 -- `faults [N]`
 abbrev pub faults_app : App

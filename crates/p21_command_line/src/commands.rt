@@ -11,7 +11,7 @@ ghost use Rattle.p21_command_line.specs.CommandLine.{data_rule, diff_app, faults
 ghost use Rattle.p21_command_line.specs.CommandLine.{name_rule, names_rule, ignore_rule, optional_rule, pairs_rule, param_app};
 ghost use Rattle.p21_command_line.specs.CommandLine.{progress_rule};
 ghost use Rattle.p21_command_line.specs.CommandLine.{count_rule, header_rule, program_app, same_app, schema_app, show_app, syntax_app};
-ghost use Rattle.p21_command_line.specs.CommandLine.{where_rule};
+ghost use Rattle.p21_command_line.specs.CommandLine.{tolerance_rule, where_rule};
 
 use crate::{help, refusals};
 use clap::{Arg, ArgAction, Command, value_parser};
@@ -162,7 +162,7 @@ fn same<'a>(alloc: Global) -> Result<Command<'a>, AllocError>
         .arg(progress(alloc))
 }
 
-/// `diff S A B [--names] [--pairs] [--data] [--ignore ENTITY.ATTRIBUTE].. [--format FORM] [--progress]`.
+/// `diff S A B [--names] [--pairs] [--data] [--ignore ENTITY.ATTRIBUTE].. [--tolerance X] [--format FORM] [--progress]`.
 fn diff<'a>(alloc: Global) -> Result<Command<'a>, AllocError>
     ensures app { IfOk result (λ command. (forms : ValueParser) × AreForms forms × (app_of command ≡ diff_app forms)) }
     ensures local { IfOk result (λ command. (fields_of command).has_globals ≡ false) }
@@ -180,6 +180,7 @@ fn diff<'a>(alloc: Global) -> Result<Command<'a>, AllocError>
         .arg(pairs(alloc))?
         .arg(data(alloc))?
         .arg(ignore(alloc))?
+        .arg(tolerance(alloc))?
         .arg(format(
             alloc,
             "With jsonl gives differences as JSON, an object a line",
@@ -323,6 +324,18 @@ fn ignore<'a>(alloc: Global) -> Arg<'a>
         .long("ignore")
         .value_name("ENTITY.ATTRIBUTE")
         .action(ArgAction::Append)
+}
+
+/// `--tolerance X`.
+fn tolerance<'a>(alloc: Global) -> Arg<'a>
+    ensures rule { rule_of result ≡ tolerance_rule }
+    ensures local { result.global ≡ false }
+{
+    Arg::new(alloc, "tolerance")
+        .help("Leaves out values with reals that are within X, or within X times the greater one")
+        .long("tolerance")
+        .value_name("X")
+        .action(ArgAction::Set)
 }
 
 /// `--format FORM`.

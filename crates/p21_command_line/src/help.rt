@@ -258,14 +258,20 @@ entity, which declares it or has it of a supertype. The first line says so, and 
 how much that was; files that differ are never called the same:
     left out: the header, CIRCLE.RADIUS
     different: 0 changed, 0 came, 0 went; 1 difference in the header not listed
+With --tolerance a changed value of an instance is left out that is the same but for reals,
+each of which is within X of the other one, or within X times the greater of the two. X is a
+number of 0 or more, as 0.001 or 1E-6:
+    left out: reals within the tolerance 1E-6
+    different: 0 changed, 0 came, 0 went; 2 values within the tolerance 1E-6 not listed
 With --format jsonl each difference is a JSON object on a line, with whole values, and the
 last one has the counts.
 On standard error the first refusal, with first: or second: in front for the file, or that
 of the schema:
     second: refused 24 EndsEarly at statement 10
     schema refused S5 Circular
-or that of an attribute that the schema doesn't have:
+or that of an attribute that the schema doesn't have, or of a tolerance that is no number:
     --ignore CIRCLE.SIZE: CIRCLE has no attribute SIZE of which files have values
+    --tolerance 1,5: a tolerance is a number of 0 or more, as 1E-6
 Statuses: 0 same, or nothing listed; 1 different, not decided or refused; 2 a wrong command
 line; 3 out of memory, cannot open, read or write.
 

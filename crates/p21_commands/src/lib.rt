@@ -45,7 +45,7 @@ pub use fault::{CommandFault, report};
 pub use lines::{LineStarts, Position};
 pub use load::Unloaded;
 pub use numbered::numbered_command;
-pub use p21_difference_rows::{AttributeName, LeftOut, RowForm};
+pub use p21_difference_rows::{AttributeName, GivenTolerance, LeftOut, RowForm};
 pub use p21_paired_differences::PairRows;
 pub use p21_stream::{Located, LocatedSurvey, Place};
 pub use p21_stream_syntax::IllFormed;

@@ -1,6 +1,6 @@
 -- Whether an attribute is left out: by its name, by the entities of the instance, and by all names one by one.
 use Rattle.std.specs.Prelude.{◌≡◌, ◌≢◌, ◌↔◌, ◌<◌, ◌≤◌, ◌+◌, ◌==◌, ℕ, Bool, true, false, not, refl}
-use Rattle.std.specs.Prelude.{List, [], ◌∷◌, None, Some, Contains, length, map}
+use Rattle.std.specs.Prelude.{List, [], ◌∷◌, Option, None, Some, Contains, length, map}
 use Rattle.std.proofs.Common.{arith, ap, drop, get_or, sym, subst, ◌∙◌, inl, inr}
 use Rattle.std.proofs.lemmas.Bool.Decides.{nat_tests}
 use Rattle.std.proofs.lemmas.List.{drop_all}
@@ -12,6 +12,7 @@ use Rattle.p21_model.specs.EntitiesLeft.{HandsOutEntity, TellsEntities, TellsSet
 use Rattle.p21_model.specs.declared.entities.Entities.{Entities}
 use Rattle.p21_spec_basics.proofs.Members.{Contains-cases, Contains-first, Contains-later, Contains-none, some_is}
 use Rattle.p21_spec_differences.specs.LeftOut.{AttributeName, IsIgnored, LeftOut, NamesPlace, leaves_out}
+use Rattle.p21_spec_exchange.specs.Number.{Ratio}
 use Rattle.p21_spec_exchange.specs.Record.{Record}
 use Rattle.p21_spec_file.specs.CanonicalTexts.{IsInstanceText}
 use Rattle.p21_spec_schema.specs.Schema.{Attribute, EntityNamed, Place, PlaceNamed, Schema}
@@ -145,18 +146,32 @@ given-none s entities place names i past is =
 
 -- ---- whether something is left out
 
+-- where the header isn't left out, and where no tolerance is given either
+abbrev asked_names : LeftOut → Bool
+asked_names left = elim left.attributes [ [] ↦ false | (name ∷ names) ↦ true ]
+
+abbrev asked_else : LeftOut → Bool
+asked_else left = elim left.tolerance [ Some t ↦ true | None ↦ asked_names left ]
+
 pub asked-header : (left : LeftOut) → left.header ≡ true → leaves_out left ≡ true
 asked-header left is =
-    let P : Bool → Type 0 = λ b. elim b [ true ↦ true | false ↦ elim left.attributes [ [] ↦ false | (name ∷ names) ↦ true ] ] ≡ true in
+    let P : Bool → Type 0 = λ b. elim b [ true ↦ true | false ↦ asked_else left ] ≡ true in
     subst P (sym is) refl
 
-pub asked-attributes : (left : LeftOut) (names : List Given) → left.header ≡ false → left.attributes ≡ map attribute_name_of names
+pub asked-tolerance : (left : LeftOut) (t : Ratio) → left.header ≡ false → left.tolerance ≡ Some t → leaves_out left ≡ true
+asked-tolerance left t is given =
+    let P : Bool → Type 0 = λ b. elim b [ true ↦ true | false ↦ asked_else left ] ≡ true in
+    let Q : Option Ratio → Type 0 = λ o. elim o [ Some u ↦ true | None ↦ asked_names left ] ≡ true in
+    subst P (sym is) (subst Q (sym given) refl)
+
+pub asked-attributes : (left : LeftOut) (names : List Given) → left.header ≡ false → left.tolerance ≡ None
+    → left.attributes ≡ map attribute_name_of names
     → leaves_out left ≡ not (length names == 0)
-asked-attributes left names is are =
-    let P : Bool → Type 0 = λ b. elim b [ true ↦ true | false ↦ elim left.attributes [ [] ↦ false | (name ∷ ns) ↦ true ] ]
-    ≡ not (length names == 0) in
+asked-attributes left names is none are =
+    let P : Bool → Type 0 = λ b. elim b [ true ↦ true | false ↦ asked_else left ] ≡ not (length names == 0) in
+    let O : Option Ratio → Type 0 = λ o. elim o [ Some u ↦ true | None ↦ asked_names left ] ≡ not (length names == 0) in
     let Q : List AttributeName → Type 0 = λ ns. elim ns [ [] ↦ false | (name ∷ more) ↦ true ] ≡ not (length names == 0) in
-    subst P (sym is) (subst Q (sym are) (by names))
+    subst P (sym is) (subst O (sym none) (subst Q (sym are) (by names)))
   where
     by : (ns : List Given) → elim (map attribute_name_of ns) [ [] ↦ false | (name ∷ more) ↦ true ] ≡ not (length ns == 0)
     by [] = refl

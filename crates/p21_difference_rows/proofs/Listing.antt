@@ -1,5 +1,5 @@
 -- The rows about a name, and the whole list.
-use Rattle.std.specs.Prelude.{◌≡◌, ◌↔◌, ◌+◌, ℕ, Bool, true, IsTrue, List, [], ◌∷◌, ◌++◌, Contains, length, refl}
+use Rattle.std.specs.Prelude.{◌≡◌, ◌↔◌, ◌+◌, ℕ, Bool, true, IsTrue, List, [], ◌∷◌, ◌++◌, Option, Contains, length, refl}
 use Rattle.std.proofs.Common.{arith, ap, sym, subst, ◌∙◌}
 use Rattle.std.proofs.lemmas.List.{append_assoc, length-append}
 use Rattle.p21_difference_rows.proofs.Adding.{more-added, weaker-added}
@@ -15,18 +15,32 @@ use Rattle.p21_differences.specs.declared.change.Change.{Change}
 use Rattle.p21_spec_basics.proofs.Members.{Contains-first, Contains-none}
 use Rattle.p21_spec_differences.specs.Difference.{AreMeant, Difference, Differs, instance_came, instance_went, set_changed, value_changed}
 use Rattle.p21_spec_differences.specs.LeftOut.{IsIgnored, LeftOut, leaves_out}
+use Rattle.p21_spec_differences.specs.Near.{AreNearBy, IsNearAt, IsOneParamAt}
+use Rattle.p21_spec_exchange.specs.Number.{Ratio}
+use Rattle.p21_spec_exchange.specs.Parameter.{Param}
 use Rattle.p21_spec_file.specs.File.{FileMeaning}
 use Rattle.p21_spec_file.specs.Meaning.{Typed}
 use Rattle.p21_spec_schema.specs.Schema.{Place, Schema}
 
 -- ---- an attribute
 
-module _ (s : Schema) (left : LeftOut) (entities : List ℕ) (name : ℕ) (place : Place) where
-  pub ignored-untold : IsIgnored s left.attributes entities place → TellsIfStays s left entities name place []
-  ignored-untold ignored d = (λ among. absurd (Contains-none d among), λ (same, stays). absurd (stays ignored))
+-- the canonical parameters at the place tell whether the values are near
+pub near-one : (s : Schema) (tolerance : Option Ratio) (x y : Typed) (place : Place) (p q : Param) → IsOneParamAt s x place p
+    → IsOneParamAt s y place q → IsNearAt s tolerance x y place → AreNearBy tolerance p q
+near-one s tolerance x y place p q one one_ (u, w, is, is_, near) =
+    let P : Param → Type 0 = λ z. AreNearBy tolerance z q in
+    let Q : Param → Type 0 = λ z. AreNearBy tolerance u z in
+    subst P (one.one u is) (subst Q (one_.one w is_) near)
 
-  pub staying-told : Stays s left entities place → (list : List Difference) → TellsAlone (value_changed name place ∷ []) list
-      → TellsIfStays s left entities name place list
+module _ (s : Schema) (left : LeftOut) (x y : Typed) (name : ℕ) (place : Place) where
+  pub ignored-untold : IsIgnored s left.attributes x.entities place → TellsIfStays s left x y name place []
+  ignored-untold ignored d = (λ among. absurd (Contains-none d among), λ (same, stays). absurd (stays.0 ignored))
+
+  pub near-untold : IsNearAt s left.tolerance x y place → TellsIfStays s left x y name place []
+  near-untold near d = (λ among. absurd (Contains-none d among), λ (same, stays). absurd (stays.1 near))
+
+  pub staying-told : Stays s left x y place → (list : List Difference) → TellsAlone (value_changed name place ∷ []) list
+      → TellsIfStays s left x y name place list
   staying-told stays list is d =
       let v = value_changed name place in
       let Among : List Difference → Type 0 = λ ds. Contains ds d in (

@@ -2,7 +2,7 @@
 use Rattle.std.specs.Prelude.{◌≡◌, ◌≢◌, ◌↔◌, ◌⊎◌, ◌<◌, ◌≤◌, ◌+◌, ◌^◌, ℕ, List, [], ◌∷◌, ◌++◌, Some, None, Contains, refl}
 use Rattle.std.specs.List.{AllByRecursion as Each}
 use Rattle.std.proofs.Common.{arith, ap, sym, subst, ◌∙◌, inl, inr}
-use Rattle.p21_difference_rows.proofs.Along.{other-along, other-back}
+use Rattle.p21_difference_rows.proofs.Along.{near-along, near-back, other-along, other-back}
 use Rattle.p21_difference_rows.proofs.Beside.{member-alone, member-back, member-front, member-of}
 use Rattle.p21_difference_rows.specs.Listed.{IsOfInstance, TellsInstances}
 use Rattle.p21_difference_rows.specs.Steps.{Stays, TellsOf, TellsValues, name_of}
@@ -98,15 +98,18 @@ module _ (s : Schema) (left : LeftOut) (a b : FileMeaning) (name : ℕ) where
   -- of differences of instances those of values alone may be left out
   came-stays : (k : ℕ) → ¬ IsLeftOut s left a b (instance_came k)
   came-stays k (inl header) = header.1
-  came-stays k (inr ignored) = ignored
+  came-stays k (inr (inl ignored)) = ignored
+  came-stays k (inr (inr near)) = near
 
   went-stays : (k : ℕ) → ¬ IsLeftOut s left a b (instance_went k)
   went-stays k (inl header) = header.1
-  went-stays k (inr ignored) = ignored
+  went-stays k (inr (inl ignored)) = ignored
+  went-stays k (inr (inr near)) = near
 
   set-stays : (k : ℕ) → ¬ IsLeftOut s left a b (set_changed k)
   set-stays k (inl header) = header.1
-  set-stays k (inr ignored) = ignored
+  set-stays k (inr (inl ignored)) = ignored
+  set-stays k (inr (inr near)) = near
 
   alone-told : (v : Difference) → IsTold v → (d : Difference) → Contains (v ∷ []) d → IsTold d
   alone-told v is d among = subst IsTold (member-alone v d among) is
@@ -172,11 +175,21 @@ module _ (s : Schema) (left : LeftOut) (a b : FileMeaning) (name : ℕ) where
         back (value_changed k place) (of, is, ((x, y, at, set, other), stays)) = absurd (differ ((sets-are k x y is at).0 set))
         back other (of, is, differs) = absurd of
 
-    value-stays : (place : Place) → Stays s left first.x.entities place → ¬ IsLeftOut s left a b (value_changed name place)
+    value-stays : (place : Place) → Stays s left first.x second.x place → ¬ IsLeftOut s left a b (value_changed name place)
     value-stays place stays (inl header) = header.1
-    value-stays place stays (inr (x, at, ignored)) =
+    value-stays place stays (inr (inl (x, at, ignored))) =
         let P : List ℕ → Type 0 = λ es. IsIgnored s left.attributes es place in
-        stays (subst P (sym (first.one x at).0) ignored)
+        stays.0 (subst P (sym (first.one x at).0) ignored)
+    value-stays place stays (inr (inr (x, y, at, near))) =
+        stays.1 (near-back s left.tolerance first.x second.x x y (first.one x at.0) (second.one y at.1) place near)
+
+    stays-if : (k : ℕ) (place : Place) → k ≡ name → ¬ IsLeftOut s left a b (value_changed k place) → Stays s left first.x second.x place
+    stays-if k place is stays =
+        let Among : ℕ → Type 0 = λ n. Contains a.instances (n, first.x) in
+        let Among_ : ℕ → Type 0 = λ n. Contains b.instances (n, second.x) in (
+          λ ignored. stays (inr (inl (first.x, subst Among (sym is) first.at, ignored))),
+          λ near. stays (inr (inr (first.x, second.x, (subst Among (sym is) first.at, subst Among_ (sym is) second.at), near))),
+        )
 
     pub values-told : first.x.entities ≡ second.x.entities → (list : List Difference)
         → TellsValues s left first.x second.x name list
@@ -198,8 +211,7 @@ module _ (s : Schema) (left : LeftOut) (a b : FileMeaning) (name : ℕ) where
               ap (λ (n : ℕ). value_changed n place) is,
               other-back first.x second.x x y (one-first k x is at.0)
                   (one-second k y is at.1) place other,
-              let Among : ℕ → Type 0 = λ n. Contains a.instances (n, first.x) in
-                  λ ignored. stays (inr (first.x, subst Among (sym is) first.at, ignored)),
+              stays-if k place is stays,
             )
         back other (of, is, differs) = absurd of
 
@@ -213,13 +225,21 @@ values-meant s left n line text x y first second list tells d = (
         place,
         is,
         other-along first.stated.canonical_meaning second.stated.canonical_meaning x y first.same second.same place other,
-        (let P : List ℕ → Type 0 = λ es. Stays s left es place in subst P first.same.0 stays),
+        (
+          (let P : List ℕ → Type 0 = λ es. ¬ IsIgnored s left.attributes es place in subst P first.same.0 stays.0),
+          λ near. stays.1 (near-back s left.tolerance first.stated.canonical_meaning second.stated.canonical_meaning x y first.same
+              second.same place near),
+        ),
       )),
   λ (place, is, other, stays). (tells d).1 (
     place,
     is,
     other-back first.stated.canonical_meaning second.stated.canonical_meaning x y first.same second.same place other,
-    (let P : List ℕ → Type 0 = λ es. Stays s left es place in subst P (sym first.same.0) stays),
+    (
+      (let P : List ℕ → Type 0 = λ es. ¬ IsIgnored s left.attributes es place in subst P (sym first.same.0) stays.0),
+      λ near. stays.1 (near-along s left.tolerance first.stated.canonical_meaning second.stated.canonical_meaning x y first.same
+          second.same place near),
+    ),
   ),
 )
 

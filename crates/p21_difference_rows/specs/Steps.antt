@@ -7,6 +7,7 @@ use Rattle.p21_difference_rows.specs.declared.row.RowForm.{RowForm}
 use Rattle.p21_difference_rows.specs.declared.row.Style.{Style}
 use Rattle.p21_spec_differences.specs.Difference.{Difference, HasOtherValue, instance_came, instance_went, set_changed, value_changed}
 use Rattle.p21_spec_differences.specs.LeftOut.{IsIgnored, IsToList, LeftOut}
+use Rattle.p21_spec_differences.specs.Near.{IsNearAt}
 use Rattle.p21_spec_file.specs.File.{FileMeaning}
 use Rattle.p21_spec_file.specs.Meaning.{Typed}
 use Rattle.p21_spec_schema.specs.Schema.{Place, Schema}
@@ -62,16 +63,16 @@ name_of other = 0
 abbrev pub TellsOf : (ℕ → Type 0) → Schema → LeftOut → FileMeaning → FileMeaning → List Difference → Type 0
 TellsOf IsName s left a b list = (d : Difference) → Contains list d ↔ (IsOfInstance d × IsName (name_of d) × IsToList s left a b d)
 
--- the attribute at the place of an instance of these entities isn't left out
-abbrev pub Stays : Schema → LeftOut → List ℕ → Place → Type 0
-Stays s left entities place = ¬ IsIgnored s left.attributes entities place
+-- the attribute at the place of two instances isn't left out, by the entities of the first, and their values there aren't near
+abbrev pub Stays : Schema → LeftOut → Typed → Typed → Place → Type 0
+Stays s left x y place = (¬ IsIgnored s left.attributes x.entities place) × ¬ IsNearAt s left.tolerance x y place
 
 -- the attribute of this name is told, if it stays
-abbrev pub TellsIfStays : Schema → LeftOut → List ℕ → ℕ → Place → List Difference → Type 0
-TellsIfStays s left entities name place list = (d : Difference) → Contains list d
-    ↔ ((d ≡ value_changed name place) × Stays s left entities place)
+abbrev pub TellsIfStays : Schema → LeftOut → Typed → Typed → ℕ → Place → List Difference → Type 0
+TellsIfStays s left x y name place list = (d : Difference) → Contains list d
+    ↔ ((d ≡ value_changed name place) × Stays s left x y place)
 
 -- exactly the attributes of this name are told at which the values differ, but for those that are left out
 abbrev pub TellsValues : Schema → LeftOut → Typed → Typed → ℕ → List Difference → Type 0
 TellsValues s left x y name list = (d : Difference) → Contains list d
-    ↔ ((place : Place) × (d ≡ value_changed name place) × HasOtherValue x y place × Stays s left x.entities place)
+    ↔ ((place : Place) × (d ≡ value_changed name place) × HasOtherValue x y place × Stays s left x y place)

@@ -2,20 +2,27 @@
 //!
 //! An attribute is named by an entity and by its own name, `ENTITY.ATTRIBUTE`: it is left out of each instance of the entity, which
 //! declares it itself or has it of a supertype.
-ghost use Rattle.std.specs.Prelude.{◌≡◌, ◌++◌, ◌↔◌, Contains, IsTrue, List, MatchOption, false, map, ℕ};
-ghost use Rattle.p21_difference_rows.specs.Asked.{attribute_name_of, left_out_of};
+ghost use Rattle.std.specs.Prelude.{◌≡◌, ◌++◌, ◌↔◌, Contains, IsTrue, List, IfNone, IfSome, MatchOption, false, map, ℕ};
+ghost use Rattle.p21_difference_rows.specs.Asked.{attribute_name_of, left_out_of, ratio_given};
 ghost use Rattle.p21_express_graph.specs.Meaning.{place as place_of};
 ghost use Rattle.p21_express_graph.specs.Resolved.{IsEntity, IsPlace};
 ghost use Rattle.p21_spec_differences.specs.HeaderNames.{IsHeaderKeyword};
 ghost use Rattle.p21_spec_differences.specs.LeftOut.{AttributeName as NameOf, IsIgnored, IsKnown, MayBeMeant, NamesPlace, leaves_out};
+ghost use Rattle.p21_spec_differences.specs.Near.{AreNearBy};
+ghost use Rattle.p21_spec_exchange.specs.Parameter.{Param};
 ghost use Rattle.p21_spec_exchange.specs.Record.{Record};
 ghost use Rattle.p21_spec_file.specs.CanonicalTexts.{IsInstanceText};
 ghost use Rattle.p21_spec_schema.specs.Schema.{Place as PlaceOf, PlaceNamed};
 ghost use Rattle.p21_spec_schema.specs.Supertype.{IsA};
+ghost use Rattle.p21_model_values.specs.Written.{IsTextOf};
+ghost use Rattle.p21_tolerance.specs.Spelled.{SpellsTolerance};
+ghost use Rattle.p21_tolerance.specs.declared.tolerance.Tolerance.{Tolerance as ToleranceOf};
 
 use p21_express_graph::{EntityId, Place};
 use p21_model::Instance;
+use p21_model_values::Value;
 use p21_schema::Schema;
+use p21_tolerance::{Tolerance, are_near};
 
 /// The name of an attribute, in upper case: that of an entity, and its own.
 #[derive(Clone, Copy)]
@@ -24,11 +31,32 @@ pub struct AttributeName<'a> {
     pub attribute: &'a [u8],
 }
 
-/// What is left out of a list: the header, and attributes.
+/// A tolerance, with the text of its number.
+#[derive(Clone, Copy)]
+pub struct GivenTolerance<'a> {
+    pub tolerance: Tolerance,
+    pub text: &'a [u8],
+}
+
+impl<'a> GivenTolerance<'a> {
+    /// The tolerance that a text spells, as `Tolerance::of` reads it.
+    pub fn of(text: &'a [u8]) -> Option<GivenTolerance<'a>>
+        ensures some { IfSome result (λ given. SpellsTolerance text.now given.tolerance × (given.text.now ≡ text.now)) }
+        ensures none { IfNone result ((tolerance : ToleranceOf) → SpellsTolerance text.now tolerance → ⊥) }
+    {
+        let Some(tolerance) = Tolerance::of(text) else {
+            return None;
+        };
+        Some(GivenTolerance { tolerance, text })
+    }
+}
+
+/// What is left out of a list: the header, attributes, and values of instances that are the same but for reals within a tolerance.
 #[derive(Clone, Copy)]
 pub struct LeftOut<'a> {
     pub header: bool,
     pub attributes: &'a [AttributeName<'a>],
+    pub tolerance: Option<GivenTolerance<'a>>,
 }
 
 /// Whether something is left out.
@@ -38,7 +66,21 @@ pub(crate) fn leaves_out(left_out: LeftOut<'_>) -> bool
     if left_out.header {
         return true;
     }
-    !left_out.attributes.is_empty()
+    match left_out.tolerance {
+        Some(_) => true,
+        None => !left_out.attributes.is_empty(),
+    }
+}
+
+/// Whether two values are within the tolerance, if there is one.
+pub(crate) fn is_near(left_out: LeftOut<'_>, first: Value<'_>, second: Value<'_>) -> bool
+    ensures { (p q : Param) → IsTextOf first.entry.text.now p → IsTextOf second.entry.text.now q
+        → IsTrue result ↔ AreNearBy (ratio_given left_out.entry.tolerance) p q }
+{
+    match left_out.tolerance {
+        Some(given) => are_near(first, second, given.tolerance),
+        None => false,
+    }
 }
 
 /// Whether one of the names is that of the attribute at a place of an instance.

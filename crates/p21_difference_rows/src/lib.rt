@@ -31,7 +31,7 @@ mod said;
 mod texts;
 mod values;
 
-pub use left_out::{AttributeName, LeftOut, first_unknown};
+pub use left_out::{AttributeName, GivenTolerance, LeftOut, first_unknown};
 pub use list::{DifferenceList, list_differences};
 pub use pairs::pair_rows;
 pub use row::{Happening, RowForm, Subject};

@@ -10,8 +10,8 @@ use crate::row::{Happening, Style, Subject};
 use p21_values::NoMemory;
 use std::alloc::Global;
 
-/// Rows, each a line, and how many there are of each kind; and how many differences were left out: of the header as a whole, and of
-/// attributes that are named, those of header records among them.
+/// Rows, each a line, and how many there are of each kind; and how many differences were left out: of the header as a whole, of
+/// attributes that are named, those of header records among them, and of values within a tolerance.
 #[derive(Drop)]
 pub(crate) struct Rows {
     pub text: Vec<u8>,
@@ -21,6 +21,7 @@ pub(crate) struct Rows {
     pub in_header: u64,
     pub ignored: u64,
     pub ignored_in_header: u64,
+    pub near: u64,
 }
 
 impl Rows {
@@ -36,6 +37,7 @@ impl Rows {
             in_header: 0,
             ignored: 0,
             ignored_in_header: 0,
+            near: 0,
         }
     }
 }

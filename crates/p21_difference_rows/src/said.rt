@@ -1,5 +1,5 @@
 //! What the first line of a list and its last one say: what is left out, and how much there is. What these functions answer is tested.
-use crate::left_out::{AttributeName, LeftOut};
+use crate::left_out::{AttributeName, GivenTolerance, LeftOut};
 use crate::row::{RowForm, Style};
 use crate::rows::Rows;
 use p21_values::NoMemory;
@@ -30,6 +30,11 @@ fn text_of(alloc: Global, left_out: LeftOut<'_>) -> Result<Vec<u8>, NoMemory> {
         push_name(name, &mut words)?;
         between = ", ";
     }
+    if let Some(given) = left_out.tolerance {
+        words.extend_from_slice(between.as_bytes())?;
+        words.extend_from_slice(b"reals within the tolerance ")?;
+        words.extend_from_slice(given.text)?;
+    }
     Ok(words)
 }
 
@@ -51,8 +56,22 @@ fn members_of(alloc: Global, left_out: LeftOut<'_>) -> Result<Vec<u8>, NoMemory>
     if !left_out.attributes.is_empty() {
         words.push(b']')?;
     }
+    if let Some(given) = left_out.tolerance {
+        if !words.is_empty() {
+            words.push(b',')?;
+        }
+        push_tolerance(given, &mut words)?;
+    }
     words.push(b'}')?;
     Ok(words)
+}
+
+/// Appends a tolerance as a member of an object.
+fn push_tolerance(given: GivenTolerance<'_>, words: &mut Vec<u8>) -> Result<(), NoMemory> {
+    words.extend_from_slice(b"\"tolerance\":\"")?;
+    words.extend_from_slice(given.text)?;
+    words.push(b'"')?;
+    Ok(())
 }
 
 /// Appends the name of an attribute.
@@ -64,27 +83,48 @@ fn push_name(name: &AttributeName<'_>, words: &mut Vec<u8>) -> Result<(), NoMemo
 }
 
 /// How many rows there are of each kind, and how many differences were left out: in words where some were, in an object where some could
-/// have been.
+/// have been, as those within a tolerance in words too.
 ///
 /// # Errors
 ///
 /// Want of memory.
 pub(crate) fn counts_of(style: &Style<'_>, rows: &Rows) -> Result<Vec<u8>, NoMemory> {
     match style.form {
-        RowForm::Text => text_counts(style.alloc, rows),
+        RowForm::Text => text_counts(style, rows),
         RowForm::Json => member_counts(style, rows),
     }
 }
 
 /// How much there is, in words.
-fn text_counts(alloc: Global, rows: &Rows) -> Result<Vec<u8>, NoMemory> {
+fn text_counts(style: &Style<'_>, rows: &Rows) -> Result<Vec<u8>, NoMemory> {
+    let alloc = style.alloc;
     let (changed, came, went) = (rows.changed, rows.came, rows.went);
     let mut text = Vec::new(alloc);
     let counts = format!(in alloc; "{changed} changed, {came} came, {went} went")?;
     text.extend_from_slice(counts.as_bytes())?;
     push_left_out(alloc, rows.in_header, "in the header", &mut text)?;
     push_left_out(alloc, rows.ignored, "at ignored attributes", &mut text)?;
+    if let Some(given) = style.left_out.tolerance {
+        push_near(alloc, rows.near, given, &mut text)?;
+    }
     Ok(text)
+}
+
+/// Appends how many values were within a tolerance.
+fn push_near(
+    alloc: Global,
+    number: u64,
+    given: GivenTolerance<'_>,
+    text: &mut Vec<u8>,
+) -> Result<(), NoMemory> {
+    let count = match number {
+        1 => format!(in alloc; "; 1 value within the tolerance ")?,
+        _ => format!(in alloc; "; {number} values within the tolerance ")?,
+    };
+    text.extend_from_slice(count.as_bytes())?;
+    text.extend_from_slice(given.text)?;
+    text.extend_from_slice(b" not listed")?;
+    Ok(())
 }
 
 /// Appends how many differences were left out somewhere, if some were.
@@ -118,6 +158,12 @@ fn member_counts(style: &Style<'_>, rows: &Rows) -> Result<Vec<u8>, NoMemory> {
         let count = format!(in style.alloc;
             ",\"ignored\":{ignored},\"ignored_in_header\":{in_header}"
         )?;
+        text.extend_from_slice(count.as_bytes())?;
+    }
+    if let Some(given) = style.left_out.tolerance {
+        text.push(b',')?;
+        push_tolerance(given, &mut text)?;
+        let count = format!(in style.alloc; ",\"near\":{}", rows.near)?;
         text.extend_from_slice(count.as_bytes())?;
     }
     text.push(b'}')?;

@@ -4,11 +4,15 @@ ghost use Rattle.p21_difference_rows.specs.Asked.{left_out_of};
 ghost use Rattle.p21_difference_rows.specs.Steps.{Puts, TellsIfStays, TellsValues};
 ghost use Rattle.p21_express_graph.specs.Meaning.{place as place_of};
 ghost use Rattle.p21_express_graph.specs.Resolved.{IsPlace};
+ghost use Rattle.p21_model_values.specs.Written.{IsTextOf};
+ghost use Rattle.p21_spec_differences.specs.Near.{IsOneParamAt};
+ghost use Rattle.p21_spec_exchange.specs.Parameter.{Param};
 ghost use Rattle.p21_spec_exchange.specs.Record.{Record};
 ghost use Rattle.p21_spec_file.specs.CanonicalTexts.{IsInstanceText};
+ghost use Rattle.p21_spec_file.specs.Meaning.{Typed};
 
 use crate::keywords::push_keywords;
-use crate::left_out::is_ignored;
+use crate::left_out::{is_ignored, is_near};
 use crate::references::push_instance_values;
 use crate::row::{RowForm, Style, Subject};
 use crate::rows::{Rows, put};
@@ -55,9 +59,12 @@ fn list_value(
     rows: &mut Rows,
 ) -> Result<(), NoMemory>
     requires { IsPlace style.now.schema.now (place_of found.place) }
-    ensures { (record_ : Record) (stated : IsInstanceText style.now.schema.now name record_ line.now) →
+    ensures { (record_ : Record) (stated : IsInstanceText style.now.schema.now name record_ line.now) (other : Typed) (p q : Param)
+        → IsTextOf found.entry.before.text.now p → IsTextOf found.entry.after.text.now q →
+        IsOneParamAt style.now.schema.now stated.canonical_meaning (place_of found.entry.place) p →
+        IsOneParamAt style.now.schema.now other (place_of found.entry.place) q →
         OnOk result (Puts style.now
-        (TellsIfStays style.now.schema.now (left_out_of style.now.left_out) stated.canonical_meaning.entities name
+        (TellsIfStays style.now.schema.now (left_out_of style.now.left_out) stated.canonical_meaning other name
         (place_of found.entry.place))
         rows.old.text.items rows.new.text.items) }
 {
@@ -65,6 +72,10 @@ fn list_value(
     let instance = Instance { schema, name, line };
     if is_ignored(style.left_out.attributes, &instance, found.place) {
         rows.ignored = rows.ignored.saturating_add(1);
+        return Ok(());
+    }
+    if is_near(style.left_out, found.before, found.after) {
+        rows.near = rows.near.saturating_add(1);
         return Ok(());
     }
     let mut rest = Vec::new(style.alloc);

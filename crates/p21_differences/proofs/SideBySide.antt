@@ -5,7 +5,7 @@ use Rattle.std.specs.List.{AllZip, flat_map, zip, AllByRecursion as Each}
 use Rattle.std.proofs.Common.{arith, ap, sym, subst, ◌∙◌, inl, inr}
 use Rattle.std.proofs.lemmas.List.{map-append}
 use Rattle.p21_differences.proofs.EntityLists.{lists-same, sets-same}
-use Rattle.p21_differences.specs.OtherValues.{HaveOtherAt, TellsDifferences}
+use Rattle.p21_differences.specs.OtherValues.{AreParamsAt, HaveOtherAt, TellsDifferences}
 use Rattle.p21_differences.specs.declared.values.OtherValues.{OtherValues}
 use Rattle.p21_express_graph.specs.Resolved.{HoldsTogether}
 use Rattle.p21_model.proofs.EntitySets.{has-set}
@@ -15,13 +15,16 @@ use Rattle.p21_model.specs.Left.{TellsRows}
 use Rattle.p21_model.specs.Rows.{ArePartRows, ArePartsRows, AreRowsOf, Row}
 use Rattle.p21_spec_basics.proofs.Members.{Contains-first, Contains-later, Contains-cases, Contains-none, Contains-flat_map, Contains-zip, Each-append, Each-member}
 use Rattle.p21_spec_basics.proofs.Shuffles.{NoneTwice}
+use Rattle.p21_spec_differences.proofs.NearValues.{param-once}
 use Rattle.p21_spec_differences.proofs.Values.{IsMeantBy, entities-once, value-placed}
 use Rattle.p21_spec_differences.specs.Difference.{HasOtherValue}
+use Rattle.p21_spec_differences.specs.Near.{IsOneParamAt, IsParamAt}
 use Rattle.p21_spec_exchange.specs.CanonicalText.{param_text}
 use Rattle.p21_spec_exchange.specs.Parameter.{Param, Params, no_params, param, listed}
 use Rattle.p21_spec_exchange.specs.Record.{Part, Record, simple, complex, record_tokens}
 use Rattle.p21_spec_exchange.specs.Token.{IsSpelled, right}
 use Rattle.p21_spec_file.proofs.OneMeaning.{NamesEntity-one}
+use Rattle.p21_spec_file.proofs.Sameness.{Same-reflexive}
 use Rattle.p21_spec_file.specs.CanonicalRecord.{AreCanonicalAt, IsCanonicalParam, IsCanonicalPart, IsCanonicalRecord}
 use Rattle.p21_spec_file.specs.CanonicalTexts.{IsInstanceText}
 use Rattle.p21_spec_file.specs.Fits.{FitsAt}
@@ -120,6 +123,33 @@ good-rows s formed kinds m (simple part) rows means canonical spelled are =
 good-rows s formed kinds m (complex parts) rows means canonical spelled are =
     good-parts s formed kinds m parts rows means.means.entities are means.means.parts_mean canonical.params
     (complex-written parts (right ∷ []) spelled.1)
+
+-- its parameter is the canonical one of the value at its place
+good-param : (s : Schema) → IsWellFormed s → (kinds : EntitySets) (m : Typed) → IsMeantBy s kinds m → (place : Place) (p : Param)
+    → IsGoodRow s kinds m (place, p) → IsOneParamAt s m place p
+good-param s formed kinds m once place p good = record { is = is; one = λ q other. param-once s formed m none place p q is other }
+  where
+    none : NoneTwice m.entities
+    none = entities-once s kinds m once
+
+    by : FitsPlace s kinds m place p → IsParamAt s m place p
+    by (at, v, type_at, fit, has) = record {
+      kinds = kinds;
+      at = at;
+      v = v;
+      type_at = type_at;
+      has = has;
+      canonical = record {
+        value = v;
+        fit = fit;
+        written = good.written;
+        canonical = subst (IsCanonicalParam p) (value-once m none place good.meant.0 v good.meant.1 has) good.meant.2;
+        same = Same-reflexive v;
+      };
+    }
+
+    is : IsParamAt s m place p
+    is = by good.fit
 
 -- ---- rows beside rows
 
@@ -224,6 +254,14 @@ module _ (s : Schema) (formed : IsWellFormed s) (kinds others : EntitySets) (a b
                 (at-second found.p found.q found.among) has has_).1 equal),
           )
 
+  pub rows-stand : (xs ys : List Row) → Each (IsGoodRow s kinds a) xs → Each (IsGoodRow s others b) ys → AreParamsAt s a b xs ys
+  rows-stand xs ys good good_ place p q among = (
+    good-param s formed kinds a once place p
+        (Each-member (IsGoodRow s kinds a) xs (place, p) good (zip-first xs ys (place, p) (place, q) among)),
+    good-param s formed others b once_ place q
+        (Each-member (IsGoodRow s others b) ys (place, q) good_ (zip-second xs ys (place, p) (place, q) among)),
+  )
+
 -- ---- two lines
 
 abbrev meant-by : (s : Schema) (n : ℕ) (r : Record) (line : List ℕ) (stated : IsInstanceText s n r line)
@@ -263,6 +301,21 @@ module _ (s : Schema) (formed : IsWellFormed s) (holds : HoldsTogether s) (n m :
       ∙ ap (flat_map (own_places s)) (one-list own.set own_.set own.are own_.are set)
       ∙ sym (record-places s formed second.canonical ys own_.set are_ own_.are)
 
+  good-first : (xs : List Row) → AreRowsOf s first.canonical xs → Each (IsGoodRow s first.kinds first.canonical_meaning) xs
+  good-first xs are = good-rows s formed first.kinds first.canonical_meaning first.canonical xs first.canonical_means first.is_canonical
+      (meant-by s n r line first).spelled are
+
+  good-second : (ys : List Row) → AreRowsOf s second.canonical ys → Each (IsGoodRow s second.kinds second.canonical_meaning) ys
+  good-second ys are = good-rows s formed second.kinds second.canonical_meaning second.canonical ys second.canonical_means
+      second.is_canonical (meant-by s m q text second).spelled are
+
+  pub lines-stand : (xs ys : List Row) → AreRowsOf s first.canonical xs → AreRowsOf s second.canonical ys
+      → first.canonical_meaning.entities ≡ second.canonical_meaning.entities
+      → AreParamsAt s first.canonical_meaning second.canonical_meaning xs ys
+  lines-stand xs ys are are_ set =
+      rows-stand s formed first.kinds second.kinds first.canonical_meaning second.canonical_meaning (meant-by s n r line first)
+      (meant-by s m q text second) set xs ys (good-first xs are) (good-second ys are_)
+
   pub lines-differ : (xs ys : List Row) → AreRowsOf s first.canonical xs → AreRowsOf s second.canonical ys
       → first.canonical_meaning.entities ≡ second.canonical_meaning.entities
       → (place : Place) → HaveOtherAt xs ys place ↔ HasOtherValue first.canonical_meaning second.canonical_meaning place
@@ -273,9 +326,7 @@ module _ (s : Schema) (formed : IsWellFormed s) (holds : HoldsTogether s) (n m :
       let by_ = meant-by s m q text second in
       let In : List Place → Place → Type 0 = λ ps place. Contains ps place in
       rows-differ s formed first.kinds second.kinds first.canonical_meaning second.canonical_meaning by by_ set xs ys
-      (good-rows s formed first.kinds first.canonical_meaning first.canonical xs first.canonical_means first.is_canonical by.spelled are)
-      (good-rows s formed second.kinds second.canonical_meaning second.canonical ys second.canonical_means second.is_canonical by_.spelled
-      are_)
+      (good-first xs are) (good-second ys are_)
       (places-same xs ys are are_ set)
       (λ place v has.
       let (among, at) = value-placed s first.kinds first.canonical_meaning by place v has in
@@ -298,4 +349,5 @@ values-told s formed holds n m r q line text first second values tells tells_ se
       tells = (tells own.rows own.told.are, tells_ own_.rows own_.told.are);
       beside = places-same s formed holds n m r q line text first second own.rows own_.rows own.told.are own_.told.are set;
       differ = lines-differ s formed holds n m r q line text first second own.rows own_.rows own.told.are own_.told.are set;
+      params = lines-stand s formed holds n m r q line text first second own.rows own_.rows own.told.are own_.told.are set;
     }

@@ -8,10 +8,12 @@ use Rattle.p21_model.specs.Left.{TellsRows, left_size, schema_of}
 use Rattle.p21_model.specs.Rows.{Row}
 use Rattle.p21_model_values.specs.Written.{IsTextOf}
 use Rattle.p21_spec_differences.specs.Difference.{HasOtherValue}
+use Rattle.p21_spec_differences.specs.Near.{IsOneParamAt}
 use Rattle.p21_spec_exchange.specs.CanonicalText.{param_text}
 use Rattle.p21_spec_exchange.specs.Parameter.{Param}
 use Rattle.p21_spec_exchange.specs.Record.{Record}
 use Rattle.p21_spec_file.specs.CanonicalTexts.{IsInstanceText}
+use Rattle.p21_spec_file.specs.Meaning.{Typed}
 use Rattle.p21_spec_schema.specs.Schema.{Place, Schema}
 
 -- parameters side by side, of which the second ones have another text
@@ -50,6 +52,11 @@ values_schema o = schema_of o.first
 abbrev pub HaveOnePlaces : List Row → List Row → Type 0
 HaveOnePlaces rows others = map (λ (row : Row). row.0) rows ≡ map (λ (row : Row). row.0) others
 
+-- parameters that stand beside each other are the canonical ones of the values at their place
+abbrev pub AreParamsAt : Schema → Typed → Typed → List Row → List Row → Type 0
+AreParamsAt s x y rows others = (place : Place) (p q : Param) → Contains (zip rows others) ((place, p), (place, q))
+    → IsOneParamAt s x place p × IsOneParamAt s y place q
+
 -- the attributes of both instances are left, beside each other at one place, and texts differ at a place exactly where the instances have
 -- different values there
 pub record TellsDifferences {s : Schema} {n m : ℕ} {record_ other : Record} {line text : List ℕ} (first : IsInstanceText s n record_ line)
@@ -59,3 +66,4 @@ pub record TellsDifferences {s : Schema} {n m : ℕ} {record_ other : Record} {l
   pub tells : TellsBoth values rows others
   pub beside : HaveOnePlaces rows others
   pub differ : (place : Place) → HaveOtherAt rows others place ↔ HasOtherValue first.canonical_meaning second.canonical_meaning place
+  pub params : AreParamsAt s first.canonical_meaning second.canonical_meaning rows others

@@ -12,5 +12,5 @@ mod by_pairs;
 mod reading;
 
 pub use by_pairs::PairRows;
-pub use p21_difference_rows::{AttributeName, DifferenceList, LeftOut, RowForm};
+pub use p21_difference_rows::{AttributeName, DifferenceList, GivenTolerance, LeftOut, RowForm};
 pub use reading::paired_differences;

@@ -1,10 +1,11 @@
 -- Names of attributes under SOLE, whose S has the attribute K and the subtypes A, B and C, and of parameters of header records.
-use Rattle.std.specs.Prelude.{◌≡◌, ◌≢◌, ℕ, zero, suc, true, false, List, [], ◌∷◌, Some, codes, decimal, slice_get, Contains, refl}
+use Rattle.std.specs.Prelude.{◌≡◌, ◌≢◌, ℕ, zero, suc, true, false, List, [], ◌∷◌, Some, None, codes, decimal, slice_get, Contains, refl}
 use Rattle.std.proofs.Common.{arith, ap, get_or, subst, sym, ◌∙◌}
 use Rattle.p21_spec_basics.proofs.Members.{Contains-first, Contains-later, Each-at, Each-member}
 use Rattle.p21_spec_differences.specs.HeaderNames.{IsHeaderKeyword, IsParameterName, IsStandardName, header_names}
 use Rattle.p21_spec_differences.specs.HeaderNames.{numbered, of_file, of_user, standard}
 use Rattle.p21_spec_differences.specs.LeftOut.{AttributeName, IsKnown, NamesPlace, leaves_out}
+use Rattle.p21_spec_exchange.specs.Number.{Ratio}
 use Rattle.p21_spec_exchange.specs.Parameter.{Key, key_of, no_params}
 use Rattle.p21_spec_exchange.specs.Record.{Part}
 use Rattle.p21_spec_schema.specs.Schema.{Attribute, Place, attributes_of}
@@ -111,11 +112,14 @@ keyword-of_user = of_user (codes "MINE") refl
 
 -- ---- something is left out
 
-nothing : leaves_out (record { header = false; attributes = [] }) ≡ false
+nothing : leaves_out (record { header = false; attributes = []; tolerance = None }) ≡ false
 nothing = refl
 
-header : leaves_out (record { header = true; attributes = [] }) ≡ true
+header : leaves_out (record { header = true; attributes = []; tolerance = None }) ≡ true
 header = refl
 
-attribute : leaves_out (record { header = false; attributes = named (codes "S") (codes "K") ∷ [] }) ≡ true
+attribute : leaves_out (record { header = false; attributes = named (codes "S") (codes "K") ∷ []; tolerance = None }) ≡ true
 attribute = refl
+
+values : (t : Ratio) → leaves_out (record { header = false; attributes = []; tolerance = Some t }) ≡ true
+values t = refl

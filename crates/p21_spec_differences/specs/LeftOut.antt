@@ -1,7 +1,10 @@
--- What is left out of a list of differences where that is asked for: those of the header, and those of attributes that are named.
-use Rattle.std.specs.Prelude.{◌≡◌, ◌⊎◌, ℕ, Bool, true, false, IsTrue, List, [], ◌∷◌, Contains}
-use Rattle.p21_spec_differences.specs.Difference.{Difference, Differs, AreBeside, IsOfHeader, parameter_changed, value_changed}
+-- What is left out of a list of differences where that is asked for: those of the header, those of attributes that are named, and values
+-- within a tolerance.
+use Rattle.std.specs.Prelude.{◌≡◌, ◌⊎◌, ℕ, Bool, true, false, IsTrue, List, [], ◌∷◌, Option, None, Some, Contains}
+use Rattle.p21_spec_differences.specs.Difference.{AreBeside, AreMeant, Difference, Differs, IsOfHeader, parameter_changed, value_changed}
 use Rattle.p21_spec_differences.specs.HeaderNames.{IsHeaderKeyword, IsParameterName, keyword_text}
+use Rattle.p21_spec_differences.specs.Near.{IsNearAt}
+use Rattle.p21_spec_exchange.specs.Number.{Ratio}
 use Rattle.p21_spec_exchange.specs.Record.{Part}
 use Rattle.p21_spec_file.specs.File.{FileMeaning}
 use Rattle.p21_spec_file.specs.Meaning.{Typed}
@@ -13,14 +16,21 @@ pub record AttributeName : Type 0 where
   pub entity : List ℕ
   pub attribute : List ℕ
 
--- what is to be left out: the header, and attributes
+-- what is to be left out: the header, attributes, and values within a tolerance, if there is one
 pub record LeftOut : Type 0 where
   pub header : Bool
   pub attributes : List AttributeName
+  pub tolerance : Option Ratio
 
 -- something is
 abbrev pub leaves_out : LeftOut → Bool
-leaves_out left = elim left.header [ true ↦ true | false ↦ elim left.attributes [ [] ↦ false | (name ∷ names) ↦ true ] ]
+leaves_out left = elim left.header [
+  | true ↦ true
+  | false ↦ elim left.tolerance [
+    | Some tolerance ↦ true
+    | None ↦ elim left.attributes [ [] ↦ false | (name ∷ names) ↦ true ]
+  ]
+]
 
 -- ---- attributes
 
@@ -58,10 +68,18 @@ IsOfIgnored s names a b (parameter_changed number place) =
 IsOfIgnored s names a b (value_changed name place) = (x : Typed) × Contains a.instances (name, x) × IsIgnored s names x.entities place
 IsOfIgnored s names a b other = ⊥
 
+-- ---- values
+
+-- the difference is that of an instance's values that are within the tolerance
+abbrev pub IsNear : Schema → Option Ratio → FileMeaning → FileMeaning → Difference → Type 0
+IsNear s tolerance a b (value_changed name place) = (x y : Typed) × AreMeant a b name x y × IsNearAt s tolerance x y place
+IsNear s tolerance a b other = ⊥
+
 -- ---- differences
 
 abbrev pub IsLeftOut : Schema → LeftOut → FileMeaning → FileMeaning → Difference → Type 0
-IsLeftOut s left a b d = (IsTrue left.header × IsOfHeader d) ⊎ IsOfIgnored s left.attributes a b d
+IsLeftOut s left a b d =
+    (IsTrue left.header × IsOfHeader d) ⊎ (IsOfIgnored s left.attributes a b d ⊎ IsNear s left.tolerance a b d)
 
 -- this differs, and isn't left out
 abbrev pub IsToList : Schema → LeftOut → FileMeaning → FileMeaning → Difference → Type 0

@@ -1,4 +1,5 @@
 pub mod Difference
 pub mod HeaderNames
+pub mod Near
 pub mod LeftOut
 pub mod Laws

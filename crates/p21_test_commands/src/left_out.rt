@@ -5,11 +5,13 @@ use crate::run::Row::Leaves;
 use crate::run::{Rows, first_wrong};
 use crate::schemas::File::{Lines, Replaced};
 use p21_commands::RowForm::{Json, Text};
-use p21_commands::{AttributeName, LeftOut, PairRows};
+use p21_commands::{AttributeName, GivenTolerance, LeftOut, PairRows};
+use p21_tolerance::Tolerance;
 
 const HEADER: LeftOut<'static> = LeftOut {
     header: true,
     attributes: &[],
+    tolerance: None,
 };
 
 const NAME: LeftOut<'static> = LeftOut {
@@ -18,6 +20,7 @@ const NAME: LeftOut<'static> = LeftOut {
         entity: b"FILE_NAME",
         attribute: b"NAME",
     }],
+    tolerance: None,
 };
 
 const LABEL: LeftOut<'static> = LeftOut {
@@ -26,6 +29,7 @@ const LABEL: LeftOut<'static> = LeftOut {
         entity: b"SHAPE",
         attribute: b"LABEL",
     }],
+    tolerance: None,
 };
 
 /// An attribute that a supertype declares.
@@ -35,6 +39,7 @@ const LABEL_OF_ORIGIN: LeftOut<'static> = LeftOut {
         entity: b"ORIGIN",
         attribute: b"LABEL",
     }],
+    tolerance: None,
 };
 
 const BOTH: LeftOut<'static> = LeftOut {
@@ -49,6 +54,7 @@ const BOTH: LeftOut<'static> = LeftOut {
             attribute: b"Y",
         },
     ],
+    tolerance: None,
 };
 
 const NO_ATTRIBUTE: LeftOut<'static> = LeftOut {
@@ -57,6 +63,7 @@ const NO_ATTRIBUTE: LeftOut<'static> = LeftOut {
         entity: b"SHAPE",
         attribute: b"Y",
     }],
+    tolerance: None,
 };
 
 const NO_ENTITY: LeftOut<'static> = LeftOut {
@@ -65,6 +72,31 @@ const NO_ENTITY: LeftOut<'static> = LeftOut {
         entity: b"LINE",
         attribute: b"Y",
     }],
+    tolerance: None,
+};
+
+/// A tenth, and what is within it.
+const TENTH: GivenTolerance<'static> = GivenTolerance {
+    tolerance: Tolerance {
+        units: 1,
+        power: -1,
+    },
+    text: b"0.1",
+};
+
+const NEAR: LeftOut<'static> = LeftOut {
+    header: false,
+    attributes: &[],
+    tolerance: Some(TENTH),
+};
+
+const ALL: LeftOut<'static> = LeftOut {
+    header: true,
+    attributes: &[AttributeName {
+        entity: b"SHAPE",
+        attribute: b"LABEL",
+    }],
+    tolerance: Some(TENTH),
 };
 
 const ROWS: Rows = &[
@@ -125,6 +157,54 @@ different: 1 changed, 0 came, 0 went; 1 difference at ignored attributes not lis
         Answer(
             "left out: the header, POINT.LABEL, POINT.Y\n\
 different: 0 changed, 0 came, 0 went; 3 differences at ignored attributes not listed\n",
+        ),
+    ),
+    // values within a tolerance, or within a share of the greater one
+    Leaves(
+        DiffWithout(
+            NEAR,
+            Text,
+            Lines("#1=POINT('a',1.,1.1);#2=POINT('b',1.,105.);#3=POINT('a',1.,1.2);"),
+        ),
+        Lines("#1=POINT('a',1.,1.);#2=POINT('a',1.,100.);#3=POINT('a',1.,1.);"),
+        Differences(
+            "left out: reals within the tolerance 0.1\nchanged #2 SHAPE.LABEL 'a' 'b'\nchanged #3 POINT.Y 1. 1.2\n\
+different: 2 changed, 0 came, 0 went; 2 values within the tolerance 0.1 not listed\n",
+        ),
+    ),
+    Leaves(
+        DiffWithout(NEAR, Text, Lines("#1=POINT('a',1.,1.05);")),
+        Lines("#1=POINT('a',1.,1.);"),
+        Answer(
+            "left out: reals within the tolerance 0.1\n\
+different: 0 changed, 0 came, 0 went; 1 value within the tolerance 0.1 not listed\n",
+        ),
+    ),
+    Leaves(
+        DiffWithout(NEAR, Text, Lines("#1=POINT('a',1.,1.);")),
+        Lines("#1=POINT('a',1.,10.E-1);"),
+        Answer("left out: reals within the tolerance 0.1\nsame\n"),
+    ),
+    Leaves(
+        DiffWithout(ALL, Json, Lines("#1=POINT('b',1.,1.05);")),
+        Lines("#1=POINT('a',1.,1.);"),
+        Answer(
+            "{\"kind\":\"left out\",\"header\":true,\"ignore\":[\"SHAPE.LABEL\"],\"tolerance\":\"0.1\"}\n\
+{\"kind\":\"verdict\",\"verdict\":\"different\",\"changed\":0,\"came\":0,\"went\":0,\"in_header\":0,\"ignored\":1,\
+\"ignored_in_header\":0,\"tolerance\":\"0.1\",\"near\":1}\n",
+        ),
+    ),
+    Leaves(
+        PairsWithout(
+            NEAR,
+            Json,
+            PairRows::Hidden,
+            Lines("#5=POINT($,1.,1.05);#7=CLOUD((#5),(),(TALLY(1)));"),
+        ),
+        Lines("#1=CLOUD((#2),(),(TALLY(1)));#2=POINT($,1.,1.);"),
+        Answer(
+            "{\"kind\":\"left out\",\"tolerance\":\"0.1\"}\n\
+{\"kind\":\"verdict\",\"verdict\":\"different\",\"changed\":0,\"came\":0,\"went\":0,\"tolerance\":\"0.1\",\"near\":1}\n",
         ),
     ),
     // one that the schema doesn't have, and no file is read

@@ -234,6 +234,7 @@ pub(crate) fn same<S: Read, A: Read + Drop, B: Read + Drop>(
 const WHOLE: LeftOut<'static> = LeftOut {
     header: false,
     attributes: &[],
+    tolerance: None,
 };
 
 /// Whether what is listed of two files leaves this.

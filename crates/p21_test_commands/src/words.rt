@@ -121,6 +121,12 @@ const COMMANDS: Taken = &[
         "E.A",
     ),
     (
+        &["p21", "diff", "s", "a", "b", "--tolerance", "1E-6"],
+        "diff",
+        "tolerance",
+        "1E-6",
+    ),
+    (
         &[
             "p21",
             "diff",
@@ -325,6 +331,14 @@ const MISTAKES: NotTaken = &[
     (
         &["p21", "diff", "--data", "s", "a", "b", "--data"],
         ErrorKind::ArgumentConflict,
+    ),
+    (
+        &["p21", "diff", "s", "a", "b", "--tolerance"],
+        ErrorKind::InvalidValue,
+    ),
+    (
+        &["p21", "same", "s", "a", "b", "--tolerance", "1"],
+        ErrorKind::UnknownArgument,
     ),
     (
         &["p21", "same", "s", "a", "b", "--data"],

@@ -26,11 +26,14 @@ returns-clause-app c =
     c.in_ok-arg-6.ensures in
     let ignoring = adds_argument c.in_ok-arg-6.field-0 c.in_ok-arg-7.field-0 c.ignore.result without c.ignore.ensures.rule
     c.ignore.ensures.local c.in_ok-arg-7.ensures in
+    let within = adds_argument c.in_ok-arg-7.field-0 c.in_ok-arg-8.field-0 c.tolerance.result ignoring c.tolerance.ensures.rule
+    c.tolerance.ensures.local c.in_ok-arg-8.ensures in
     let form_is = c.format.ensures.rule in
-    let form = adds_argument c.in_ok-arg-7.field-0 c.in_ok-arg-8.field-0 c.format.result ignoring form_is.2 c.format.ensures.local
-    c.in_ok-arg-8.ensures in
+    let form = adds_argument c.in_ok-arg-8.field-0 c.in_ok-arg-9.field-0 c.format.result within form_is.2 c.format.ensures.local
+    c.in_ok-arg-9.ensures in
     IfOk-weaker _ _ _ (λ new added. of_forms new diff_app form_is.0 form_is.1
-    (adds_argument c.in_ok-arg-8.field-0 new c.progress.result form c.progress.ensures.rule c.progress.ensures.local added)) c.arg-9.ensures
+    (adds_argument c.in_ok-arg-9.field-0 new c.progress.result form c.progress.ensures.rule c.progress.ensures.local added))
+    c.arg-10.ensures
 
 pub returns-clause-local : goal.returns-clause-local
 returns-clause-local c =
@@ -46,6 +49,8 @@ returns-clause-local c =
     let without = stays_local c.in_ok-arg-5.field-0 c.in_ok-arg-6.field-0 c.data.result paired c.data.ensures.local c.in_ok-arg-6.ensures in
     let ignoring = stays_local c.in_ok-arg-6.field-0 c.in_ok-arg-7.field-0 c.ignore.result without c.ignore.ensures.local
     c.in_ok-arg-7.ensures in
-    let form = stays_local c.in_ok-arg-7.field-0 c.in_ok-arg-8.field-0 c.format.result ignoring c.format.ensures.local c.in_ok-arg-8.ensures
-    in
-    IfOk-weaker _ _ _ (λ new. stays_local c.in_ok-arg-8.field-0 new c.progress.result form c.progress.ensures.local) c.arg-9.ensures
+    let within = stays_local c.in_ok-arg-7.field-0 c.in_ok-arg-8.field-0 c.tolerance.result ignoring c.tolerance.ensures.local
+    c.in_ok-arg-8.ensures in
+    let form = stays_local c.in_ok-arg-8.field-0 c.in_ok-arg-9.field-0 c.format.result within c.format.ensures.local
+    c.in_ok-arg-9.ensures in
+    IfOk-weaker _ _ _ (λ new. stays_local c.in_ok-arg-9.field-0 new c.progress.result form c.progress.ensures.local) c.arg-10.ensures

@@ -30,7 +30,7 @@ loop-found-preserved c = (
       (left_out_of c.args.style.now.left_out) c.args.name stated.canonical_meaning
       others.canonical_meaning c.loop-found.values c.next.new.self c.in-Some.found
       c.args.rows.now.text.items c.loop-found.rows.text.items _ (c.loop-found.invariant.1 record_ other stated others set)
-      c.in-Some.ensures.handed (c.in_ok-list_value.ensures record_ stated),
+      c.in-Some.ensures.handed (c.in_ok-list_value.ensures record_ stated others.canonical_meaning),
 )
 
 pub returns : goal.returns
