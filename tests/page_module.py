@@ -229,13 +229,23 @@ NO_ANSWERS = (
     (f"{CHANGED}{COUNTED[:20]}", 0, "no answer: the list of what differs isn’t whole", False),
     ("", 0, "no answer: the list of what differs isn’t whole", False),
 )
+# The same where the header is to be left out: the program has to say that it is, and of files that differ how much that was.
+SAID = '{"kind":"left out","header":true}\n'
+WITHOUT_HEADER = (
+    (f"{SAID}{COUNTED[:-2]},\"in_header\":2}}\n", 0, "the same but for the header: 0 changed, 0 came, 0 went; 2 differences in the header not listed", True),
+    (f"{SAID}{COUNTED}", 0, "no answer: the list of what differs isn’t whole", False),
+    (COUNTED, 0, "no answer: the list of what differs isn’t whole", False),
+    (UNDECIDED, 0, "not decided: too many instances are alike to be paired", False),
+)
 
 
 def no_answers(tests, node):
     """Where the program doesn't say what differs, or not to its end, nothing is listed, and that is said."""
     command = [*node, "tests/web/no_answers.mjs"]
-    done = subprocess.run(command, input=json.dumps([text for text, *_ in NO_ANSWERS]), capture_output=True, text=True, check=True)
-    for (text, count, verdict, is_listed), found in zip(NO_ANSWERS, json.loads(done.stdout), strict=True):
+    rows = [*((row, False) for row in NO_ANSWERS), *((row, True) for row in WITHOUT_HEADER)]
+    given = json.dumps([(row[0], data) for row, data in rows])
+    done = subprocess.run(command, input=given, capture_output=True, text=True, check=True)
+    for ((text, count, verdict, is_listed), _), found in zip(rows, json.loads(done.stdout), strict=True):
         tests.judge(f"no answer, {text!r}", [count, count, count, verdict, is_listed], found)
 
 

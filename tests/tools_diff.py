@@ -125,7 +125,7 @@ ROWS = [
         file_of("#2=PERSON('jo',$,'Jo',$);", [("FILE_NAME('',''", "FILE_NAME('','2024-03-15'")]),
         ["--ignore", "PERSON.ID", "--ignore", "PERSON.FIRST_NAME", "--ignore", "FILE_NAME.TIME_STAMP"],
         [
-            "left out: FILE_NAME.TIME_STAMP, PERSON.FIRST_NAME, PERSON.ID",
+            "left out: PERSON.ID, PERSON.FIRST_NAME, FILE_NAME.TIME_STAMP",
             "different: 0 changed, 0 came, 0 went; 3 differences at ignored attributes not listed",
         ],
     ),
@@ -151,6 +151,16 @@ ROWS = [
         ],
     ),
     (
+        "an attribute that a supertype declares, ignored by another supertype",
+        file_of(POINT),
+        file_of("#1=CARTESIAN_POINT('b',(0.,0.,0.));"),
+        ["--ignore", "GEOMETRIC_REPRESENTATION_ITEM.NAME"],
+        [
+            "left out: GEOMETRIC_REPRESENTATION_ITEM.NAME",
+            "different: 0 changed, 0 came, 0 went; 1 difference at ignored attributes not listed",
+        ],
+    ),
+    (
         "an ignored attribute up to names",
         file_of(PERSON),
         file_of("#7=PERSON('jo',$,$,$);"),
@@ -170,6 +180,17 @@ ROWS = [
         file_of(POINT, [("MODEL'));", "MODEL'));\n!MY_RECORD(1.);")]),
         [],
         ["changed header !MY_RECORD.1: 1 -> 1."],
+    ),
+    (
+        "a parameter of the header, which is listed whatever the tolerance",
+        file_of(POINT, [("MODEL'));", "MODEL'));\n!MY_RECORD(1.);")]),
+        file_of(POINT, [("MODEL'));", "MODEL'));\n!MY_RECORD(1.1);")]),
+        ["--tolerance", "0.5"],
+        [
+            "left out: reals within the tolerance 0.5",
+            "changed header !MY_RECORD.1: 1. -> 1.1",
+            "the same but for the header: 1 changed, 0 came, 0 went; 0 values within the tolerance 0.5 not listed",
+        ],
     ),
     (
         "sections",
@@ -226,6 +247,7 @@ TROUBLE = [
 ]
 
 
+FORMS_OF_OUTPUT = ("text", "json", "html")
 # Each row: a name, the options, and the lines that are printed of the example and its change.
 FORMS = [
     (
@@ -332,10 +354,17 @@ NEAR = [
 ]
 
 
-# Attributes that the schema hasn't, and what is said of them.
-UNKNOWN = [
-    ("PERSONS.ID", "the schema has no entity PERSONS"),
-    ("PERSON.NAMES", "PERSON has no attribute NAMES of which files have values"),
+# Options behind which no attribute or number stands that the program takes, and what it says of them.
+NO_ATTRIBUTE = "an attribute is named as ENTITY.ATTRIBUTE"
+NO_NUMBER = "a tolerance is a number of 0 or more, as 1E-6"
+WRONG = [
+    ("--ignore", "PERSONS.ID", "the schema has no entity PERSONS"),
+    ("--ignore", "PERSON.NAMES", "PERSON has no attribute NAMES of which files have values"),
+    ("--ignore", "PERSON", NO_ATTRIBUTE),
+    ("--ignore", "PERSON.ID.X", NO_ATTRIBUTE),
+    ("--tolerance", "-1", NO_NUMBER),
+    ("--tolerance", "1,5", NO_NUMBER),
+    ("--tolerance", "nan", NO_NUMBER),
 ]
 
 
@@ -350,11 +379,10 @@ def forms(tests):
         paths = [tests.make(f"{at}.step", file_of(POINT, [("0.,0.,0.", f"0.,0.,{real}")])) for at, real in enumerate((one, other))]
         _, error, status = tests.run(["--tolerance", tolerance, SCHEMA, *paths])
         tests.judge(f"{one[:20]} and {other[:20]} within {tolerance}", ("", int(not is_near)), (error, status))
-    for words in (["--tolerance", "-1"], ["--ignore", "PERSON"], ["--ignore", "PERSON.ID.X"]):
-        output, error, status = tests.run([*words, SCHEMA, *files])
-        tests.judge(f"a wrong word, {words}", ("", "usage: p21-diff", 2), (output, error[:15], status))
-    for word, said in UNKNOWN:
-        tests.expect(f"an attribute that isn't there, {word}", ["--ignore", word, SCHEMA, *files], 2, [], f"p21-diff: --ignore {word}: {said}")
+    for option, word, said in WRONG:
+        for form in FORMS_OF_OUTPUT:
+            given = [option, word, "--format", form, SCHEMA, *files]
+            tests.expect(f"{option} {word}, as {form}", given, 2, [], f"p21-diff: {option} {word}: {said}")
 
 
 def strange(tests):
@@ -365,7 +393,7 @@ def strange(tests):
     wanted = f"p21-diff: {tests.here}/{escaped}: cannot open {tests.here}/{escaped}: there is no such file\n"
     tests.judge("a name with signs that aren't shown", ("", wanted, 2), tests.run([SCHEMA, str(tests.here / name), product]))
     tests.make(name, (ROOT / product).read_text())
-    for form in ("text", "json", "html"):
+    for form in FORMS_OF_OUTPUT:
         output, error, status = tests.run(["--format", form, SCHEMA, str(tests.here / name), "examples/product-changed.step"])
         tests.judge(f"such a name in {form}", ([], "", 1), ([sign for sign in "\x1b\u202e" if sign in output], error, status))
     path = bytes(tests.here) + b"/\xff.step"

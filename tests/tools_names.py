@@ -378,6 +378,14 @@ NO_ANSWERS = [
     ("pairs alone", """echo '{"kind":"pair","a":1,"b":2}'; exit 0""", "the list of what differs isn't whole"),
     ("nothing", "exit 0", "the list of what differs isn't whole"),
 ]
+# The same of one that is to leave out the header, and doesn't say that it did, or how much that was.
+SAID = """echo '{"kind":"left out","header":true}';"""
+NO_ANSWERS_WITHOUT_HEADER = [
+    ("nothing of it", """echo '{"kind":"verdict","verdict":"same","changed":0,"came":0,"went":0}'; exit 0"""),
+    ("not how much", f"""{SAID} echo '{{"kind":"verdict","verdict":"different","changed":0,"came":0,"went":0}}'; exit 0"""),
+    ("no end", f"{SAID} exit 0"),
+    ("what wasn't asked for", """echo '{"kind":"left out","tolerance":"1"}'; echo '{"kind":"verdict","verdict":"same"}'; exit 0"""),
+]
 # The same of one that is asked whether files are the same but for names.
 NO_ANSWERS_OF_SAME = [
     ("want of memory", "echo 'out of memory' >&2; exit 3", "out of memory"),
@@ -400,7 +408,7 @@ def undecided(tests):
     for name, options, output in [
         ("as text", ["--stat", "--pairing", f"{tests.here}/none"], f"{NOT_DECIDED}\n"),
         ("as an object", ["--format", "json", "--stat"], '{"kind": "verdict", "verdict": "undecided"}\n'),
-        ("with what is left out", ["--tolerance", "1"], f"left out: reals within the tolerance 1\n{NOT_DECIDED}\n"),
+        ("with what is to be left out", ["--tolerance", "1"], f"{NOT_DECIDED}\n"),
     ]:
         found = tests.run(["--names", *options, SCHEMA, *paths], program=program)
         tests.judge(f"not decided, {name}", (output, "", 3), found)
@@ -411,6 +419,10 @@ def undecided(tests):
     for name, lines, error in NO_ANSWERS:
         program = tests.rigged("rigged", f'case "$*" in *--pairs*) {lines};; esac')
         without_answer(tests, name, [["--names"], ["--names", "--format", "html"]], paths, program, error)
+    for name, lines in NO_ANSWERS_WITHOUT_HEADER:
+        program = tests.rigged("rigged", f'case "$*" in *--data*) {lines};; esac')
+        all_options = [["--data", *words] for words in ([], ["--names"], ["--format", "json"], ["--format", "html"])]
+        without_answer(tests, f"left out, {name}", all_options, paths, program, "the list of what differs isn't whole")
     for name, lines, error in NO_ANSWERS_OF_SAME:
         program = tests.rigged("rigged", f'case "$*" in *--names*) {lines};; esac')
         without_answer(tests, name, [["--stat"]], paths, program, error)

@@ -3,7 +3,6 @@
 import array
 import concurrent.futures
 import contextlib
-import decimal
 import functools
 import io
 import json
@@ -11,7 +10,7 @@ import mmap
 import os
 import re
 import tempfile
-from typing import Any, Dict, FrozenSet, Iterable, Iterator, List, Mapping, NamedTuple, Optional, Sequence, Tuple
+from typing import Any, Dict, Iterable, Iterator, List, Mapping, NamedTuple, Optional, Sequence, Set, Tuple
 
 import p21_canon
 import p21_lines as lines
@@ -21,9 +20,6 @@ from p21_schemas import Outline
 
 CHANGED, CAME, WENT = "changed", "came", "went"
 SAME, DIFFERENT, UNDECIDED = "same", "different", "undecided"
-# A word of a canonical text as a whole; the group has a number.
-WORD = re.compile(rb"'[^']*'|\"[^\"]*\"|\.[A-Z][A-Z0-9_]*\.|[A-Z_][A-Z0-9_]*|#\d+|(-?\d+(?:\.\d*(?:E-?\d+)?)?)")
-EXTRA_DIGITS = 40
 # What is said of a program that lists something and doesn't say how much.
 NOT_WHOLE = "the list of what differs isn't whole"
 
@@ -62,43 +58,129 @@ def difference_of(row: Mapping[str, Any]) -> Difference:
     return Difference(**fields)
 
 
+# --- What is left out ---
+
+
+class LeftOut:
+    """What the program leaves out where its command line says so: the header, some attributes, each as ENTITY.ATTRIBUTE, and values
+    within a tolerance. `said` is the object in front of the differences, which says so, and `end` the one behind them, which says how
+    many were left out; of files that are the same it doesn't, since none was."""
+
+    # What an option leaves out, and how the number of these is told.
+    NUMBERS = {"header": ("in_header",), "ignore": ("ignored", "ignored_in_header"), "tolerance": ("near",)}
+
+    def __init__(self) -> None:
+        self.said: Mapping[str, Any] = {}
+        self.end: Mapping[str, Any] = {}
+
+    def words(self) -> str:
+        """What is left out, in words; nothing where all is listed."""
+        parts = ["the header"] if "header" in self.said else []
+        parts += self.said.get("ignore", [])
+        parts += [f"reals within the tolerance {self.said['tolerance']}"] if "tolerance" in self.said else []
+        return f"left out: {', '.join(parts)}" if parts else ""
+
+    def number(self, name: str) -> int:
+        """How many differences were left out of those with this name in the last object."""
+        return self.end.get(name, 0)
+
+    def is_told(self) -> bool:
+        """Does the last object say of all that is left out how much that was?"""
+        return all(name in self.end for option, names in self.NUMBERS.items() if option in self.said for name in names)
+
+    def counts(self) -> Dict[str, Any]:
+        """How many differences were left out, as it is written as JSON."""
+        header = {"in_header": self.number("in_header")} if "header" in self.said else {}
+        ignored = {"ignored": self.number("ignored")} if "ignore" in self.said else {}
+        near = {"tolerance": self.said["tolerance"], "near": self.number("near")} if "tolerance" in self.said else {}
+        return {**header, **ignored, **near}
+
+    def counts_in_words(self) -> List[str]:
+        """How many differences were left out, in words."""
+        places = ("in_header", "in the header"), ("ignored", "at ignored attributes")
+        words = [f"{many(self.number(name), 'difference')} {place} not listed" for name, place in places if self.number(name)]
+        if "tolerance" in self.said:
+            words.append(f"{many(self.number('near'), 'value')} within the tolerance {self.said['tolerance']} not listed")
+        return words
+
+
+def many(count: int, word: str) -> str:
+    """So many of something, in words."""
+    return f"{count} {word}{'' if count == 1 else 's'}"
+
+
 # --- What the program lists ---
 
 
+class Asked(NamedTuple):
+    """What `p21 diff` is asked for: a list by pairs of instances in place of their names, and what it is to leave out, as its command line
+    has it."""
+
+    is_by_pairs: bool = False
+    data: bool = False
+    ignore: Sequence[str] = ()
+    tolerance: Optional[str] = None
+
+    def words(self) -> List[str]:
+        """The options."""
+        flags = [option for option, is_given in (("--pairs", self.is_by_pairs), ("--data", self.data)) if is_given]
+        tolerance = [] if self.tolerance is None else [f"--tolerance={self.tolerance}"]
+        return ["--format", "jsonl", *flags, *(f"--ignore={name}" for name in self.ignore), *tolerance]
+
+    def left_out(self) -> Set[str]:
+        """By which names the program tells what is left out."""
+        given = {"header": self.data, "ignore": bool(self.ignore), "tolerance": self.tolerance is not None}
+        return {name for name, is_given in given.items() if is_given}
+
+
 class Listing:
-    """What `p21 diff` lists of two files that it reads, by the names of their instances or by pairs: behind the last row, whether they
-    are the same, and the pairs. `named` are the names under which the schema and both files are shown."""
+    """What `p21 diff` lists of two files that it reads: behind the last row, whether they are the same, and the pairs. `named` are the
+    names under which the schema and both files are shown."""
 
     BESIDE = ("schema ", "first: ", "second: ")
 
-    def __init__(self, program: str, paths: Tuple[str, str, str], named: Tuple[str, str, str], is_by_pairs: bool) -> None:
+    def __init__(self, program: str, paths: Tuple[str, str, str], named: Tuple[str, str, str], asked: Asked) -> None:
         self.program = program
         self.paths = paths
         self.named = named
-        self.is_by_pairs = is_by_pairs
+        self.asked = asked
         # The names of paired instances in the first file, and beside them those in the second.
         self.pairs = array.array("Q"), array.array("Q")
+        self.left_out = LeftOut()
+        self.listed = 0
         self.word = UNDECIDED
 
     def __iter__(self) -> Iterator[Difference]:
-        options = ("--format", "jsonl", *(("--pairs",) if self.is_by_pairs else ()))
         last: Dict[str, Any] = {}
         with tempfile.TemporaryFile() as errors:
-            with reading.started(self.program, "diff", *self.paths, options=options, errors=errors) as listed:
+            with reading.started(self.program, "diff", *self.paths, options=self.asked.words(), errors=errors) as listed:
                 assert isinstance(listed.stdout, io.RawIOBase)
                 for line in io.TextIOWrapper(io.BufferedReader(listed.stdout, reading.PIECE), encoding="ascii"):
                     last = json.loads(line)
                     if last["kind"] == "pair":
                         self.pairs[0].append(last["a"])
                         self.pairs[1].append(last["b"])
+                    elif last["kind"] == "left out":
+                        self.left_out.said = last
                     elif last["kind"] != "verdict":
+                        self.listed += 1
                         yield difference_of(last)
             errors.seek(0)
             status = system.status_of(listed.returncode)
             error = reading.line_of(errors.read(), status)
         self.word = last.get("verdict", "")
-        if last.get("kind") != "verdict" or status != int(self.word != SAME):
+        self.left_out.end = last
+        if last.get("kind") != "verdict" or not self.is_answer(status):
             raise reading.Trouble(self.told(error) if error else NOT_WHOLE)
+
+    def is_answer(self, status: int) -> bool:
+        """Is this the status of such a list, which says that all is left out that is to be, and how much that was?"""
+        if self.word == UNDECIDED:
+            return status == reading.Status.REFUSED
+        wanted = self.asked.left_out()
+        is_told = wanted == {*self.left_out.said} - {"kind"} and (self.word == SAME or self.left_out.is_told())
+        is_done = self.word == SAME or (bool(wanted) and self.listed == 0)
+        return is_told and status == (reading.Status.DONE if is_done else reading.Status.REFUSED)
 
     @property
     def is_renumbered(self) -> bool:
@@ -113,116 +195,6 @@ class Listing:
                 answer = error[len(word) :] if error.startswith(self.BESIDE[1:]) else error
                 return f"{reading.shown(name)}: {reading.shown(reading.with_reason(answer, name))}"
         return reading.shown(error)
-
-
-# --- What is left out ---
-
-
-class LeftOut:
-    """What isn't listed where the command line says so: the header, some attributes, each as ENTITY.ATTRIBUTE, and reals that are
-    within a tolerance. It counts how many differences these are."""
-
-    def __init__(
-        self, header: bool = False, attributes: Iterable[str] = (), tolerance: Optional[decimal.Decimal] = None
-    ) -> None:
-        self.header = header
-        self.attributes: FrozenSet[str] = frozenset(attributes)
-        self.tolerance = tolerance
-        self.in_header = 0
-        self.ignored = 0
-        self.near = 0
-
-    def takes(self, found: Difference) -> bool:
-        """Is a difference left out?"""
-        if self.header and found.what == "header":
-            self.in_header += 1
-        elif self.attributes and self.is_ignored(found):
-            self.ignored += 1
-        elif self.tolerance is not None and is_near_change(found, self.tolerance):
-            self.near += 1
-        else:
-            return False
-        return True
-
-    def is_ignored(self, found: Difference) -> bool:
-        """Is a difference that of an attribute which is left out, under the entity that declares it or that of the instance?"""
-        if found.attribute is None:
-            return False
-        entities = {found.entity, *(found.keywords or "").split("+")}
-        return any(f"{entity}.{found.attribute}" in self.attributes for entity in entities)
-
-    def words(self) -> str:
-        """What is left out, in words; nothing where all is listed."""
-        parts = ["the header"] if self.header else []
-        parts += sorted(self.attributes)
-        parts += [] if self.tolerance is None else [f"reals within the tolerance {self.tolerance}"]
-        return f"left out: {', '.join(parts)}" if parts else ""
-
-    def object(self) -> Dict[str, Any]:
-        """What is left out, as it is written as JSON."""
-        ignored = sorted(self.attributes)
-        tolerance = {} if self.tolerance is None else {"tolerance": str(self.tolerance)}
-        return {"kind": "left out", **({"header": True} if self.header else {}), **({"ignore": ignored} if ignored else {}), **tolerance}
-
-    def counts(self) -> Dict[str, Any]:
-        """How many differences were left out, as it is written as JSON."""
-        header = {"in_header": self.in_header} if self.header else {}
-        ignored = {"ignored": self.ignored} if self.attributes else {}
-        near = {} if self.tolerance is None else {"tolerance": str(self.tolerance), "near": self.near}
-        return {**header, **ignored, **near}
-
-    def counts_in_words(self) -> List[str]:
-        """How many differences were left out, in words."""
-        header = [f"{many(self.in_header, 'difference')} in the header not listed"] if self.in_header else []
-        ignored = [f"{many(self.ignored, 'difference')} at ignored attributes not listed"] if self.ignored else []
-        near = [] if self.tolerance is None else [f"{many(self.near, 'value')} within the tolerance {self.tolerance} not listed"]
-        return [*header, *ignored, *near]
-
-
-def many(count: int, word: str) -> str:
-    """So many of something, in words."""
-    return f"{count} {word}{'' if count == 1 else 's'}"
-
-
-# --- Values ---
-
-
-def is_near(first: bytes, second: bytes, tolerance: decimal.Decimal) -> bool:
-    """Are two reals within the tolerance, absolute or relative to the greater one?"""
-    digits = len(first) + len(second) + EXTRA_DIGITS
-    context = decimal.Context(prec=digits, Emax=decimal.MAX_EMAX, Emin=decimal.MIN_EMIN)
-    try:
-        one, other = context.create_decimal(first.decode("ascii")), context.create_decimal(second.decode("ascii"))
-        apart = context.abs(context.subtract(one, other))
-        greater = context.max(context.abs(one), context.abs(other))
-        return apart <= tolerance or apart <= context.multiply(tolerance, greater)
-    except decimal.DecimalException:
-        return False
-
-
-def is_near_change(found: Difference, tolerance: decimal.Decimal) -> bool:
-    """Is a difference that of two values which are within the tolerance?"""
-    if found.attribute is None or found.before is None or found.after is None:
-        return False
-    return are_near(found.before.encode(), found.after.encode(), tolerance)
-
-
-def are_near(first: bytes, second: bytes, tolerance: decimal.Decimal) -> bool:
-    """Are two texts the same but for reals that are within the tolerance?"""
-    if WORD.sub(without_real, first) != WORD.sub(without_real, second):
-        return False
-    reals = zip(*([found[1] for found in WORD.finditer(text) if is_real(found)] for text in (first, second)))
-    return all(one == other or is_near(one, other, tolerance) for one, other in reals)
-
-
-def is_real(word: "re.Match[bytes]") -> bool:
-    """Is a word a real?"""
-    return word[1] is not None and b"." in word[1]
-
-
-def without_real(word: "re.Match[bytes]") -> bytes:
-    """A word as it stands, and one sign for each real."""
-    return b"~" if is_real(word) else word[0]
 
 
 # --- Both files ---
@@ -244,9 +216,9 @@ class Given:
         self.paths = paths
         self.named = named
 
-    def listing(self, is_by_pairs: bool) -> Listing:
-        """What differs in both files, by the names of instances or by pairs."""
-        return Listing(self.program, self.paths, self.named, is_by_pairs)
+    def listing(self, asked: Asked) -> Listing:
+        """What differs in both files."""
+        return Listing(self.program, self.paths, self.named, asked)
 
     @functools.cached_property
     def data(self) -> Tuple[mmap.mmap, mmap.mmap]:
@@ -296,25 +268,26 @@ def as_files(texts: Iterable[Iterable[bytes]]) -> Iterator[Tuple[str, str]]:
 
 
 class Files:
-    """Two files that are compared, by the names of their instances or by pairs."""
+    """Two files that are compared."""
 
-    def __init__(self, given: Given, left_out: LeftOut, is_by_pairs: bool) -> None:
+    def __init__(self, given: Given, asked: Asked) -> None:
         self.given = given
-        self.left_out = left_out
         self.counts = Counts()
-        self.listing = given.listing(is_by_pairs)
-        # How many differences there are, whether they are listed or left out, and how many of these stand in the header.
-        self.found = 0
-        self.found_in_header = 0
+        self.listing = given.listing(asked)
+        # How many differences of those that are listed stand in the header.
+        self.in_header = 0
+
+    @property
+    def left_out(self) -> LeftOut:
+        """What is left out, known with the first difference, and how much that is, known behind the last one."""
+        return self.listing.left_out
 
     def counted(self) -> Iterator[Difference]:
         """What differs and isn't left out, counted on the way."""
         for found in self.listing:
-            self.found += 1
-            self.found_in_header += found.what == "header"
-            if not self.left_out.takes(found):
-                self.counts.add(found)
-                yield found
+            self.in_header += found.what == "header"
+            self.counts.add(found)
+            yield found
 
     @property
     def is_decided(self) -> bool:
@@ -323,13 +296,16 @@ class Files:
 
     @functools.cached_property
     def but_for(self) -> Tuple[str, ...]:
-        """Behind the last difference: in what alone two files differ, where that is their numbering or their header."""
+        """Behind the last difference: in what alone two files differ, where that is their numbering or their header, listed or not."""
         if self.listing.word != DIFFERENT:
             return ()
-        header = (HEADER,) if self.found_in_header else ()
-        if self.found == self.found_in_header:
+        number = self.left_out.number
+        in_header = self.in_header + number("in_header") + number("ignored_in_header")
+        is_of_header = self.listing.listed == self.in_header and number("ignored") == number("ignored_in_header") and not number("near")
+        header = (HEADER,) if in_header else ()
+        if is_of_header:
             return (NUMBERING, *header) if self.listing.is_renumbered else header
-        is_renumbered = not self.listing.is_by_pairs and self.given.are_small() and self.given.have_equal_data()
+        is_renumbered = not self.listing.asked.is_by_pairs and self.given.are_small() and self.given.have_equal_data()
         return (NUMBERING, *header) if is_renumbered else ()
 
     def object(self) -> Dict[str, Any]:
@@ -340,7 +316,7 @@ class Files:
         found.update((kind, self.counts.total(kind)) for kind in (CHANGED, CAME, WENT))
         if self.but_for:
             found.update(but_for=[word.split()[-1] for word in self.but_for])
-        if self.listing.is_by_pairs:
+        if self.listing.asked.is_by_pairs:
             found.update(pairs=len(self.listing.pairs[0]))
         found.update(self.left_out.counts())
         return found

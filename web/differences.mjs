@@ -1,7 +1,6 @@
 // What differs in the meaning of two STEP files, as the program lists it and tools/p21-diff shows it: by the names of instances, or by
 // pairs of instances whatever their names are.
 
-import { areNear } from "./decimals.mjs";
 import { frontOf, lineNamed, sectionsOf } from "./lines.mjs";
 import { Graph, Owners } from "./owners.mjs";
 import { isSpelled, plainly } from "./plainly.mjs";
@@ -44,7 +43,8 @@ class ListedRows {
   constructor(take, keepsPartners) {
     this.take = take;
     this.rest = "";
-    this.word = null;
+    this.said = {};
+    this.end = null;
     this.pairs = 0;
     this.renumbered = 0;
     this.partners = keepsPartners ? new Map() : null;
@@ -63,7 +63,8 @@ class ListedRows {
   }
 
   row(row) {
-    if (row.kind === "verdict") this.word = row.verdict;
+    if (row.kind === "verdict") this.end = row;
+    else if (row.kind === "left out") this.said = row;
     else if (row.kind === "pair") this.pair(row);
     else this.take(differenceOf(row));
   }
@@ -93,35 +94,44 @@ export function keywordsOfInstance({ what, entity, keywords, before }) {
 
 // --- What is left out ---
 
-/** What isn't listed where that is asked for: the header, and reals that are within a tolerance. It counts how much that is. */
+/**
+ * What the program leaves out where it is asked to: the header, and values within a tolerance. `said` is the object in front of the
+ * differences, which says so, and `end` the one behind them, which says how many were left out; of files that are the same none was.
+ */
 class LeftOut {
-  constructor({ data = false, tolerance = null } = {}) {
-    Object.assign(this, { header: data, tolerance, inHeader: 0, near: 0 });
+  constructor(said, end) {
+    Object.assign(this, { said, end });
   }
 
-  /** Is a difference left out? */
-  takes({ what, attribute, before, after }) {
-    const isInHeader = this.header && what === "header";
-    const isOfValues = attribute !== null && before !== null && after !== null;
-    const isNear = !isInHeader && isOfValues && this.tolerance !== null && areNear(before, after, this.tolerance);
-    this.inHeader += Number(isInHeader);
-    this.near += Number(isNear);
-    return isInHeader || isNear;
+  /** How many differences were left out of those with this name in the last object. */
+  number(name) {
+    return this.end[name] ?? 0;
+  }
+
+  /** Does the program say that all is left out that is to be, and of files that differ how much that was? */
+  isTold({ data, tolerance }) {
+    const wanted = [
+      [data, "header", "in_header"],
+      [tolerance !== null, "tolerance", "near"],
+    ];
+    const isCounted = (name) => this.end.verdict === SAME || name in this.end;
+    return wanted.every(([isAsked, what, name]) => isAsked === what in this.said && (!isAsked || isCounted(name)));
   }
 
   /** What is left out, in words; nothing where all is listed. */
   get words() {
-    const header = this.header ? ["the header"] : [];
-    const near = this.tolerance ? [`reals within the tolerance ${this.tolerance.text}`] : [];
+    const header = this.said.header ? ["the header"] : [];
+    const near = "tolerance" in this.said ? [`reals within the tolerance ${this.said.tolerance}`] : [];
     const parts = [...header, ...near];
     return parts.length > 0 ? `left out: ${parts.join(", ")}` : "";
   }
 
   /** How many differences were left out, in words. */
   get countsInWords() {
-    const header = this.inHeader > 0 ? [`${many(this.inHeader, "difference")} in the header not listed`] : [];
-    const near = this.tolerance ? [`${many(this.near, "value")} within the tolerance ${this.tolerance.text} not listed`] : [];
-    return [...header, ...near];
+    const [inHeader, near] = ["in_header", "near"].map((name) => this.number(name));
+    const header = inHeader > 0 ? [`${many(inHeader, "difference")} in the header not listed`] : [];
+    const values = "tolerance" in this.said ? [`${many(near, "value")} within the tolerance ${this.said.tolerance} not listed`] : [];
+    return [...header, ...values];
   }
 }
 
@@ -169,9 +179,16 @@ export function tableName(difference) {
   return (what === "instance" && keywordsOfInstance(difference)) || `(${what.split(" ")[0]})`;
 }
 
+/** The words with which the program lists what differs, so asked. */
+export function wordsOfDiff({ names, data, tolerance }) {
+  const leftOut = [...(data ? ["--data"] : []), ...(tolerance === null ? [] : [`--tolerance=${tolerance}`])];
+  return ["diff", "--format", "jsonl", ...(names ? ["--pairs"] : []), ...leftOut, "--", "schema", "first", "second"];
+}
+
 /**
  * Two canonical files that are compared, by a schema of these lengths. `diff` has the program list what differs, by the names of instances
- * or by pairs, which goes to ListedRows, and `areSame` has it say whether two texts are the same but for names.
+ * or by pairs, without what is to be left out, which goes to ListedRows, and `areSame` has it say whether two texts are the same but for
+ * names.
  */
 export class Files {
   constructor({ lengths, diff, areSame }, first, second) {
@@ -181,8 +198,9 @@ export class Files {
     this.sections = null;
     this.graph = null;
     this.equalData = null;
-    // What the program listed by names, and by pairs, where it isn't much.
+    // What the program listed last by names, and by pairs, where it isn't much; and the names of all pairs.
     this.listings = { names: null, pairs: null };
+    this.partners = null;
   }
 
   /** How many bytes both have. */
@@ -195,34 +213,41 @@ export class Files {
     return this.size <= MOST_AS_GRAPH;
   }
 
-  /** Takes each difference that the program lists, by names or by pairs, and answers what it says of both files. */
-  listed(way, take) {
+  /** Takes each difference that the program lists, and answers what it says of both files. */
+  listed(asked, take) {
+    const way = asked.names ? "pairs" : "names";
+    const words = wordsOfDiff(asked).join(" ");
     const kept = this.listings[way];
-    if (kept) {
+    if (kept?.words === words) {
       for (const found of kept.rows) take(found);
       return kept.said;
     }
     const rows = [];
-    const said = this.askedFor(way, (found) => {
+    const said = this.askedFor(asked, (found) => {
       if (rows.length <= MOST_ROWS) rows.push(found);
       take(found);
     });
-    if (rows.length <= MOST_ROWS) this.listings[way] = { rows, said };
+    this.listings[way] = rows.length <= MOST_ROWS ? { words, rows, said } : null;
     return said;
   }
 
   /** Asks the program. */
-  askedFor(way, take) {
+  askedFor(asked, take) {
     const found = { all: 0, inHeader: 0 };
     const rows = new ListedRows((difference) => {
       found.all++;
       found.inHeader += Number(difference.what === "header");
       take(difference);
     }, this.isOwned);
-    this.diff(way, rows);
-    if (rows.rest !== "" || rows.word === null) throw new Trouble(NOT_WHOLE);
-    const { word, pairs, renumbered, partners } = rows;
-    return { word, pairs, renumbered, partners, ...found };
+    this.diff(asked, rows);
+    if (rows.rest !== "" || rows.end === null) throw new Trouble(NOT_WHOLE);
+    const { said, end, pairs, renumbered, partners } = rows;
+    const word = end.verdict;
+    const leftOut = new LeftOut(said, end);
+    if (word !== UNDECIDED && !leftOut.isTold(asked)) throw new Trouble(NOT_WHOLE);
+    if (asked.names) this.partners = partners;
+    const all = found.all + leftOut.number("in_header") + leftOut.number("near");
+    return { word, pairs, renumbered, leftOut, all, inHeader: found.inHeader + leftOut.number("in_header") };
   }
 
   /** What p21-diff lists with these words of its command line, of which so many are shown. By pairs there may be no answer. */
@@ -248,19 +273,18 @@ export class Files {
    */
   each({ names = false, data = false, tolerance = null }, take) {
     const counts = new Counts();
-    const leftOut = new LeftOut({ data, tolerance });
-    const said = this.listed(names ? "pairs" : "names", (difference) => {
-      if (leftOut.takes(difference)) return;
+    const said = this.listed({ names, data, tolerance }, (difference) => {
       counts.add(difference);
       take(difference);
     });
-    const { word, pairs, renumbered } = said;
+    const { word, pairs, renumbered, leftOut } = said;
     const butFor = this.butFor(names, said);
     const verdict = verdictLine(names, counts, { word, butFor, pairs }, leftOut);
     const isListed = word !== UNDECIDED;
     const isRenamed = 2 * renumbered > pairs;
-    const { words, near } = leftOut;
-    const known = { word, butFor, isRenamed, isListed, near, tolerance, leftOut: words, headline: headline({ word, butFor }), verdict };
+    const near = leftOut.number("near");
+    const told = { leftOut: leftOut.words, headline: headline({ word, butFor }), verdict };
+    const known = { word, butFor, isRenamed, isListed, near, tolerance, ...told };
     return { counts, known };
   }
 
@@ -306,8 +330,8 @@ export class Files {
   owners(names) {
     if (!this.isOwned) return null;
     this.graph ??= new Graph(this.canonical);
-    const { partners } = names ? this.listed("pairs", () => {}) : { partners: null };
-    const owners = new Owners(this.graph, this.lengths.outline, (name) => (partners ? partners.get(name) : name));
+    if (names && this.partners === null) this.askedFor({ names, data: false, tolerance: null }, () => {});
+    const owners = new Owners(this.graph, this.lengths.outline, (name) => (names ? this.partners.get(name) : name));
     return owners.hasProducts ? owners : null;
   }
 }

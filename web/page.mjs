@@ -36,7 +36,6 @@
 //
 // Of a canonical file the page shows the first 128 KiB, and of differences the first 1,000. Both can be saved whole.
 
-import { isTolerance } from "./decimals.mjs";
 import { SCHEMA_TEXT, hasWideMemory, kindOfLine, namedSchema } from "./kinds.mjs";
 import { beginningOf, otherKindOf } from "./packed.mjs";
 import { shown } from "./reading.mjs";
@@ -718,7 +717,7 @@ function wayOf({ asked, upToNames }) {
 
 /** What is known where nothing is listed, since the header or small distances don't count. */
 function nothingLeft({ data }, { near, tolerance }) {
-  const without = [data && "without the header", near > 0 && `within the tolerance ${tolerance.text}`].filter(Boolean).join(" and ");
+  const without = [data && "without the header", near > 0 && `within the tolerance ${tolerance}`].filter(Boolean).join(" and ");
   return `Nothing differs ${without}.`;
 }
 
@@ -1183,6 +1182,13 @@ function differences(lists, files) {
   return made;
 }
 
+/** Is a text a number of 0 or more, with no more digits than the program takes? */
+function isTolerance(text) {
+  const [, whole, part = "", power = ""] = /^(\d*)(?:\.(\d*))?(?:E[+-]?(\d+))?$/i.exec(text) ?? [];
+  const digitsOf = (number) => number.replace(/^0+/, "").length;
+  return whole !== undefined && whole + part !== "" && digitsOf(whole + part) <= 18 && digitsOf(power) <= 9;
+}
+
 /** What counts as a difference: the header or the data alone, and from which distance on reals do. */
 function ofCounting({ data, tolerance }) {
   const header = element("input", { type: "checkbox", id: "with-header" });
@@ -1192,7 +1198,7 @@ function ofCounting({ data, tolerance }) {
   const field = element("input", { type: "text", id: "tolerance", inputmode: "decimal", size: "8", value: tolerance, ...plain });
   const wrong = element("span", { class: "wrong", id: "no-tolerance", role: "status" });
   field.addEventListener("change", () => {
-    const isWrong = field.value.trim() !== "" && !isTolerance(field.value);
+    const isWrong = field.value.trim() !== "" && !isTolerance(field.value.trim());
     wrong.textContent = isWrong ? "A tolerance is a number of 0 or more, as 0.001 or 1E-6." : "";
     field.setAttribute("aria-invalid", String(isWrong));
     if (!isWrong) askFor({ tolerance: field.value.trim(), focus: "#tolerance" });

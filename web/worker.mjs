@@ -7,8 +7,7 @@
 
 import { adapted } from "./adapting.mjs";
 import { headerOf, keywordsOf, syntaxOf } from "./alone.mjs";
-import { toleranceOf } from "./decimals.mjs";
-import { Files, SMALL_ENOUGH, equalBytes, tableName, textsAround, whatOf } from "./differences.mjs";
+import { Files, SMALL_ENOUGH, equalBytes, tableName, textsAround, whatOf, wordsOfDiff } from "./differences.mjs";
 import { GivenFile, isPassedOver, refusalOf, toldOf } from "./files.mjs";
 import { kindOfLine } from "./kinds.mjs";
 import { LOOKED_AT, otherKindOf, unpacked } from "./packed.mjs";
@@ -313,10 +312,9 @@ class Job {
   /** What differs between two files that are accepted, as it is asked at first. */
   differences(first, second) {
     const files = { schema: first.served.text, first: new Text(first.canonical), second: new Text(second.canonical) };
-    const diff = (way, rows) => {
-      const words = ["diff", "--format", "jsonl", ...(way === "pairs" ? ["--pairs"] : []), "--", "schema", "first", "second"];
-      this.say({ progress: { name: way === "pairs" ? "whatever the names of instances are" : "", compares: true } });
-      const { error } = this.program.run(words, files, undefined, (bytes) => rows.hear(bytes));
+    const diff = (asked, rows) => {
+      this.say({ progress: { name: asked.names ? "whatever the names of instances are" : "", compares: true } });
+      const { error } = this.program.run(wordsOfDiff(asked), files, undefined, (bytes) => rows.hear(bytes));
       if (error) throw new Trouble(error);
     };
     const areSame = (one, other) => {
@@ -352,7 +350,7 @@ class Job {
 
   /** The list of what differs by names, or up to names. */
   list(names, { data, tolerance }) {
-    const found = this.compared.list({ names, data, tolerance: tolerance ? toleranceOf(tolerance) : null }, SHOWN_DIFFERENCES);
+    const found = this.compared.list({ names, data, tolerance: tolerance || null }, SHOWN_DIFFERENCES);
     return sentList(found, this.compared, found.shown.length > 0 ? this.ownersOf(names) : null);
   }
 
@@ -364,7 +362,7 @@ class Job {
 
   /** The report of what differs, as p21-diff --format html writes it. */
   report({ names, data, tolerance }) {
-    const how = { names, data, tolerance: tolerance ? toleranceOf(tolerance) : null };
+    const how = { names, data, tolerance: tolerance || null };
     const report = new Report(
       this.compared,
       this.files.map(({ path }) => path),

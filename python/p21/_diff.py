@@ -45,14 +45,14 @@ def diff(
     ignore: Sequence[str] = (),
     tolerance: Optional[Union[str, float, decimal.Decimal]] = None,
 ) -> Differences:
-    """What differs in two files: a list of the objects that ``p21-diff --format json`` prints, the verdict last. The program lists it, and
-    says whether two files are the same; what is left out, as within a tolerance, unproved Python leaves out.
+    """What differs in two files: a list of the objects that ``p21-diff --format json`` prints, the verdict last. The program lists it,
+    leaves out what is to be, as values within a tolerance, and says whether two files are the same.
 
     Args:
         names: compare up to the names of instances.
         data: leave out the header.
         ignore: leave out these attributes, each named as ``ENTITY.ATTRIBUTE``.
-        tolerance: leave out reals that are within it, absolute or relative.
+        tolerance: leave out values with reals that are within it, or within it times the greater one.
 
     Where something is left out the first object says what, and the files are never called the same where something was.
 
@@ -65,9 +65,7 @@ def diff(
     >>> found[0]["entity"], found[0]["attribute"], found[0]["before"], found[0]["after"]
     ('POINT', 'Y', '1.', '3.')
     """
-    near = None if tolerance is None else decimal.Decimal(str(tolerance))
-    if near is not None and (not near.is_finite() or near < 0):
-        raise ValueError("p21: a tolerance is a number of 0 or more")
+    near = tolerance if tolerance is None or isinstance(tolerance, str) else decimal.Decimal(str(tolerance))
     words = [*(["--names"] if names else []), *(["--data"] if data else []), *(f"--ignore={each}" for each in ignore)]
     words += [] if near is None else [f"--tolerance={near}"]
     read = schema_of(schema)
@@ -78,7 +76,7 @@ def diff(
                 file.write(text)
         done = run([*tool("diff"), "--format", "json", *words, "--", *paths])
     error = done.stderr.decode("utf-8", "replace")
-    if "--ignore" in error:
+    if error.startswith(("p21-diff: --ignore ", "p21-diff: --tolerance ")):
         raise ValueError(f"p21: {error.strip()}")
     found = Differences(map(json.loads, done.stdout.decode("utf-8").splitlines()))
     if not found or found.verdict["kind"] != "verdict":

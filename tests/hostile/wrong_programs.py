@@ -256,6 +256,15 @@ EDITS = [
     Edit(
         "tools_names.py",
         [],
+        "a list that doesn't say what is left out is an answer",
+        "tools/p21_differences.py",
+        "return is_told and status ==",
+        "return status ==",
+        "p21-diff, no answer, left out, nothing of it",
+    ),
+    Edit(
+        "tools_names.py",
+        [],
         "a hash counts names",
         "tools/p21-table",
         '["--names"] if setting.names else []',

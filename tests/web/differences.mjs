@@ -2,8 +2,7 @@
 // the lines by the names of instances with these options, and those by pairs, each with the last line, and the reports of both.
 
 import fs from "node:fs";
-import { toleranceOf } from "../../web/decimals.mjs";
-import { Files } from "../../web/differences.mjs";
+import { Files, wordsOfDiff } from "../../web/differences.mjs";
 import { Report } from "../../web/pages.mjs";
 import { Program, Text } from "../../web/program.mjs";
 import { Outline } from "../../web/schemas.mjs";
@@ -22,9 +21,8 @@ function compared(schemaPath, paths) {
     return output;
   });
   const [first, second] = canonical.map((bytes) => new Text(bytes));
-  const diff = (way, rows) => {
-    const words = ["diff", "--format", "jsonl", ...(way === "pairs" ? ["--pairs"] : []), "--", "schema", "first", "second"];
-    const { error } = program.run(words, { schema, first, second }, undefined, (piece) => rows.hear(piece));
+  const diff = (asked, rows) => {
+    const { error } = program.run(wordsOfDiff(asked), { schema, first, second }, undefined, (piece) => rows.hear(piece));
     if (error) throw new Error(`${paths}: ${error}`);
   };
   const areSame = (one, other) => {
@@ -44,7 +42,7 @@ function report(files, asked, paths) {
 /** What p21-diff prints with these options, by names and with --names. */
 function differences({ schema, files: paths, options, withReport }) {
   const found = compared(schema, paths);
-  const tolerance = options.tolerance ? toleranceOf(options.tolerance) : null;
+  const { tolerance = null } = options;
   return [false, true].map((names) => {
     const asked = { names, data: options.data ?? false, tolerance };
     const { lines, verdict, leftOut, counts } = found.list(asked, 0);
