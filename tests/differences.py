@@ -702,9 +702,12 @@ def main():
             found = run("diff", f"--tolerance={word}", SCHEMA, "/dev/null", "/dev/null")
             passed += found == ("", line, 1)
             failed += [] if found == ("", line, 1) else [f"--tolerance {word!r}: {found}"]
+        # of several words the first that is refused is named
+        around = ([], []), (["--names"], []), (["--data", "--ignore", "PERSON.ID"], []), ([], ["--ignore", "NOBODY.AT_ALL"])
         for word, line in REFUSED:
-            for words in ([], ["--names"], ["--data", "--ignore", "PERSON.ID"]):
-                found, wanted = run("diff", *words, "--ignore", word, SCHEMA, "/dev/null", "/dev/null"), ("", line + "\n", 1)
+            for before, behind in around:
+                words = [*before, "--ignore", word, *behind]
+                found, wanted = run("diff", *words, SCHEMA, "/dev/null", "/dev/null"), ("", line + "\n", 1)
                 passed += found == wanted
                 failed += [] if found == wanted else [f"--ignore {word!r}: {found} and not {wanted}"]
         chance = random.Random(SEED)
