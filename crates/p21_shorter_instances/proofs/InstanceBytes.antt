@@ -2,7 +2,6 @@
 use Rattle.std.proofs.Common.{◌≡◌, ◌≤◌, ◌<◌, ◌-◌, ◌⊎◌, ℕ, zero, suc, List, [], ◌∷◌, ◌++◌, length, take, map, inl, inr, refl, sym, ap, subst, ◌∙◌, append_assoc, length-append, arith}
 use Rattle.std.proofs.lemmas.List.{take-append-le, take_all}
 use Rattle.std.specs.List.{AllByRecursion as Each, slice_range}
-use Rattle.p21_express_graph.specs.Rising.{IsOwnRising}
 use Rattle.p21_mapping_values.specs.TypedView.{need_view}
 use Rattle.p21_mapping_values.specs.declared.need.Need.{Need}
 use Rattle.p21_spec_basics.proofs.Members.{Each-back, some_is}
@@ -13,17 +12,15 @@ use Rattle.p21_spec_exchange.specs.Record.{record_tokens}
 use Rattle.p21_spec_exchange.specs.Separator.{IsSeparator, blank}
 use Rattle.p21_spec_exchange.specs.Statement.{instance, statement_tokens}
 use Rattle.p21_spec_exchange.specs.Token.{IsFollowed, Token, equals, name, semicolon}
-use Rattle.p21_spec_file.proofs.OneMeaning.{rising-one}
 use Rattle.p21_spec_file.specs.CanonicalTexts.{IsInstanceText}
 use Rattle.p21_spec_file.specs.Reference as meant
 use Rattle.p21_spec_laws.specs.Needs.{MeansWithNeeds}
 use Rattle.p21_spec_schema.specs.Schema.{Schema}
-use Rattle.p21_shorter_instances.specs.Instance.{HasEntities, TakesInstance}
+use Rattle.p21_shorter_instances.specs.ExternalSet.{IsNumberedSet}
+use Rattle.p21_shorter_instances.specs.Instance.{TakesInstance}
 use Rattle.p21_shorter_instances.specs.Leaving.{BeginsWithMark}
 use Rattle.p21_shorter_instances.specs.Taker.{IsInstance}
 use Rattle.p21_shorter_instances.specs.TakenValues.{LaidBefore}
-use Rattle.p21_shorter_instances.specs.declared.instance.Set.{Set}
-use Rattle.p21_shorter_instances.specs.declared.instance.Set.TheVariants.{Numbered, Own}
 use Rattle.p21_shorter_instances.specs.declared.taken.Taken.{Taken}
 
 -- ---- the bytes of an instance
@@ -109,25 +106,19 @@ instance-in s n entities piece rest old new takes no_text no_needs =
 
 -- ---- what is found of it
 
--- lists that have the entity and its supertypes, rising by name, are equal
-own-one : (s : Schema) (e : ℕ) (es fs : List ℕ) → IsOwnRising s e es → IsOwnRising s e fs → es ≡ fs
-own-one s e es fs (same, (ns, all, rise)) (same_, (ms, all_, rise_)) =
-    rising-one s es fs ns ms all all_ rise rise_ (λ x among. (same_ x).0 ((same x).1 among)) (λ x among. (same x).0 ((same_ x).1 among))
+-- the same instance, by a line and needs that are equal
+pub found-same : (s : Schema) (n : ℕ) (entities bytes text line : List ℕ) (needs needed : List Need) → line ≡ text → needed ≡ needs
+    → IsInstance s n entities bytes text (map need_view needs) → IsInstance s n entities bytes line (map need_view needed)
+found-same s n entities bytes text line needs needed line_is needed_is is =
+    subst (λ (l : List ℕ). IsInstance s n entities bytes l (map need_view needed)) (sym line_is)
+    (subst (λ (l : List Need). IsInstance s n entities bytes text (map need_view l)) (sym needed_is) is)
 
--- lists that are the entities of a set are equal
-entities-one : (s : Schema) (sets : List (List ℕ)) (set : Set) (es fs : List ℕ) → HasEntities s sets set es → HasEntities s sets set fs
-    → es ≡ fs
-entities-one s sets (Own e) es fs are other = own-one s e.0 es fs are other
-entities-one s sets (Numbered at) es fs are other = some_is es fs (sym are ∙ other)
-
--- the same instance, by other entities of its set, and by a line and needs that are equal
-pub found-same : (s : Schema) (sets : List (List ℕ)) (set : Set) (n : ℕ) (es fs bytes text line : List ℕ) (needs needed : List Need)
-    → HasEntities s sets set es → HasEntities s sets set fs → line ≡ text → needed ≡ needs
-    → IsInstance s n es bytes text (map need_view needs) → IsInstance s n fs bytes line (map need_view needed)
-found-same s sets set n es fs bytes text line needs needed are other line_is needed_is is =
-    subst (λ (l : List ℕ). IsInstance s n fs bytes l (map need_view needed)) (sym line_is)
-    (subst (λ (l : List Need). IsInstance s n fs bytes text (map need_view l)) (sym needed_is)
-    (subst (λ (l : List ℕ). IsInstance s n l bytes text (map need_view needs)) (entities-one s sets set es fs are other) is))
+-- an instance of external mapping, by the entities that are kept by the number of its set
+pub numbered-same : (s : Schema) (sets : List (List ℕ)) (at n : ℕ) (kept entities bytes rest : List ℕ) (old new : Taken)
+    → IsNumberedSet sets at kept → IsNumberedSet sets at entities → TakesInstance s n entities bytes rest old new
+    → TakesInstance s n kept bytes rest old new
+numbered-same s sets at n kept entities bytes rest old new is numbered takes =
+    subst (λ (l : List ℕ). TakesInstance s n l bytes rest old new) (some_is entities kept (sym numbered ∙ is)) takes
 
 pub whole-range : (text line : List ℕ) (len : ℕ) → len ≡ length text → line ≡ slice_range text 0 len → line ≡ text
 whole-range text line len size is = is ∙ take_all (len - 0) text (omega (arith, size))

@@ -9,6 +9,11 @@ pub ok-to : {A E : Type 0} {P Q : A → Type 0} (result : Result A E) → ((x : 
 ok-to (Ok x) follows h = follows x h
 ok-to (Err e) follows h = tt
 
+pub ok-both : {A E : Type 0} {P Q R : A → Type 0} (result : Result A E) → IfOk result P → IfOk result Q → ((x : A) → P x → Q x → R x)
+    → IfOk result R
+ok-both (Ok x) one other follow = follow x one other
+ok-both (Err e) one other follow = tt
+
 pub err-to : {A E P Q : Type 0} (result : Result A E) → (P → Q) → OnErr result P → OnErr result Q
 err-to (Ok x) follows h = tt
 err-to (Err e) follows h = follows h

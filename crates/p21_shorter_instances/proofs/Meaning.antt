@@ -43,8 +43,8 @@ use Rattle.p21_shorter_instances.proofs.Plain.{placed-plain}
 use Rattle.p21_shorter_instances.proofs.Rows.{HasMeaning, has-meaning}
 use Rattle.p21_shorter_instances.proofs.Texts.{AreMeant, canonical-fit, canonical-spelled, canonical-stand, canonical_at, line-is}
 use Rattle.p21_shorter_instances.proofs.Stepping.{enclosed}
-use Rattle.p21_shorter_instances.specs.Instance.{TakesInstance}
-use Rattle.p21_shorter_instances.specs.TakenParameters.{IsPlacedParameter, PlacedParameter, TakesTokens, TakesEntity, TakesOpenedEntity, TakesParameters, TakesSteps, body_text, body_tokens, needs_at, params_at, places_at, texts_at}
+use Rattle.p21_shorter_instances.specs.Instance.{BeginsOwn, TakesInstance}
+use Rattle.p21_shorter_instances.specs.TakenParameters.{IsPlacedParameter, PlacedParameter, TakesTokens, TakesEntity, TakesParameters, TakesSteps, body_text, body_tokens, needs_at, params_at, places_at, texts_at}
 use Rattle.p21_shorter_instances.specs.Prepared.{PreparedStep}
 use Rattle.p21_shorter_instances.specs.Steps.{ArePreparedAt, AreStepsAt, MayStandAlone}
 use Rattle.p21_shorter_instances.specs.declared.step.Step.{Step}
@@ -239,20 +239,17 @@ instance-taken s formed holds n e entities rising may steps are bytes keyed behi
       appended = all.appended;
     }
 
--- an instance whose parameters are taken behind its name, `=`, its keyword and `(`
+-- an instance that is begun, and whose parameters are taken behind that
 pub internal-taken : (s : Schema) → IsWellFormed s → HoldsTogether s
-    → (n e : ℕ) (bytes keyed inside rest : List ℕ) (old : Taken) (headed opened : List ℕ) (new : Taken)
-    → TakesTokens (token.name n ∷ token.equals ∷ []) (name_spelling n ++ 61 ∷ []) bytes keyed old.draft headed
-    → TakesOpenedEntity s e keyed inside headed opened
-    → TakesParameters s e inside rest (with_text opened old) new
-    → (entities : List ℕ) × IsOwnRising s e entities × TakesInstance s n entities bytes rest old new
-internal-taken s formed holds n e bytes keyed inside rest old headed opened new head first h =
+    → (n e : ℕ) (entities bytes inside rest : List ℕ) (old begun new : Taken) → BeginsOwn s n e bytes inside old begun
+    → IsOwnRising s e entities
+    → TakesParameters s e inside rest begun new → TakesInstance s n entities bytes rest old new
+internal-taken s formed holds n e entities bytes inside rest old begun new begins rising takes =
+    let first = begins.opened in
+    let h = subst (λ (t : Taken). TakesParameters s e inside rest t new) begins.needs takes in
     let are : AreStepsAt s (order s e) (places s e) h.steps =
     subst (λ (steps : List PreparedStep). ArePreparedAt s (order s e) (places s e) steps) (sym h.steps_are) h.row_is.steps_are in
-    let body = enclosed s h.steps first.behind inside h.takes.behind rest (with_text first.between old) opened h.takes.between new
-    first.opened h.takes.places h.takes.ended in (
-      h.row.entities,
-      h.row_is.entities_are,
-      instance-taken s formed holds n e h.row.entities h.row_is.entities_are h.row_is.may h.steps are
-          bytes keyed first.behind rest old headed first.between new head first.entity body,
-    )
+    let body = enclosed s h.steps first.behind inside h.takes.behind rest (with_text first.between old) begun.draft h.takes.between new
+    first.opened h.takes.places h.takes.ended in
+    instance-taken s formed holds n e entities rising h.row_is.may h.steps are bytes begins.keyed first.behind rest old begins.headed
+    first.between new begins.head first.entity body

@@ -1,7 +1,7 @@
 -- Reals that are taken one behind the other.
-use Rattle.std.proofs.Common.{◌≡◌, ◌∙◌, ◌<◌, ℕ, ◌+◌, ◌-◌, Bool, false, List, [], ◌∷◌, ◌++◌, drop, length, take, refl, ap, sym, subst, Option, Some, None, IfNone, IfSome, ◌⊎◌, inl, inr, arith}
-use Rattle.std.proofs.lemmas.List.{take-append-drop}
-use Rattle.p21_spec_laws.specs.Needs.{FitsWithNeeds}
+use Rattle.std.proofs.Common.{◌≡◌, ◌∙◌, ◌<◌, ℕ, ◌+◌, ◌-◌, Bool, false, List, [], ◌∷◌, ◌++◌, append_assoc, drop, get_or, length, length-append, length-drop, slice_index, take, refl, ap, sym, subst, Option, Some, None, IfNone, IfSome, ◌⊎◌, inl, inr, arith}
+use Rattle.std.proofs.lemmas.List.{get_or-drop, take-append-drop}
+use Rattle.p21_spec_laws.specs.Needs.{FitsAtWithNeeds, FitsWithNeeds, with_fit}
 use Rattle.p21_spec_exchange.specs.Spelling.{spelling}
 use Rattle.p21_spec_exchange.specs.Token as token
 use Rattle.p21_schema.specs.Base.{HasBase, IsBase}
@@ -10,21 +10,29 @@ use Rattle.p21_spec_file.specs.ValueText.{list_text}
 use Rattle.p21_schema.specs.declared.base.Base.{Base}
 use Rattle.p21_schema.specs.declared.base.Base.TheVariants.{Items, Plain, Select}
 use Rattle.p21_express_graph.specs.Meaning.{type_use}
+use Rattle.p21_express_graph.specs.declared.type_use.TypeUse as code
+use Rattle.p21_spec_schema.specs.PlaceType.{PlaceType, stored_place}
 use Rattle.p21_spec_schema.specs.Schema as schema
 use Rattle.p21_spec_schema.specs.Schema.{Schema, TypeUse}
 use Rattle.p21_spec_schema.specs.WellFormed.{HasDistinctTypes}
 use Rattle.p21_shorter_tokens.proofs.Gaps.{token-first}
 use Rattle.p21_shorter_tokens.specs.Gaps.{PassesSeparators}
 use Rattle.p21_shorter_tokens.specs.LeadingToken.{IsLeadingToken}
-use Rattle.p21_shorter_tokens.specs.Numbers.{AppendsNumberToken, a_real, a_whole}
+use Rattle.p21_shorter_tokens.proofs.Parts.{goes-on}
+use Rattle.p21_shorter_tokens.proofs.Splits.{behind-count}
+use Rattle.p21_shorter_tokens.specs.Numbers.{AppendsMarkedReal, AppendsNumberToken, a_real, a_whole}
 use Rattle.p21_shorter_instances.proofs.Elements.{Along, aggregate-taken, along-ends, along-first, along-next, compared-as, no-elements, unique-compares_elements}
-use Rattle.p21_shorter_instances.proofs.Values.{taken-front, needs-nothing, no-deeper, scalar-value, stored-taken}
+use Rattle.p21_shorter_instances.proofs.Values.{comes-fits, fits-as, needs-nothing, no-deeper, rest-taken, scalar-value, stored-taken, taken-front}
 use Rattle.p21_shorter_instances.specs.ArrangedElements.{ClosesAggregate, arranged_elements, compares_elements}
 use Rattle.p21_shorter_instances.specs.Elements.{IsAggregateOf}
-use Rattle.p21_shorter_instances.specs.Reals.{IsRealBase, TakesReal, TakesRealAggregate, TakesReals}
+use Rattle.p21_shorter_instances.proofs.Scalars.{real-taken}
+use Rattle.p21_shorter_instances.specs.Reals.{IsRealBase, TakesMark, TakesMarkedReal, TakesReal, TakesRealAggregate, TakesReals}
+use Rattle.p21_shorter_instances.specs.Steps.{IsStepFor, IsStepForSome}
+use Rattle.p21_shorter_instances.specs.TakenParameters.{TakesStep}
+use Rattle.p21_shorter_instances.specs.declared.step.Step.{Step}
+use Rattle.p21_shorter_instances.specs.declared.step.Step.TheVariants.{Reals}
 use Rattle.p21_shorter_instances.specs.declared.taken.Taken.{Taken}
 use Rattle.p21_shorter_instances.specs.TakenValues.{PassesDelimiter, TakesFront, TakesScalar, TakesWithNeeds, with_text}
-use Rattle.p21_values.proofs.Continuing.{continues-same}
 use Rattle.p21_values.specs.Canonical.{Continues}
 
 -- ---- one real
@@ -39,12 +47,6 @@ pub real-continues : (found : Option ℕ) (bytes old new : List ℕ) → IfSome 
     → Continues old new
 real-continues None bytes old new some none = none
 real-continues (Some count) bytes old new some none = number-continues false bytes count old new some
-
-pub plain-continues : (found : Option ℕ) (bytes old new : List ℕ)
-    → IfSome found (λ count. (wholes : Bool) → AppendsNumberToken wholes bytes count old new) → IfNone found (new ≡ old)
-    → Continues old new
-plain-continues None bytes old new some none = continues-same old new none
-plain-continues (Some count) bytes old new some none = number-continues false bytes count old new (some false)
 
 -- a token is no separator
 pub first-passed : (bytes front : List ℕ) (count : ℕ) (one : token.Token) → IsLeadingToken front count one → (front ≡ bytes)
@@ -69,6 +71,93 @@ real-at bytes rest count old new e h s base most taken is type has =
         (scalar-value s schema.real bytes rest count old new e h)))
     at (Items words) real last same = absurd real
     at (Select t) real last same = absurd real
+
+-- ---- one real with the `,` or `)` behind it
+
+pub marked-continues : (bytes : List ℕ) (count : ℕ) (old new : List ℕ) → AppendsMarkedReal bytes count old new → Continues old new
+marked-continues bytes count old new m =
+    goes-on old m.between new (m.mark ∷ []) (number-continues false bytes m.size old m.between (m.real false)) m.appended
+
+-- what a byte ends with the bytes before it
+ended-by : (bytes front rest : List ℕ) (mark : ℕ) → bytes ≡ front ++ mark ∷ rest
+    → (drop (length bytes - length rest) bytes ≡ rest) × (slice_index bytes (length bytes - length rest - 1) ≡ mark)
+    × (0 < length bytes - length rest)
+ended-by bytes front rest mark e =
+    let size = ap length e ∙ length-append front (mark ∷ rest) in
+    let before = length bytes - length (mark ∷ rest) in
+    let last : length bytes - length rest - 1 ≡ before + 0 = omega arith in (
+      behind-count bytes (front ++ mark ∷ []) rest (e ∙ sym (append_assoc front (mark ∷ []) rest)),
+      ap (λ (n : ℕ). get_or bytes n 0) last ∙ sym (get_or-drop before bytes 0 0)
+          ∙ ap (λ (l : List ℕ). get_or l 0 0) (behind-count bytes front (mark ∷ rest) e),
+      omega arith,
+    )
+
+-- by what is taken of it
+pub marked-real : (bytes inside : List ℕ) (size : ℕ) (rest old between new : List ℕ) → PassesSeparators bytes inside
+    → TakesReal inside (drop size inside) old between → TakesMark (drop size inside) rest between new
+    → TakesMarkedReal bytes (length bytes - length rest) old new
+marked-real bytes inside size rest old between new passes real takes =
+    let gap = takes.passes.0 in
+    let front = passes.gap ++ (take size inside ++ gap) in
+    let parts : bytes ≡ front ++ takes.mark ∷ rest =
+    passes.bytes_are ∙ ap (λ (l : List ℕ). passes.gap ++ l) (sym (take-append-drop size inside)
+    ∙ ap (λ (l : List ℕ). take size inside ++ l) takes.passes.1 ∙ sym (append_assoc (take size inside) gap (takes.mark ∷ rest)))
+    ∙ sym (append_assoc passes.gap (take size inside ++ gap) (takes.mark ∷ rest)) in
+    let ended = ended-by bytes front rest takes.mark parts in
+    record {
+      inside = inside;
+      behind = drop size inside;
+      rest = rest;
+      between = between;
+      passes = passes;
+      real = real;
+      takes = takes;
+      some = ended.2;
+      within = omega arith;
+      rest_is = ended.0;
+      last = ended.1;
+    }
+
+-- where the byte stands right behind it
+pub marked-plain : (bytes front : List ℕ) (count : ℕ) (old new : List ℕ) → (front ≡ bytes) ⊎ PassesSeparators bytes front
+    → AppendsMarkedReal front count old new → TakesMarkedReal bytes (length bytes - length front + count) old new
+marked-plain bytes front count old new passed m =
+    let takes = real-taken front m.size old m.between (m.real false) in
+    let passes = first-passed bytes front m.size takes.token takes.stands passed in
+    let rest = drop count front in
+    let within = takes.stands.within in
+    let more = ap length m.marks in
+    let total : length bytes - length rest ≡ length bytes - length front + count =
+    omega (
+      arith,
+      within,
+      more,
+      length-drop m.size front,
+      length-drop count front,
+      ap length passes.bytes_are,
+      length-append passes.gap front,
+      m.ends,
+    ) in
+    subst (λ (n : ℕ). TakesMarkedReal bytes n old new) total
+    (marked-real bytes front m.size rest old m.between new passes
+    (real-at front (drop m.size front) m.size old m.between refl takes)
+    (record { mark = m.mark; is_mark = m.is_mark; passes = ([], m.marks, ([], tt, refl)); appended = m.appended }))
+
+-- the byte behind it, where it isn't `)`, and where it is
+comma-by : (mark : ℕ) (behind rest old new : List ℕ) → (mark ≡ 44) ⊎ (mark ≡ 41) → (mark ≡ 41 → ⊥) → PassesDelimiter mark behind rest
+    → new ≡ old ++ mark ∷ [] → PassesDelimiter 44 behind rest × (new ≡ old ++ 44 ∷ [])
+comma-by mark behind rest old new (inl is) other passes appended =
+    (subst (λ (m : ℕ). PassesDelimiter m behind rest) is passes, appended ∙ ap (λ (m : ℕ). old ++ m ∷ []) is)
+comma-by mark behind rest old new (inr is) other passes appended = absurd (other is)
+
+pub comma-taken : (behind rest old new : List ℕ) (t : TakesMark behind rest old new) → (t.mark ≡ 41 → ⊥)
+    → PassesDelimiter 44 behind rest × (new ≡ old ++ 44 ∷ [])
+comma-taken behind rest old new t other = comma-by t.mark behind rest old new t.is_mark other t.passes t.appended
+
+pub closing-taken : (behind rest old new : List ℕ) (t : TakesMark behind rest old new) → t.mark ≡ 41
+    → PassesDelimiter 41 behind rest × (new ≡ old ++ 41 ∷ [])
+closing-taken behind rest old new t is =
+    (subst (λ (m : ℕ). PassesDelimiter m behind rest) is t.passes, t.appended ∙ ap (λ (m : ℕ). old ++ m ∷ []) is)
 
 -- ---- reals so far
 
@@ -160,3 +249,30 @@ reals-at s type element base optional most bytes count taken new distinct is has
     let same : most - 1 + 1 ≡ most = omega (arith, deep) in
     subst (λ (k : ℕ). TakesFront s (FitsWithNeeds s type) k bytes count taken (with_text new taken)) same
     (takes s element base (most - 1) taken distinct (subst (λ (b : Bool). IsAggregateOf type b element) full is) has real)
+
+-- ---- where a step says that there are reals
+
+pub reals-known : (s : Schema) (step : Step) (of : code.TypeUse) → step ≡ Reals of → IsStepForSome s step
+    → compares_elements (type_use of) ≡ false
+reals-known s step of is (at, says) = (subst (IsStepFor s at) is says).1.0
+
+-- by so many bytes
+pub reals-front : (s : Schema) → HasDistinctTypes s → (step : Step) (of : code.TypeUse) (bytes : List ℕ) (count : ℕ) (old : Taken)
+    (new : List ℕ) → step ≡ Reals of → IsStepForSome s step → TakesRealAggregate (type_use of) bytes count old.draft new
+    → TakesFront s (FitsWithNeeds s (type_use of)) 64 bytes count old (with_text new old)
+reals-front s distinct step of bytes count old new is (at, says) takes =
+    let (stored, are) = subst (IsStepFor s at) is says in
+    let (compares, element, base, aggregate, has, real) = are in
+    reals-at s (type_use of) element base false 64 bytes count old new distinct aggregate has refl real (omega arith) takes
+
+pub reals-taken : (s : Schema) → HasDistinctTypes s → (step : Step) (of : code.TypeUse) (bytes : List ℕ) (count : ℕ) (rest : List ℕ)
+    (old : Taken) (new : List ℕ) → step ≡ Reals of → rest ≡ drop count bytes
+    → TakesRealAggregate (type_use of) bytes count old.draft new → TakesStep s step bytes rest old (with_text new old)
+reals-taken s distinct step of bytes count rest old new is e takes at says =
+    let (stored, are) = subst (IsStepFor s at) is says in
+    let (type, at_is, known, comes) = stored in
+    let front = reals-front s distinct step of bytes count old new is (at, says) takes in
+    subst (λ (x : PlaceType). TakesWithNeeds s (FitsAtWithNeeds s x) 64 bytes rest old (with_text new old)) (sym at_is)
+    (fits-as s (FitsWithNeeds s (type_use of)) (FitsAtWithNeeds s (stored_place false type)) 64 64 bytes rest old (with_text new old)
+    (omega arith) (λ p v needs fits. with_fit false type p v needs (comes-fits s type (type_use of) p v needs comes fits))
+    (rest-taken s (FitsWithNeeds s (type_use of)) 64 bytes rest count old (with_text new old) e front.1))

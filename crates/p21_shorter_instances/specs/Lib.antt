@@ -10,3 +10,4 @@ pub mod Records
 pub mod TakenParameters
 pub mod ExternalSet
 pub mod Taker
+pub mod Lending

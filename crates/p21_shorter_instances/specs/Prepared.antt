@@ -1,14 +1,15 @@
 -- What is prepared of the instances of an entity, as pure data.
-use Rattle.std.specs.Prelude.{◌≡◌, ℕ, Bool, List, [], ◌∷◌, Option, Some, None, refl}
+use Rattle.std.specs.Prelude.{◌≡◌, ℕ, nat_eq, Bool, false, List, [], ◌∷◌, Option, Some, None, refl, if◌then◌else◌}
 use Rattle.std.specs.Coded.{Coded, code_by, coded_ℕ, coded_bool, coded_list, coded_option, coded×}
 use Rattle.p21_schema.specs.Coding.{schema_code}
 use Rattle.p21_spec_schema.specs.Schema.{Defined, Kind, Place, Schema, TypeUse, alias, choice, items, whole}
 
--- What may stand at an attribute: `*`; a value of a type, which is OPTIONAL or not; or what may stand at a place of an instance
--- whose set is an entity and its supertypes
+-- What may stand at an attribute: `*`; a value of a type, which is OPTIONAL or not; an aggregate of this type, whose elements are reals
+-- that aren't compared; or what may stand at a place of an instance whose set is an entity and its supertypes
 pub data PreparedStep : Type 0 where
   derived_step : PreparedStep
   stored_step : Bool → TypeUse → PreparedStep
+  reals_step : TypeUse → PreparedStep
   placed_step : ℕ → Place → PreparedStep
 
 -- the entities of the set, rising by name, what may stand at the attributes in the order of internal mapping, and a keyword that
@@ -39,16 +40,18 @@ type_code = code_by Schema schema_code renaming (λ s. first_renamed s.types) (�
 abbrev step_cases : PreparedStep → Option (Option (Bool × TypeUse)) × (ℕ × (ℕ × ℕ))
 step_cases derived_step = (None, (0, (0, 0)))
 step_cases (stored_step optional type) = (Some (Some (optional, type)), (0, (0, 0)))
+step_cases (reals_step type) = (Some (Some (false, type)), (1, (0, 0)))
 step_cases (placed_step e place) = (Some None, (e, (place.entity, place.index)))
 
 abbrev step_from : Option (Option (Bool × TypeUse)) × (ℕ × (ℕ × ℕ)) → PreparedStep
 step_from (None, at) = derived_step
-step_from (Some (Some (optional, type)), at) = stored_step optional type
+step_from (Some (Some (optional, type)), (number, at)) = if nat_eq number 0 then stored_step optional type else reals_step type
 step_from (Some None, (e, (owner, index))) = placed_step e (record { entity = owner; index = index })
 
 pub step-back : (step : PreparedStep) → step_from (step_cases step) ≡ step
 step-back derived_step = refl
 step-back (stored_step optional type) = refl
+step-back (reals_step type) = refl
 step-back (placed_step e place) = refl
 
 abbrev step_code : Coded PreparedStep

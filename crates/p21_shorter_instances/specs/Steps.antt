@@ -1,10 +1,12 @@
 -- What is known of the instances of an entity, prepared.
 use Rattle.std.specs.Option.{option_map}
-use Rattle.std.specs.Prelude.{◌≡◌, ◌≢◌, ℕ, List, [], ◌∷◌, Option, Some, map, slice_get}
+use Rattle.std.specs.Prelude.{◌≡◌, ◌≢◌, ℕ, false, List, [], ◌∷◌, Option, Some, map, slice_get}
 use Rattle.p21_spec_exchange.specs.Keyword.{IsKeyword}
 use Rattle.p21_express_graph.specs.DirectRenaming.{ComesTo}
 use Rattle.p21_express_graph.specs.Orders.{numbers}
+use Rattle.p21_schema.specs.Base.{HasBase}
 use Rattle.p21_schema.specs.OwnSets.{LeavesOpen}
+use Rattle.p21_schema.specs.declared.base.Base.{Base}
 use Rattle.p21_express_graph.specs.Resolved.{IsEntity, IsPlace, IsTypeUse}
 use Rattle.p21_express_graph.specs.Rising.{IsOwnRising}
 use Rattle.p21_express_graph.specs.Meaning.{place as place_of, type_use}
@@ -12,18 +14,28 @@ use Rattle.p21_spec_schema.specs.OneOf.{Clashes}
 use Rattle.p21_spec_schema.specs.Order.{order, places}
 use Rattle.p21_spec_schema.specs.PlaceType.{PlaceType, TypeAt, derived_place, stored_place}
 use Rattle.p21_spec_schema.specs.Schema.{EntityNamed, IsAbstract, Place, Schema, TypeUse}
-use Rattle.p21_shorter_instances.specs.Prepared.{Prepared, PreparedStep, derived_step, placed_step, stored_step}
+use Rattle.p21_shorter_instances.specs.ArrangedElements.{compares_elements}
+use Rattle.p21_shorter_instances.specs.Elements.{IsAggregateOf}
+use Rattle.p21_shorter_instances.specs.Reals.{IsRealBase}
+use Rattle.p21_shorter_instances.specs.Prepared.{Prepared, PreparedStep, derived_step, placed_step, reals_step, stored_step}
 use Rattle.p21_shorter_instances.specs.declared.row.Row.{Row}
 use Rattle.p21_shorter_instances.specs.declared.step.Step.{Step}
-use Rattle.p21_shorter_instances.specs.declared.step.Step.TheVariants.{Derived, Placed, Stored}
+use Rattle.p21_shorter_instances.specs.declared.step.Step.TheVariants.{Derived, Placed, Reals, Stored}
 
 -- ---- steps, as pure data
+
+-- the elements of an aggregate of this type are reals, and aren't compared; none is left out
+abbrev pub AreReals : Schema → TypeUse → Type 0
+AreReals s type = (compares_elements type ≡ false) × (element : TypeUse) × (base : Base) × IsAggregateOf type false element
+    × HasBase s element base × IsRealBase base
 
 -- what is prepared says what may stand at a place of this type: the type itself, or one that it comes down to, or a place with
 -- this type
 abbrev pub Prepares : Schema → PlaceType → PreparedStep → Type 0
 Prepares s at derived_step = at ≡ derived_place
 Prepares s at (stored_step optional last) = (type : TypeUse) × (at ≡ stored_place optional type) × IsTypeUse s last × ComesTo s type last
+Prepares s at (reals_step last) = ((type : TypeUse) × (at ≡ stored_place false type) × IsTypeUse s last × ComesTo s type last)
+    × AreReals s last
 Prepares s at (placed_step e place) = IsEntity s e × IsPlace s place × TypeAt s (order s e) place at
 
 -- what is prepared says what may stand at the place of an instance with this set
@@ -43,6 +55,7 @@ ArePreparedAt s entities (place ∷ rest) (step ∷ steps) = IsPreparedAt s enti
 abbrev pub step_view : Step → PreparedStep
 step_view Derived = derived_step
 step_view (Stored optional of) = stored_step optional (type_use of)
+step_view (Reals of) = reals_step (type_use of)
 step_view (Placed entity place) = placed_step entity.0 (place_of place)
 
 -- the step says what may stand at a place of this type

@@ -1,6 +1,5 @@
 -- What takes instances straight from their bytes, and what it has taken.
-use Rattle.std.specs.Prelude.{◌≡◌, ℕ, List, [], ◌∷◌, ◌++◌, take}
-use Rattle.p21_mapping.specs.Checked.{needs_view}
+use Rattle.std.specs.Prelude.{◌≡◌, ℕ, List, [], ◌∷◌, ◌++◌}
 use Rattle.p21_spec_exchange.specs.Grammar.{IsDataRecord}
 use Rattle.p21_spec_exchange.specs.Laying.{Laid}
 use Rattle.p21_spec_exchange.specs.Record.{Record}
@@ -11,9 +10,10 @@ use Rattle.p21_spec_file.specs.Reference.{Need}
 use Rattle.p21_spec_laws.specs.Needs.{MeansWithNeeds}
 use Rattle.p21_spec_schema.specs.Schema.{Schema}
 use Rattle.p21_shorter_instances.specs.ExternalSet.{AreExternalSets}
-use Rattle.p21_shorter_instances.specs.Instance.{HasEntities}
+use Rattle.p21_shorter_instances.specs.Instance.{Begins}
 use Rattle.p21_shorter_instances.specs.Steps.{IsPlanOf}
-use Rattle.p21_shorter_instances.specs.declared.taker.TakenInstance.{TakenInstance}
+use Rattle.p21_shorter_instances.specs.declared.instance.Begun.{Begun}
+use Rattle.p21_shorter_instances.specs.declared.taken.Taken.{Taken}
 use Rattle.p21_shorter_instances.specs.declared.taker.Taker.{Taker}
 
 -- all that is kept of the schema is right
@@ -34,8 +34,9 @@ pub record IsInstance (s : Schema) (n : ℕ) (entities bytes text : List ℕ) (n
   pub means : MeansWithNeeds s record_ meaning needs
   pub printed : IsInstanceText s n record_ text
 
--- what was taken stands at the beginning of a piece, and its canonical text and its needs are held
-abbrev pub HasTaken : Schema → Taker → TakenInstance → List ℕ → Type 0
-HasTaken s taker taken piece =
-    (entities : List ℕ) × HasEntities s taker.sets taken.set entities
-    × IsInstance s taken.name entities (take taken.count piece) taker.taken.draft (needs_view taker.taken.needs.items)
+-- an instance is begun at the beginning of a piece, with no text and no needs before
+pub record HasBegun (s : Schema) (sets : List (List ℕ)) (begun : Begun) (piece : List ℕ) (taken : Taken) : Type 0 where
+  pub old : Taken
+  pub no_text : old.draft ≡ []
+  pub no_needs : old.needs.items ≡ []
+  pub begins : Begins s begun.number sets begun.set piece begun.rest.now old taken

@@ -35,6 +35,7 @@ fn append_joined_end<'a>(bytes: &'a [u8], draft: &mut Draft) -> Option<&'a [u8]>
 }
 
 /// The same with separators.
+#[cold]
 #[inline(never)]
 fn append_separated_end<'a>(bytes: &'a [u8], draft: &mut Draft) -> Option<&'a [u8]>
     ensures some { IfSome result (λ rest. TakesTokens (right ∷ semicolon ∷ []) (41 ∷ 59 ∷ []) bytes.now rest.now draft.old draft.new) }

@@ -42,6 +42,7 @@ pub(crate) fn append_opening<'a>(
 }
 
 /// The same with separators, or with no guess.
+#[cold]
 #[inline(never)]
 fn append_other_opening<'a>(
     schema: &Schema,

@@ -18,6 +18,7 @@ use std::sync::ArcSlice;
 
 /// Appends the simple records of an instance, by a guess of their set, else by that which their keywords name: the number of the
 /// set, and what stands behind the `;`. Where memory is refused by the guess, the keywords aren't looked at.
+#[cold]
 #[inline(never)]
 pub(crate) fn append_simple_records<'a>(
     schema: &Schema,
@@ -110,6 +111,7 @@ fn append_by_set<'a>(
 
 /// The number of the set of the instance whose simple records stand at the front. Where it isn't kept yet, it is looked at and
 /// kept. None where it isn't one of external mapping, or was guessed.
+#[cold]
 #[inline(never)]
 fn set_ahead(
     alloc: Global,

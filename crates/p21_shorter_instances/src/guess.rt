@@ -56,6 +56,7 @@ impl Guesses {
     }
 
     /// The same with no guess. What is found is the next guess.
+    #[cold]
     #[inline(never)]
     fn look_up(&mut self, schema: &Schema, name: &[u8], place: usize) -> Option<EntityId>
         ensures { IfSome result (λ entity. EntityNamed schema.now entity.0 name.now) }

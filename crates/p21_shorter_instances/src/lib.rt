@@ -42,8 +42,7 @@ mod taker;
 mod value;
 
 pub use given_up::GivenUp;
-pub use instance::Set;
 pub use plan::Plan;
 pub use sets::Sets;
 pub use taken::Taken;
-pub use taker::{Found, TakenInstance, Taker};
+pub use taker::{Found, Taker};

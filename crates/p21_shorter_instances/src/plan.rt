@@ -109,6 +109,7 @@ impl Plan {
     /// # Errors
     ///
     /// `NoMemory`.
+    #[cold]
     #[inline(never)]
     pub(crate) fn prepare(&mut self, schema: &Schema, entity: EntityId) -> Result<bool, NoMemory>
         requires { IsEntity schema.now entity.0 }

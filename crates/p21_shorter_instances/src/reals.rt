@@ -1,10 +1,10 @@
 //! Reals one behind the other, as the coordinates of a point (ISO 10303-21, mapping of EXPRESS aggregation data types).
-ghost use Rattle.std.specs.Prelude.{◌≡◌, ◌⊎◌, ◌≤◌, List, ℕ, false, length, IfNone, IfSome, IsTrue};
+ghost use Rattle.std.specs.Prelude.{◌≡◌, ◌⊎◌, ◌≤◌, false, length, IfNone, IfSome, IsTrue};
 ghost use Rattle.p21_express_graph.specs.Meaning.{type_use};
 ghost use Rattle.p21_shorter_tokens.specs.Gaps.{PassesSeparators};
 ghost use Rattle.p21_spec_schema.specs.Schema.{real};
 ghost use Rattle.p21_shorter_instances.specs.ArrangedElements.{compares_elements};
-ghost use Rattle.p21_shorter_instances.specs.Reals.{IsRealBase, TakesReal, TakesRealAggregate, TakesReals};
+ghost use Rattle.p21_shorter_instances.specs.Reals.{IsRealBase, TakesClosedReals, TakesMark, TakesMarkedReal, TakesRealAggregate};
 ghost use Rattle.p21_shorter_instances.specs.TakenValues.{TakesScalar};
 ghost use Rattle.p21_values.specs.Canonical.{Continues};
 
@@ -12,7 +12,7 @@ use crate::delimiter::{append_delimiter, append_next_delimiter};
 use p21_express_graph::TypeUse;
 use p21_mapping::allows_count;
 use p21_schema::Base;
-use p21_shorter_tokens::{Draft, append_other_real, append_plain_real, behind_separators};
+use p21_shorter_tokens::{Draft, append_marked_real, append_real, behind_separators};
 
 /// Whether a type comes down to REAL.
 #[inline(always)]
@@ -33,47 +33,46 @@ pub(crate) fn append_all_reals(of: &TypeUse, bytes: &[u8], draft: &mut Draft) ->
     ensures none { IfNone result (Continues draft.old draft.new) }
 {
     let inside = append_delimiter(b'(', bytes, draft)?;
-    let (count, behind) = append_each_real(inside, draft)?;
+    let (count, rest) = append_each_real(inside, draft)?;
     if !allows_count(of, count) {
         return None;
     }
-    let rest = append_next_delimiter(b')', behind, draft)?;
     Some(bytes.len() - rest.len())
 }
 
-/// Reals with a comma between each two: how many, and what stands behind them.
+/// Reals with a comma between each two, and the `)` behind them: how many, and what stands behind it.
 #[inline(always)]
 fn append_each_real<'a>(bytes: &'a [u8], draft: &mut Draft) -> Option<(usize, &'a [u8])>
-    ensures some { IfSome result (λ found. TakesReals found.0 bytes.now found.1.now draft.old draft.new) }
+    ensures some { IfSome result (λ found. TakesClosedReals found.0 bytes.now found.1.now draft.old draft.new) }
     ensures shorter { IfSome result (λ found. length found.1.now ≤ length bytes.now) }
     ensures draft { Continues draft.old draft.new }
 {
-    if let Some(b')') = bytes.first() {
-        return Some((0, bytes));
+    if let Some(rest) = append_delimiter(b')', bytes, draft) {
+        return Some((0, rest));
     }
     let mut front = bytes;
     let mut count = 0;
     loop {
-        let behind = append_next_real(front, draft)?;
+        let size = append_next_real(front, draft)?;
+        let mark = front[size - 1];
+        front = &front[size..];
         count += 1;
-        let Some(next) = append_next_delimiter(b',', behind, draft) else {
-            return Some((count, behind));
-        };
-        front = next;
+        if mark == b')' {
+            return Some((count, front));
+        }
     }
 }
 
-/// The real at the front, behind separators: what stands behind it. Mostly there are none but blanks, and it has no exponent.
+/// The real at the front, behind separators, and the `,` or `)` behind it: how many bytes they have. Mostly no separators stand there
+/// but blanks before the real, and it has no exponent.
 #[inline(always)]
-fn append_next_real<'a>(bytes: &'a [u8], draft: &mut Draft) -> Option<&'a [u8]>
-    ensures some { IfSome result (λ rest. (inside : List ℕ) × PassesSeparators bytes.now inside
-        × TakesReal inside rest.now draft.old draft.new) }
-    ensures shorter { IfSome result (λ rest. length rest.now ≤ length bytes.now) }
+fn append_next_real(bytes: &[u8], draft: &mut Draft) -> Option<usize>
+    ensures some { IfSome result (λ count. TakesMarkedReal bytes.now count draft.old draft.new) }
     ensures draft { Continues draft.old draft.new }
 {
     let front = behind_blanks(bytes);
-    match append_first_plain(front, draft) {
-        Some(count) => Some(&front[count..]),
+    match append_marked_real(front, draft) {
+        Some(count) => Some(bytes.len() - front.len() + count),
         None => append_other_next(bytes, draft),
     }
 }
@@ -90,34 +89,37 @@ fn behind_blanks(bytes: &[u8]) -> &[u8]
     }
 }
 
-/// The real at the front, if it has no exponent and ends near: how many bytes it has.
-#[inline(always)]
-fn append_first_plain(bytes: &[u8], draft: &mut Draft) -> Option<usize>
-    ensures some { IfSome result (λ count. TakesScalar real bytes.now count draft.old draft.new) }
-    ensures draft { Continues draft.old draft.new }
-    ensures none { IfNone result (draft.new ≡ draft.old) }
-{
-    append_plain_real(bytes, draft)
-}
-
-/// The same for any real.
+/// The same for any real, with any separators.
+#[cold]
 #[inline(never)]
-fn append_other_next<'a>(bytes: &'a [u8], draft: &mut Draft) -> Option<&'a [u8]>
-    ensures some { IfSome result (λ rest. (inside : List ℕ) × PassesSeparators bytes.now inside
-        × TakesReal inside rest.now draft.old draft.new) }
-    ensures shorter { IfSome result (λ rest. length rest.now ≤ length bytes.now) }
+fn append_other_next(bytes: &[u8], draft: &mut Draft) -> Option<usize>
+    ensures some { IfSome result (λ count. TakesMarkedReal bytes.now count draft.old draft.new) }
     ensures draft { Continues draft.old draft.new }
 {
     let front = behind_separators(bytes);
-    let count = append_first_other(front, draft)?;
-    Some(&front[count..])
+    let count = append_single(front, draft)?;
+    let behind = append_mark(&front[count..], draft)?;
+    Some(bytes.len() - behind.len())
 }
 
-/// The real at the front, where it isn't taken so: how many bytes it has.
+/// The real at the front: how many bytes it has.
 #[inline(always)]
-fn append_first_other(bytes: &[u8], draft: &mut Draft) -> Option<usize>
+fn append_single(bytes: &[u8], draft: &mut Draft) -> Option<usize>
     ensures some { IfSome result (λ count. TakesScalar real bytes.now count draft.old draft.new) }
     ensures draft { Continues draft.old draft.new }
 {
-    append_other_real(bytes, false, draft)
+    append_real(bytes, false, draft)
+}
+
+/// The `,` or `)` at the front, behind separators: what stands behind it.
+#[inline(always)]
+fn append_mark<'a>(bytes: &'a [u8], draft: &mut Draft) -> Option<&'a [u8]>
+    ensures some { IfSome result (λ rest. TakesMark bytes.now rest.now draft.old draft.new) }
+    ensures none { IfNone result (draft.new ≡ draft.old) }
+{
+    if let Some(rest) = append_next_delimiter(b',', bytes, draft) {
+        return Some(rest);
+    }
+    let rest = append_next_delimiter(b')', bytes, draft)?;
+    Some(rest)
 }

@@ -1,14 +1,17 @@
-ghost use Rattle.std.specs.Prelude.{◌≡◌, List, ◌++◌, Contains, IfOk, IfSome, OnOk};
+ghost use Rattle.std.specs.Prelude.{◌≡◌, List, ◌++◌, Contains, IfOk, IfSome, IsTrue, OnOk};
 ghost use Rattle.p21_express_graph.specs.DirectRenaming.{ComesTo};
 ghost use Rattle.p21_schema.specs.OwnSets.{LeavesOpen};
 ghost use Rattle.p21_express_graph.specs.Resolved.{IsEntity, IsPlace, IsTypeUse};
 ghost use Rattle.p21_express_graph.specs.Meaning.{place as place_of, type_use};
 ghost use Rattle.p21_spec_schema.specs.Order.{order, own_places, places};
-ghost use Rattle.p21_spec_schema.specs.PlaceType.{TypeAt, stored_place, two_redeclarations};
+ghost use Rattle.p21_spec_schema.specs.PlaceType.{PlaceType as MeantPlaceType, TypeAt, stored_place, two_redeclarations};
 ghost use Rattle.p21_spec_schema.specs.Schema as meant;
 ghost use Rattle.p21_spec_schema.specs.Schema.{Place as MeantPlace};
-ghost use Rattle.p21_shorter_instances.specs.Steps.{AreStepsAt, IsStepAt};
+ghost use Rattle.p21_shorter_instances.specs.Prepared as prepared;
+ghost use Rattle.p21_shorter_instances.specs.Steps.{AreReals, AreStepsAt, IsStepAt, Prepares, step_view};
 
+use crate::aggregate::{are_compared, element_of};
+use crate::reals::is_real;
 use p21_express_graph::{EntityId, Place, PlaceType, TypeUse};
 use p21_schema::{Base, Schema};
 use p21_values::NoMemory;
@@ -21,6 +24,8 @@ pub enum Step {
     Derived,
     /// A value of a type that comes down to this one, or `$` where it is OPTIONAL. No aggregates stand in it, one in another.
     Stored(bool, TypeUse),
+    /// An aggregate of a type that comes down to this one, whose elements are reals that aren't compared.
+    Reals(TypeUse),
     /// What may stand at this place of an instance whose set is the entity and its supertypes. The schema says it, so that no
     /// type of aggregates in aggregates is copied.
     Placed(EntityId, Place),
@@ -109,12 +114,42 @@ fn step_at(alloc: Global, schema: &Schema, entity: EntityId, place: Place) -> Re
         PlaceType::Stored(optional, of) => {
             let found = reduced_type(alloc, schema, of)?;
             match found {
-                Some(last) => Ok(Step::Stored(optional, last)),
+                Some(last) => Ok(stored_step(schema, optional, last)),
                 None => Ok(Step::Placed(entity, place)),
             }
         }
         PlaceType::Two => unreachable!(),
     }
+}
+
+/// What may stand where values of this type do.
+fn stored_step(schema: &Schema, optional: bool, last: TypeUse) -> Step
+    requires { IsTypeUse schema.now (type_use last) }
+    ensures { (at : MeantPlaceType) → Prepares schema.now at (prepared.stored_step optional (type_use last))
+        → Prepares schema.now at (step_view result) }
+{
+    if optional {
+        return Step::Stored(optional, last);
+    }
+    if are_reals(schema, &last) {
+        return Step::Reals(last);
+    }
+    Step::Stored(optional, last)
+}
+
+/// Whether the elements of an aggregate of this type are reals that aren't compared, none of which may be left out.
+fn are_reals(schema: &Schema, of: &TypeUse) -> bool
+    requires { IsTypeUse schema.now (type_use of.now) }
+    ensures { IsTrue result → AreReals schema.now (type_use of.now) }
+{
+    let Some((optional, element)) = element_of(of) else {
+        return false;
+    };
+    if optional || are_compared(of) {
+        return false;
+    }
+    schema.holds_together();
+    is_real(&schema.base(element))
 }
 
 /// What a type comes down to, where that is no declared type; else the type. None where aggregates stand in it, one in another.

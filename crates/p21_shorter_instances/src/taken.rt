@@ -7,10 +7,16 @@ use std::alloc::Global;
 
 /// What is taken of an instance, straight from its bytes: the draft of its canonical line, and what its references need, in the
 /// order in which they are named.
-#[derive(Drop)]
 pub struct Taken {
     pub draft: Draft,
     pub needs: Vec<Need>,
+}
+
+// Written out: crates above call it, where they would prove a derived one field by field.
+impl Drop for Taken {
+    fn drop(self) {
+        let Taken { draft: _, needs: _ } = self;
+    }
 }
 
 impl Taken {

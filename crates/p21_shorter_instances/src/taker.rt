@@ -1,18 +1,20 @@
-//! What takes instances straight from their bytes, one after the other, with what it needs for that (ISO 10303-21, data
-//! sections).
+//! What takes instances straight from their bytes, one after the other, with what it keeps of the schema for that (ISO
+//! 10303-21, data sections).
 //!
-//! A session has one `Taker`, and keeps it from piece to piece: so what is prepared of the schema is prepared once, and
-//! there is one room for a line and for references.
-ghost use Rattle.std.specs.Prelude.{◌≡◌, ◌≤◌, [], List, ℕ, take, length, IfOk, IfSome, IsTrue};
+//! A session has one `Taker`, and one `Taken` as the room for a line and for references, and keeps them from piece to
+//! piece: so what is prepared of the schema is prepared once. What is found of an instance is lent by both. They are
+//! apart, since what a call takes by `&mut` ends as a clause says only where what it lends is all that was written last.
+ghost use Rattle.std.specs.Borrow.{sem};
+ghost use Rattle.std.specs.Prelude.{◌≡◌, ◌≤◌, [], take, length, IfOk, IsTrue};
 ghost use Rattle.p21_mapping.specs.Checked.{needs_view};
 ghost use Rattle.p21_mapping_values.specs.TypedView.{ids_view};
 ghost use Rattle.p21_spec_schema.specs.Schema.{Schema as Meant};
-ghost use Rattle.p21_shorter_instances.specs.Instance.{HasEntities};
 ghost use Rattle.p21_shorter_instances.specs.Leaving.{BeginsWithMark, RefusesAtMark};
-ghost use Rattle.p21_shorter_instances.specs.Taker.{HasTaken, IsInstance, IsTakerOf};
+ghost use Rattle.p21_shorter_instances.specs.Lending.{RestsTaker};
+ghost use Rattle.p21_shorter_instances.specs.Taker.{HasBegun, IsInstance, IsTakerOf};
 
 use crate::given_up::GivenUp;
-use crate::instance::{Set, take_instance};
+use crate::instance::{Begun, begin_instance, end_instance};
 use crate::plan::Plan;
 use crate::sets::Sets;
 use crate::taken::Taken;
@@ -20,16 +22,13 @@ use p21_express_graph::EntityId;
 use p21_mapping_values::Need;
 use p21_schema::Schema;
 use p21_shorter_tokens::{Draft, behind_separators};
-use p21_values::Name;
 use std::alloc::Global;
 
 /// The most bytes of a canonical line that is made so.
 const ROOM_OF_A_LINE: usize = 16_384;
 
-/// What takes usual instances straight from their bytes.
+/// What takes usual instances straight from their bytes: what is kept of the schema for them.
 pub struct Taker {
-    // The line and the references of the instance that was taken last.
-    pub taken: Taken,
     // What instances of internal mapping need of the schema.
     pub plan: Plan,
     // The sets of instances of external mapping.
@@ -39,27 +38,17 @@ pub struct Taker {
 // Written out: crates above call it, where they would prove a derived one field by field.
 impl Drop for Taker {
     fn drop(self) {
-        let Taker {
-            taken: _,
-            plan: _,
-            sets: _,
-        } = self;
+        let Taker { plan: _, sets: _ } = self;
     }
 }
 
-/// An instance that was taken: its name, its set, and how many bytes it has with the separators before it.
-#[derive(Debug, Clone, Copy)]
-pub struct TakenInstance {
-    pub name: Name,
-    pub set: Set,
-    pub count: usize,
-}
-
-/// What is found of an instance that was taken: its name, its entities, rising by name, its canonical line without a line feed, and
-/// what its references need.
+/// What is found of an instance that was taken: the number that is its name, how many bytes it has with the separators before it, its
+/// entities, rising by name, its canonical line without a line feed, and what its references need.
 #[derive(Debug, Clone, Copy)]
 pub struct Found<'t> {
-    pub name: Name,
+    // No `Name`: of what holds a value of such a type no call can lend with a clause that says how the lender ends.
+    pub number: u64,
+    pub count: usize,
     pub entities: &'t [EntityId],
     pub line: &'t [u8],
     pub needs: &'t [Need],
@@ -70,73 +59,69 @@ impl Taker {
     pub fn new(alloc: Global) -> Taker
         ensures { (s : Meant) → IsTakerOf s result }
     {
-        let taken = Taken::new(alloc);
         let plan = Plan::new(alloc);
         let sets = Sets::new(alloc);
-        Taker { taken, plan, sets }
+        Taker { plan, sets }
     }
 
-    /// Takes the instance at the beginning of a piece, where it stands there whole and is usual.
+    /// Takes the instance at the beginning of a piece, where it stands there whole and is usual: what is found of it. Its line and
+    /// its references stand in `taken`, in place of those before.
     ///
     /// # Errors
     ///
     /// Why it isn't taken: it isn't usual, or memory was refused for it.
     #[inline(always)]
-    pub fn take(&mut self, schema: &Schema, piece: &[u8]) -> Result<TakenInstance, GivenUp>
+    pub fn take<'t>(
+        &'t mut self,
+        schema: &Schema,
+        piece: &[u8],
+        taken: &'t mut Taken,
+    ) -> Result<Found<'t>, GivenUp>
         requires { IsTakerOf schema.now self.old }
-        ensures takes { IfOk result (λ taken. HasTaken schema.now self.new taken piece.now) }
-        ensures within { IfOk result (λ taken. taken.count ≤ length piece.now) }
+        ensures* taker { sem 𝓛 (RestsTaker schema.now self.entry) }
+        ensures takes { IfOk result (λ found. IsInstance schema.now found.number (ids_view found.entities.now) (take found.count piece.now)
+            found.line.now (needs_view found.needs.now)) }
+        ensures within { IfOk result (λ found. found.count ≤ length piece.now) }
         ensures at_mark { RefusesAtMark result piece.now }
-        ensures taker { IsTakerOf schema.now self.new }
     {
-        have_room(piece, &mut self.taken.draft)?;
-        forget(&mut self.taken);
-        let instance = match take_instance(
-            schema,
-            &mut self.plan,
-            &mut self.sets,
-            piece,
-            &mut self.taken,
-        ) {
-            Ok(instance) => instance,
+        have_room(piece, &mut taken.draft)?;
+        forget(taken);
+        let begun = match begin_instance(schema, &mut self.plan, &mut self.sets, piece, taken) {
+            Ok(begun) => begun,
             Err(why) => return Err(why),
         };
-        Ok(TakenInstance {
-            name: instance.name,
-            set: instance.set,
-            count: piece.len() - instance.rest.len(),
-        })
+        self.end(schema, piece, begun, taken)
     }
 
-    /// What is found of the instance that was taken last. It takes no memory.
+    /// Takes the rest of an instance.
     #[inline(always)]
-    pub fn found(&self, taken: TakenInstance) -> Option<Found<'_>>
-        ensures found { (s : Meant) (piece : List ℕ) → IsTakerOf s self.now → HasTaken s self.now taken piece
-            → IfSome result (λ found. IsInstance s found.name (ids_view found.entities.now) (take taken.count piece) found.line.now
-            (needs_view found.needs.now)) }
-        ensures name { IfSome result (λ found. found.name ≡ taken.name) }
+    fn end<'t>(
+        &'t self,
+        schema: &Schema,
+        piece: &[u8],
+        begun: Begun<'_>,
+        taken: &'t mut Taken,
+    ) -> Result<Found<'t>, GivenUp>
+        requires taker { IsTakerOf schema.now self.now }
+        requires begun { HasBegun schema.now self.now.sets begun piece.now taken.old }
+        requires mark { BeginsWithMark piece.now }
+        ensures takes { IfOk result (λ found. IsInstance schema.now found.number (ids_view found.entities.now) (take found.count piece.now)
+            found.line.now (needs_view found.needs.now)) }
+        ensures within { IfOk result (λ found. found.count ≤ length piece.now) }
+        ensures at_mark { RefusesAtMark result piece.now }
     {
-        let entities = self.entities(taken.set)?;
-        Some(Found {
-            name: taken.name,
+        let (entities, rest) = end_instance(
+            schema, &self.plan, &self.sets, begun.set, begun.rest, taken,
+        )?;
+        // What is lent is lent from behind a `&`.
+        let taken: &Taken = taken;
+        Ok(Found {
+            number: begun.number,
+            count: piece.len() - rest.len(),
             entities,
-            line: self.taken.draft.between(0, self.taken.draft.len()),
-            needs: &self.taken.needs,
+            line: taken.draft.between(0, taken.draft.len()),
+            needs: &taken.needs,
         })
-    }
-
-    /// The entities of a set, rising by name.
-    #[inline(always)]
-    fn entities(&self, set: Set) -> Option<&[EntityId]>
-        ensures { (s : Meant) → IsTakerOf s self.now → IfSome result (λ entities. HasEntities s self.now.sets set (ids_view entities.now)) }
-    {
-        match set {
-            Set::Own(entity) => {
-                let row = self.plan.row(entity)?;
-                Some(&row.entities)
-            }
-            Set::Numbered(at) => self.sets.get(at),
-        }
     }
 }
 
@@ -152,6 +137,7 @@ fn have_room(piece: &[u8], draft: &mut Draft) -> Result<(), GivenUp>
 }
 
 /// Makes the room where an instance begins: so between statements no memory is asked for.
+#[cold]
 #[inline(never)]
 fn make_room(piece: &[u8], draft: &mut Draft) -> Result<(), GivenUp>
     ensures { RefusesAtMark result piece.now }

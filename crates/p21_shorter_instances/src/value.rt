@@ -79,6 +79,13 @@ pub(crate) fn append_value<'a>(
             };
             append_stored(&at, bytes, taken)
         }
+        Step::Reals(of) => {
+            schema.well_formed();
+            let Some(count) = append_all_reals(of, bytes, &mut taken.draft) else {
+                return Err(GivenUp::NotUsual);
+            };
+            Ok(&bytes[count..])
+        }
         Step::Placed(entity, place) => {
             let at = schema.own_type(*entity, *place);
             let count = append_placed(schema, at, bytes, taken)?;

@@ -1,5 +1,5 @@
 -- Reals: the digits that are written, and the token that they are of.
-use Rattle.std.proofs.Common.{◌≡◌, ◌≢◌, ℕ, zero, suc, ◌+◌, ◌-◌, ◌<◌, ◌≤◌, ℤ, pos, ◌+ℤ◌, ◌-ℤ◌, Bool, true, false, List, [], ◌∷◌, ◌++◌, length, take, drop, get_or, replicate, Ok, Some, if◌then◌else◌, refl, ap, ap₂, sym, subst, ◌∙◌, arith, append_assoc, append-nil, length-append, length-drop, length-take-le}
+use Rattle.std.proofs.Common.{◌≡◌, ◌≢◌, ◌⊎◌, inl, inr, ℕ, zero, suc, ◌+◌, ◌-◌, ◌<◌, ◌≤◌, ℤ, pos, ◌+ℤ◌, ◌-ℤ◌, Bool, true, false, List, [], ◌∷◌, ◌++◌, length, take, drop, get_or, replicate, Ok, Some, if◌then◌else◌, refl, ap, ap₂, sym, subst, ◌∙◌, arith, append_assoc, append-nil, length-append, length-drop, length-take-le}
 use Rattle.std.proofs.lemmas.Int.{ints}
 use Rattle.std.proofs.lemmas.List.{drop-take, take-append-drop, take_all}
 use Rattle.std.proofs.Math.Seq.{drop-append_seam, take-append_seam}
@@ -215,6 +215,14 @@ module _ (bytes unsigned decimals rest : List ℕ) (count places : ℕ) (negativ
 
   pub real-at_front : ReducesRatio (digits_ratio negative (take count unsigned) (take places decimals) k) (Ok d) → IsLeadingToken bytes (length bytes - length rest) (real d)
   real-at_front keeps = real-token bytes (take count unsigned) (take places decimals) rest negative end.power k d placed end.value_is end.no_exponent keeps
+
+  pub real-behind : drop (length bytes - length rest) bytes ≡ rest
+  real-behind = behind-count bytes _ rest (real_front bytes (take count unsigned) (take places decimals) rest negative end.power placed)
+
+-- a `,` or a `)` is no exponent
+pub mark-first : (mark : ℕ) (rest : List ℕ) → (mark ≡ 44) ⊎ (mark ≡ 41) → BeginsWithoutByte 69 (mark ∷ rest)
+mark-first mark rest (inl is) = λ e. omega (arith, is, e)
+mark-first mark rest (inr is) = λ e. omega (arith, is, e)
 
 -- a whole number, and the real of the same ratio
 pub whole_number : (z : ℤ) (d : Decimal) → ReducesRatio (whole_ratio z) (Ok d) → IsReduced d × IsInRange (ratio_of d) × SameRatio (ratio_of d) (whole_ratio z)

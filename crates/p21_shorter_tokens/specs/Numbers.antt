@@ -1,5 +1,5 @@
 -- Reals, and whole numbers where a NUMBER may stand.
-use Rattle.std.specs.Prelude.{◌≡◌, ℕ, ◌^◌, ◌<◌, ℤ, nat_abs, Bool, true, false, List, [], ◌∷◌, ◌++◌, Ok, Some, if◌then◌else◌}
+use Rattle.std.specs.Prelude.{◌≡◌, ◌⊎◌, ℕ, ◌+◌, ◌/◌, ◌%◌, nat_lt, drop, ◌^◌, ◌<◌, ℤ, nat_abs, Bool, true, false, List, [], ◌∷◌, ◌++◌, Ok, Some, if◌then◌else◌}
 use Rattle.p21_spec_exchange.specs.Number.{Decimal, Exponent, IsExponentInRange, IsReduced, IsInRange, Ratio, SameRatio, ratio_of, whole_ratio}
 use Rattle.p21_spec_exchange.specs.Spelling.{exponent_spelling, spelling}
 use Rattle.p21_spec_exchange.specs.Token.{real, whole}
@@ -21,6 +21,25 @@ pub data AppendsNumberToken (wholes : Bool) (bytes : List ℕ) (count : ℕ) (ol
 abbrev pub AppendsNumber : Bool → Ratio → List ℕ → List ℕ → Type 0
 AppendsNumber true ratio old new = (d : Decimal) × ReducesRatio ratio (Ok d) × (new ≡ old ++ spelling (real d))
 AppendsNumber false ratio old new = Continues old new
+
+-- the same with a byte behind it
+abbrev pub AppendsNumberBefore : ℕ → Ratio → List ℕ → List ℕ → Type 0
+AppendsNumberBefore mark ratio old new = (between : List ℕ) × AppendsNumber true ratio old between × (new ≡ between ++ mark ∷ [])
+
+-- A real stands at the front, and a `,` or a `)` right behind it ends so many bytes. Its canonical spelling and this byte are appended
+pub record AppendsMarkedReal (bytes : List ℕ) (count : ℕ) (old new : List ℕ) : Type 0 where
+  pub size : ℕ
+  pub between : List ℕ
+  pub mark : ℕ
+  pub real : (wholes : Bool) → AppendsNumberToken wholes bytes size old between
+  pub is_mark : (mark ≡ 44) ⊎ (mark ≡ 41)
+  pub marks : drop size bytes ≡ mark ∷ drop count bytes
+  pub ends : count ≡ size + 1
+  pub appended : new ≡ between ++ mark ∷ []
+
+-- the digits of a number that has at most two
+abbrev pub few_digits : ℕ → List ℕ
+few_digits value = if nat_lt value 10 then (48 + value) ∷ [] else (48 + value / 10) ∷ (48 + value % 10) ∷ []
 
 -- a minus or none, the digits without the zeros at the end, the first of them before the point
 abbrev pub signed_significand : Bool → List ℕ → List ℕ

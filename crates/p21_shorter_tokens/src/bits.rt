@@ -10,6 +10,7 @@ use p21_scan::scan_binary;
 const MOST_HEX_DIGITS: usize = 65_536;
 
 /// Appends the binary at the front: how many bytes it has, and how many bits.
+#[cold]
 #[inline(never)]
 pub fn append_bits(bytes: &[u8], draft: &mut Draft) -> Option<(usize, usize)>
     ensures some { IfSome result (λ front. (value : List Bool) × (front.1 ≡ length value) × AppendsToken bytes.now front.0 (bits value) draft.old draft.new) }

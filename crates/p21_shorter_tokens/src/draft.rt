@@ -112,6 +112,7 @@ impl Draft {
     }
 
     /// Appends bytes; says whether there was room.
+    #[cold]
     #[inline(never)]
     pub fn append(&mut self, bytes: &[u8]) -> bool
         ensures { AppendsAllOrNone result bytes.now self.old self.new }

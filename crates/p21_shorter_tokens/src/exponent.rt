@@ -1,9 +1,9 @@
 //! The exponent of a real (ISO 10303-21, clause 6: tokens, real).
-ghost use Rattle.std.specs.Prelude.{◌≡◌, ◌+◌, ◌<◌, ◌≤◌, ◌<ℤ◌, ◌≤ℤ◌, pos, true, false, [], ◌∷◌, ◌++◌, length, nat_abs, take, IfSome, if◌then◌else◌};
+ghost use Rattle.std.specs.Prelude.{◌≡◌, ◌+◌, ◌<◌, ◌≤◌, ◌<ℤ◌, ◌≤ℤ◌, ◌-ℤ◌, pos, true, false, [], ◌∷◌, ◌++◌, length, nat_abs, take, IfSome, if◌then◌else◌};
 ghost use Rattle.p21_spec_exchange.proofs.Forms.{NoDigitFirst};
 ghost use Rattle.p21_spec_exchange.specs.Spelling.{exponent_spelling};
 ghost use Rattle.p21_shorter_tokens.specs.Appending.{AppendsAllOrNone, AppendsAllOrSome};
-ghost use Rattle.p21_shorter_tokens.specs.Numbers.{EndsReal};
+ghost use Rattle.p21_shorter_tokens.specs.Numbers.{EndsReal, few_digits};
 
 use crate::draft::Draft;
 use p21_scan::{begins_exponent, exponent_value, scan_exponent};
@@ -23,6 +23,7 @@ pub(crate) fn split_exponent(bytes: &[u8]) -> Option<(i32, &[u8])>
     Some((0, bytes))
 }
 
+#[cold]
 #[inline(never)]
 fn written_exponent(bytes: &[u8]) -> Option<(i32, &[u8])>
     requires { NoDigitFirst bytes.now }
@@ -82,6 +83,56 @@ pub(crate) fn write_exponent(exponent: i32, room: &mut [u8], at: usize) -> usize
     room[digits] = b'0' + (value / 10) as u8;
     room[digits + 1] = b'0' + (value % 10) as u8;
     digits + 2
+}
+
+/// Writes an exponent of at most two digits that isn't below zero: where the text ends behind it. For 0 nothing is written.
+#[inline(always)]
+pub(crate) fn write_raised(value: usize, room: &mut [u8], at: usize) -> usize
+    requires small { value < 100 }
+    requires room { at + LONGEST ≤ length room.old }
+    ensures text { take result room.new ≡ take at room.old ++ exponent_spelling (pos value) }
+    ensures within { result ≤ at + LONGEST }
+    ensures len { length room.new ≡ length room.old }
+{
+    if value == 0 {
+        return at;
+    }
+    room[at] = b'E';
+    write_digits(value, room, at + 1)
+}
+
+/// Writes an exponent that is so much below zero, of at most two digits: where the text ends behind it.
+#[inline(always)]
+pub(crate) fn write_lowered(value: usize, room: &mut [u8], at: usize) -> usize
+    requires some { 0 < value }
+    requires small { value < 100 }
+    requires room { at + LONGEST ≤ length room.old }
+    ensures text { take result room.new ≡ take at room.old ++ exponent_spelling (pos 0 -ℤ pos value) }
+    ensures within { result ≤ at + LONGEST }
+    ensures len { length room.new ≡ length room.old }
+{
+    let sign = at + 1;
+    room[at] = b'E';
+    room[sign] = b'-';
+    write_digits(value, room, at + 2)
+}
+
+/// Writes a number of at most two digits at a place: where the text ends behind it.
+#[inline(always)]
+fn write_digits(number: usize, room: &mut [u8], at: usize) -> usize
+    requires small { number < 100 }
+    requires room { at + 2 ≤ length room.old }
+    ensures text { take result room.new ≡ take at room.old ++ few_digits number }
+    ensures few { result ≤ at + 2 }
+    ensures len { length room.new ≡ length room.old }
+{
+    if number < 10 {
+        room[at] = b'0' + number as u8;
+        return at + 1;
+    }
+    room[at] = b'0' + (number / 10) as u8;
+    room[at + 1] = b'0' + (number % 10) as u8;
+    at + 2
 }
 
 /// Writes `E`, and a minus or none.

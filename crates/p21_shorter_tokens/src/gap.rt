@@ -44,6 +44,7 @@ fn is_blank(byte: u8) -> bool
 }
 
 /// What stands behind any number of separators.
+#[cold]
 #[inline(never)]
 fn behind_many(bytes: &[u8]) -> &[u8]
     ensures { PassesSeparators bytes.now result.now }

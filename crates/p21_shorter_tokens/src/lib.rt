@@ -16,8 +16,11 @@
 //! refuses it may try the next way with the draft as it was (`append_other_real`). Every other real is cut by the
 //! scanner (`append_far`). Elements that are reals and aren't compared have a loop of their own (`reals` of
 //! `p21_shorter_instances`), whose promise speaks of no schema (`specs/Reals`); it looks for separators before a real
-//! only where a blank stands first or no plain real does. A string that isn't its own canonical spelling is taken unit
-//! by unit (`respelled_text` of `p21_shorter_tokens`). A directive of groups of four digits is taken group by group,
+//! only where a blank stands first or no plain real does. There a real is taken together with the `,` or `)` right
+//! behind it (`append_marked_real`): that byte says by itself that no exponent follows, and the room for it is known. A
+//! call that is rare on the way of usual instances is marked `cold`, so that LLVM lays it out apart and keeps the
+//! registers for what is usual. A string that isn't its own canonical spelling is taken unit by unit (`respelled_text`
+//! of `p21_shorter_tokens`). A directive of groups of four digits is taken group by group,
 //! and everything else by the steps of the automaton; `proofs/TextSound` of `p21_tokens_automaton` says what these lead
 //! to.
 #![tactic(auto)]
@@ -48,5 +51,5 @@ pub use item::{append_item, append_logical};
 pub use keyword::{append_keyword, leading_keyword};
 pub use name::append_name;
 pub use number::append_whole;
-pub use real::{append_other_real, append_plain_real, append_real};
+pub use real::{append_marked_real, append_real};
 pub use text::append_text;

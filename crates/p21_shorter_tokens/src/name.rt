@@ -43,6 +43,7 @@ fn append_spelling(bytes: &[u8], count: usize, digits: &[u8], draft: &mut Draft)
 }
 
 /// The same with the first digits zeros.
+#[cold]
 #[inline(never)]
 fn append_padded(digits: &[u8], draft: &mut Draft) -> bool
     requires digits { AllDigits digits.now }

@@ -1,8 +1,8 @@
 //! Where the parts of a real stand.
 ghost use Rattle.std.specs.Prelude.{◌+◌, ◌≤◌, length, IfSome};
-ghost use Rattle.p21_shorter_tokens.specs.Places.{HasPlaces};
+ghost use Rattle.p21_shorter_tokens.specs.Places.{HasPlaces, ShowDigits};
 
-use crate::masks::real_masks;
+use crate::masks::{digit_masks, real_masks};
 
 /// Where the parts of a real stand, counted from its first byte.
 #[derive(Clone, Copy)]
@@ -23,7 +23,20 @@ pub fn real_places(bytes: &[u8], at: usize) -> Option<Places>
     requires { at + 32 ≤ length bytes.now }
     ensures { IfSome result (λ places. HasPlaces bytes.now at places.point places.end places.first places.behind) }
 {
+    let (low, zeros) = digit_masks(bytes, at);
+    if low & low.wrapping_sub(1) != 0 {
+        return shown_places(bytes, at, low, zeros);
+    }
     let (others, zeros) = real_masks(bytes, at);
+    shown_places(bytes, at, others, zeros)
+}
+
+/// The same by what two masks show.
+#[inline(always)]
+fn shown_places(bytes: &[u8], at: usize, others: u64, zeros: u64) -> Option<Places>
+    requires { ShowDigits bytes.now at others zeros }
+    ensures { IfSome result (λ places. HasPlaces bytes.now at places.point places.end places.first places.behind) }
+{
     if others == 0 {
         return None;
     }

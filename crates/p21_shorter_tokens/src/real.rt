@@ -1,11 +1,11 @@
 //! Reals, and whole numbers where a NUMBER may stand (ISO 10303-21, clause 6: tokens, real and integer).
-ghost use Rattle.std.specs.Prelude.{◌≡◌, Bool, IsTrue, false, ℕ, ℤ, ◌+◌, ◌^◌, ◌<◌, ◌≤◌, ◌++◌, length, drop, nat_abs, take, true, IfNone, IfSome};
+ghost use Rattle.std.specs.Prelude.{◌≡◌, ◌⊎◌, Bool, IsTrue, false, ℕ, ℤ, ◌+◌, ◌^◌, ◌<◌, ◌≤◌, ◌++◌, length, drop, nat_abs, take, true, IfNone, IfSome};
 ghost use Rattle.p21_shorter_tokens.specs.Places.{HasPlaces};
 ghost use Rattle.p21_values.specs.Canonical.{Continues};
 ghost use Rattle.p21_scan.specs.Digits.{HasNoLeadingZero};
 ghost use Rattle.p21_values.specs.RealComponents.{digits_ratio};
 ghost use Rattle.p21_shorter_tokens.specs.Appending.{AppendsAllOrNone};
-ghost use Rattle.p21_shorter_tokens.specs.Numbers.{AppendsNormalised, AppendsNumber, AppendsNumberToken, AppendsWithoutExponent, EndsReal};
+ghost use Rattle.p21_shorter_tokens.specs.Numbers.{AppendsMarkedReal, AppendsNormalised, AppendsNumber, AppendsNumberToken, AppendsWithoutExponent, EndsReal};
 ghost use Rattle.p21_shorter_tokens.specs.Runs.{AreDigits};
 ghost use Rattle.p21_shorter_tokens.specs.Significands.{AppendsSignificand, placed_ratio, significand};
 
@@ -13,7 +13,7 @@ use crate::digits::leading_zeros;
 use crate::draft::{Draft, WIDE};
 use crate::exponent::{append_exponent, append_minus, split_exponent};
 use crate::places::{Places, real_places};
-use crate::significand::{append_scaled, append_zero};
+use crate::significand::{append_marked, append_scaled, append_zero};
 use p21_scan::{begins_exponent, exponent_value, scan_number, split_sign};
 
 /// A number with more digits on one side of the point isn't usual.
@@ -56,7 +56,36 @@ pub fn append_plain_real(bytes: &[u8], draft: &mut Draft) -> Option<usize>
     Some(bytes.len() - behind.len())
 }
 
+/// Appends the real at the front, if it has no exponent and its digits end near, and the `,` or `)` right behind it: how many bytes
+/// both have.
+#[inline(always)]
+pub fn append_marked_real(bytes: &[u8], draft: &mut Draft) -> Option<usize>
+    ensures some { IfSome result (λ count. AppendsMarkedReal bytes.now count draft.old draft.new) }
+    ensures none { IfNone result (draft.new ≡ draft.old) }
+{
+    let (negative, unsigned) = split_sign(bytes);
+    let places = near_places(unsigned)?;
+    let mark = unsigned[places.end];
+    if !is_mark(mark) {
+        return None;
+    }
+    if !append_marked(negative, unsigned, &places, mark, draft) {
+        return None;
+    }
+    let behind = &unsigned[places.end..];
+    Some(bytes.len() - behind.len() + 1)
+}
+
+/// Whether the byte is a `,` or a `)`.
+#[inline(always)]
+fn is_mark(byte: u8) -> bool
+    ensures { IsTrue result → (byte ≡ 44) ⊎ (byte ≡ 41) }
+{
+    byte == b',' || byte == b')'
+}
+
 /// Appends the real at the front, which has an exponent or doesn't end near, or a whole number: how many bytes it has.
+#[cold]
 #[inline(never)]
 pub fn append_other_real(bytes: &[u8], wholes: bool, draft: &mut Draft) -> Option<usize>
     ensures some { IfSome result (λ count. AppendsNumberToken wholes bytes.now count draft.old draft.new) }
@@ -73,6 +102,7 @@ pub fn append_other_real(bytes: &[u8], wholes: bool, draft: &mut Draft) -> Optio
 }
 
 /// The same for a real of more digits, at the end of a piece, and for a whole number.
+#[cold]
 #[inline(never)]
 fn append_far(bytes: &[u8], wholes: bool, draft: &mut Draft) -> Option<usize>
     ensures some { IfSome result (λ count. AppendsNumberToken wholes bytes.now count draft.old draft.new) }

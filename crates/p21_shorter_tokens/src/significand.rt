@@ -1,12 +1,13 @@
 //! The significand of a real, written by whole rows of bytes, of which some count, and its exponent behind it.
-ghost use Rattle.std.specs.Prelude.{◌≡◌, ℕ, ◌+◌, ◌<◌, ◌≤◌, [], ◌∷◌, ◌++◌, length, nat_abs, take, slice_index, if◌then◌else◌};
+ghost use Rattle.std.specs.Prelude.{◌≡◌, IsTrue, false, true, pos, ℕ, ◌+◌, ◌<◌, ◌≤◌, [], ◌∷◌, ◌++◌, length, nat_abs, take, slice_index, if◌then◌else◌};
 ghost use Rattle.p21_spec_exchange.specs.Spelling.{exponent_spelling};
 ghost use Rattle.p21_shorter_tokens.specs.Places.{HasPlaces};
 ghost use Rattle.p21_shorter_tokens.specs.Appending.{AppendsAllOrNone};
-ghost use Rattle.p21_shorter_tokens.specs.Significands.{further_digits, significand};
+ghost use Rattle.p21_shorter_tokens.specs.Numbers.{AppendsNumber, AppendsNumberBefore};
+ghost use Rattle.p21_shorter_tokens.specs.Significands.{further_digits, placed_ratio, significand};
 
 use crate::draft::{Draft, WIDE, write_wide};
-use crate::exponent::write_exponent;
+use crate::exponent::{write_exponent, write_lowered, write_raised};
 use crate::places::Places;
 use std::simd::prelude::*;
 
@@ -39,6 +40,79 @@ pub(crate) fn append_scaled(
     let end = write_significand(negative, bytes, 0, places, &mut draft.room, used);
     draft.used = write_exponent(power, &mut draft.room, end);
     true
+}
+
+/// Appends the canonical spelling of the number of the digits at these places, and a byte behind it; says whether there was room.
+#[inline(always)]
+pub(crate) fn append_marked(
+    negative: bool,
+    bytes: &[u8],
+    places: &Places,
+    mark: u8,
+    draft: &mut Draft,
+) -> bool
+    requires places { HasPlaces bytes.now 0 places.now.point places.now.end places.now.first places.now.behind }
+    requires bytes { WIDE + WIDE ≤ length bytes.now }
+    ensures whole { IsTrue result → AppendsNumberBefore mark (placed_ratio negative bytes.now 0 places.now.point places.now.end (pos 0))
+        draft.old draft.new }
+    ensures none { result ≡ false → draft.new ≡ draft.old }
+{
+    let used = draft.used;
+    if draft.room.len() - used < ROOM_OF_A_REAL {
+        return false;
+    }
+    draft.used = write_marked(negative, bytes, places, mark, &mut draft.room, used);
+    true
+}
+
+/// Writes the canonical spelling of the number of the digits at these places, and a byte behind it: where the text ends.
+#[inline(always)]
+fn write_marked(
+    negative: bool,
+    bytes: &[u8],
+    places: &Places,
+    mark: u8,
+    room: &mut [u8],
+    used: usize,
+) -> usize
+    requires places { HasPlaces bytes.now 0 places.now.point places.now.end places.now.first places.now.behind }
+    requires bytes { WIDE + WIDE ≤ length bytes.now }
+    requires room { used + WIDE + WIDE + WIDE ≤ length room.old }
+    ensures text { AppendsNumberBefore mark (placed_ratio negative bytes.now 0 places.now.point places.now.end (pos 0)) (take used
+        room.old) (take result room.new) }
+    ensures within { result ≤ used + WIDE + WIDE + WIDE }
+    ensures len { length room.new ≡ length room.old }
+{
+    let end = write_number(negative, bytes, places, room, used);
+    room[end] = mark;
+    end + 1
+}
+
+/// Writes the canonical spelling of the number of the digits at these places: where the text ends behind it.
+#[inline(always)]
+fn write_number(
+    negative: bool,
+    bytes: &[u8],
+    places: &Places,
+    room: &mut [u8],
+    used: usize,
+) -> usize
+    requires places { HasPlaces bytes.now 0 places.now.point places.now.end places.now.first places.now.behind }
+    requires bytes { WIDE + WIDE ≤ length bytes.now }
+    requires room { used + WIDE + WIDE + WIDE ≤ length room.old }
+    ensures text { AppendsNumber true (placed_ratio negative bytes.now 0 places.now.point places.now.end (pos 0)) (take used room.old)
+        (take result room.new) }
+    ensures within { result < used + WIDE + WIDE + WIDE }
+    ensures len { length room.new ≡ length room.old }
+{
+    if places.behind == 0 {
+        return write_front(false, b'0', room, used);
+    }
+    let end = write_significand(negative, bytes, 0, places, room, used);
+    if places.first < places.point {
+        return write_raised(places.point - places.first - 1, room, end);
+    }
+    write_lowered(places.first - places.point, room, end)
 }
 
 /// Appends the spelling of zero; says whether there was room.

@@ -13,28 +13,25 @@ use Rattle.p21_spec_exchange.proofs.Semicolons.{statements-end}
 use Rattle.p21_spec_exchange.specs.Laying.{Lexeme, tokens_in}
 use Rattle.p21_spec_exchange.specs.OpenNesting.{EndsWithSemicolon}
 use Rattle.p21_spec_exchange.specs.Record.{Record}
-use Rattle.p21_spec_exchange.specs.Statement.{Statement, header, instance, section, statement_tokens}
+use Rattle.p21_spec_exchange.specs.Statement.{Statement, data_start, header, instance, section, statement_tokens}
 use Rattle.p21_spec_exchange.specs.Structure.{statements}
 use Rattle.p21_spec_exchange.specs.Token.{Token}
-use Rattle.p21_spec_file.specs.Accepted.{IsAccepted, IsDead}
-use Rattle.p21_spec_file.specs.Meaning.{RecordMeans, Typed}
-use Rattle.p21_spec_file.specs.Reference.{EntitySets}
 use Rattle.p21_spec_laws.proofs.Dead.{name-again, no-meaning}
 use Rattle.p21_spec_laws.proofs.Offenders.{last-among, offender-dead}
 use Rattle.p21_spec_laws.proofs.Statements.{instances-append}
-use Rattle.p21_spec_laws.proofs.TokenPrefixes.{long-source, prefix-taken, statements-ended}
-use Rattle.p21_spec_laws.specs.Offending.{HasFileSize, Offends}
+use Rattle.p21_spec_laws.proofs.TokenPrefixes.{prefix-taken, statements-ended}
 use Rattle.p21_spec_laws.specs.Taken.{AreStatementsEnded, AreStatementsTaken, AreTokensTaken, instances_among, names_among}
-use Rattle.p21_spec_schema.specs.Schema.{Schema}
-use Rattle.p21_spec_schema.specs.WellFormed.{IsWellFormed}
 use Rattle.p21_spec_survey.proofs.Alike.{behind-laid, whole-joined}
 use Rattle.p21_spec_survey.proofs.Readings.{unlisted-taken}
 use Rattle.p21_spec_survey.specs.Laws.{EachIsJudged, EndedIsNotAccepted, GivenAreTaken, GivenBeginFile, KeptAreWhole, ListedIsNotAccepted, NamesDiffer}
+use Rattle.p21_spec_survey.specs.Rules.{AreWellFormed, HasMeaning, HasSize, IsRightFile, OffendsBy, OffendsByItself, Rules, by_itself, early_section, no_name, of_schema, other_schema, section_again, section_of_other_schema}
 use Rattle.p21_spec_survey.specs.Survey.{AreStatement, BeginFile, EndsReading, IsPassedFor, IsRead, IsRefused, IsRefusedInstance, IsToBePassed, Listed, Reading, Subject, at_start, begins_none, broken, ends_early, ends_within, in_instance, leaves_out, name_again, no_file, no_landmark, no_memory, offends, passes_over, read_failed, takes, too_long, wrong_record}
 use Rattle.p21_spec_survey.specs.Survey as survey
 use Rattle.p21_spec_survey.specs.Whole.{AreWhole, BeginsNone}
-use Rattle.p21_spec_syntax.proofs.NoFiles.{no_file-dead, no_file-refused}
-use Rattle.p21_spec_syntax.specs.FileWithin.{IsNoFile}
+use Rattle.p21_spec_syntax.proofs.IllFormed as ill_formed
+use Rattle.p21_spec_syntax.proofs.NoFiles.{no_file-begins, no_file-dead, no_file-ill_formed, no_file-refused, too-long}
+use Rattle.p21_spec_syntax.specs.FileWithin.{BeginsNoFile, IsNoFile}
+use Rattle.p21_spec_syntax.specs.WellFormedFile.{BeginsIllFormed, IsIllFormed}
 
 -- ---- the kept bytes are the statements given
 
@@ -58,17 +55,17 @@ one-kept kept bytes given statement (lexemes, whole, are) is =
     )
 
 pub kept-whole : KeptAreWhole
-kept-whole s limits file read at_start = ([], record { laid = ([], tt, refl); ends = tt }, refl)
-kept-whole s limits file read (takes old bytes rest statement so_far next is begins right) = one-kept old.kept bytes old.given statement (kept-whole s limits file old so_far) is
-kept-whole s limits file read (leaves_out old bytes rest n record_ number start so_far next is begins wrong none_inside at) =
-    one-kept old.kept bytes old.given (instance n record_) (kept-whole s limits file old so_far) is
-kept-whole s limits file read (passes_over old passed rest found number subject start so_far over at) = kept-whole s limits file old so_far
+kept-whole rules limits file read at_start = ([], record { laid = ([], tt, refl); ends = tt }, refl)
+kept-whole rules limits file read (takes old bytes rest statement so_far next is begins right) = one-kept old.kept bytes old.given statement (kept-whole rules limits file old so_far) is
+kept-whole rules limits file read (leaves_out old bytes rest n record_ number start so_far next is begins wrong none_inside at) =
+    one-kept old.kept bytes old.given (instance n record_) (kept-whole rules limits file old so_far) is
+kept-whole rules limits file read (passes_over old passed rest found number subject start so_far over at) = kept-whole rules limits file old so_far
 
 pub given-begin : GivenBeginFile
-given-begin s limits file read at_start = inl refl
-given-begin s limits file read (takes old bytes rest statement so_far next is begins right) = inr begins
-given-begin s limits file read (leaves_out old bytes rest n record_ number start so_far next is begins wrong none_inside at) = inr begins
-given-begin s limits file read (passes_over old passed rest found number subject start so_far over at) = given-begin s limits file old so_far
+given-begin rules limits file read at_start = inl refl
+given-begin rules limits file read (takes old bytes rest statement so_far next is begins right) = inr begins
+given-begin rules limits file read (leaves_out old bytes rest n record_ number start so_far next is begins wrong none_inside at) = inr begins
+given-begin rules limits file read (passes_over old passed rest found number subject start so_far over at) = given-begin rules limits file old so_far
 
 -- ---- each file that begins so has them
 
@@ -88,41 +85,38 @@ pub begun-taken : (kept : List ℕ) (given : List Statement) → AreKept kept gi
 begun-taken kept given are begins = prefix-taken kept (flat_map statement_tokens given) given (first-tokens kept given are) (first-ended given begins)
 
 pub given-taken : GivenAreTaken
-given-taken s limits file read so_far =
-    let are = kept-whole s limits file read so_far in
-    elim (given-begin s limits file read so_far) [
+given-taken rules limits file read so_far =
+    let are = kept-whole rules limits file read so_far in
+    elim (given-begin rules limits file read so_far) [
       | inl none ↦ subst (λ (given : List Statement). AreStatementsTaken read.kept given) (sym none) (λ more bytes structure text is. (statements structure, refl))
       | inr begins ↦ begun-taken read.kept read.given are begins
     ]
 
 -- ---- instances
 
-abbrev Meaningful : Schema → Record → Type 0
-Meaningful s record_ = (kinds : EntitySets) × (meaning : Typed) × RecordMeans s kinds record_ meaning
-
 -- what is listed stays listed
 listed-on : (listed : List Listed) (one : Listed) (n : ℕ) → IsRefused listed n → IsRefused (listed ++ one ∷ []) n
 listed-on listed one n (refusal, among, names) = (refusal, Contains-append_left listed (one ∷ []) refusal among, names)
 
-judged-on : (s : Schema) (record_ : Record) (listed : List Listed) (one : Listed) (n : ℕ) → Meaningful s record_ ⊎ IsRefused listed n → Meaningful s record_ ⊎ IsRefused (listed ++ one ∷ []) n
-judged-on s record_ listed one n (inl means) = inl means
-judged-on s record_ listed one n (inr refused) = inr (listed-on listed one n refused)
+judged-on : (rules : Rules) (record_ : Record) (listed : List Listed) (one : Listed) (n : ℕ) → HasMeaning rules record_ ⊎ IsRefused listed n → HasMeaning rules record_ ⊎ IsRefused (listed ++ one ∷ []) n
+judged-on rules record_ listed one n (inl means) = inl means
+judged-on rules record_ listed one n (inr refused) = inr (listed-on listed one n refused)
 
 pub each-judged : EachIsJudged
-each-judged s limits file read at_start n record_ among = absurd (Contains-none (instance n record_) among)
-each-judged s limits file read (takes old bytes rest statement so_far next is begins right) n record_ among =
+each-judged rules limits file read at_start n record_ among = absurd (Contains-none (instance n record_) among)
+each-judged rules limits file read (takes old bytes rest statement so_far next is begins right) n record_ among =
     elim (Contains-push_cases old.given statement (instance n record_) among) [
-      | inl before ↦ each-judged s limits file old so_far n record_ before
-      | inr same ↦ inl (subst (λ (st : Statement). survey.IsRight s old.given st) same right).0
+      | inl before ↦ each-judged rules limits file old so_far n record_ before
+      | inr same ↦ inl (subst (λ (st : Statement). survey.IsRight rules old.given st) same right).0
     ]
-each-judged s limits file read (leaves_out old bytes rest m other number start so_far next is begins wrong none_inside at) n record_ among =
+each-judged rules limits file read (leaves_out old bytes rest m other number start so_far next is begins wrong none_inside at) n record_ among =
     let one : Listed = record { number = number; subject = in_instance m; begins = start } in
     elim (Contains-push_cases old.given (instance m other) (instance n record_) among) [
-      | inl before ↦ judged-on s record_ old.listed one n (each-judged s limits file old so_far n record_ before)
+      | inl before ↦ judged-on rules record_ old.listed one n (each-judged rules limits file old so_far n record_ before)
       | inr same ↦ (let names : m ≡ n = cc in inr (one, Contains-append_right old.listed (one ∷ []) one (Contains-first one []), ap in_instance names))
     ]
-each-judged s limits file read (passes_over old passed rest found number subject start so_far over at) n record_ among =
-    judged-on s record_ old.listed (record { number = number; subject = subject; begins = start }) n (each-judged s limits file old so_far n record_ among)
+each-judged rules limits file read (passes_over old passed rest found number subject start so_far over at) n record_ among =
+    judged-on rules record_ old.listed (record { number = number; subject = subject; begins = start }) n (each-judged rules limits file old so_far n record_ among)
 
 -- ---- names
 
@@ -145,13 +139,13 @@ one-named taken given statement are n among =
       | inr own ↦ subst (λ (ns : List ℕ). Contains ns n) (sym (names-on given statement)) (Contains-append_right (names_among given) (names_among (statement ∷ [])) n own)
     ]
 
-taken-named : (s : Schema) (limits : Limits) (file : List ℕ) (read : Reading) → IsRead s limits file read → (n : ℕ) → Contains (names_among read.taken) n → Contains (names_among read.given) n
-taken-named s limits file read at_start n among = among
-taken-named s limits file read (takes old bytes rest statement so_far next is begins right) n among =
-    one-named old.taken old.given statement (taken-named s limits file old so_far) n among
-taken-named s limits file read (leaves_out old bytes rest m other number start so_far next is begins wrong none_inside at) n among =
-    named-before old.given (instance m other) n (taken-named s limits file old so_far n among)
-taken-named s limits file read (passes_over old passed rest found number subject start so_far over at) n among = taken-named s limits file old so_far n among
+taken-named : (rules : Rules) (limits : Limits) (file : List ℕ) (read : Reading) → IsRead rules limits file read → (n : ℕ) → Contains (names_among read.taken) n → Contains (names_among read.given) n
+taken-named rules limits file read at_start n among = among
+taken-named rules limits file read (takes old bytes rest statement so_far next is begins right) n among =
+    one-named old.taken old.given statement (taken-named rules limits file old so_far) n among
+taken-named rules limits file read (leaves_out old bytes rest m other number start so_far next is begins wrong none_inside at) n among =
+    named-before old.given (instance m other) n (taken-named rules limits file old so_far n among)
+taken-named rules limits file read (passes_over old passed rest found number subject start so_far over at) n among = taken-named rules limits file old so_far n among
 
 none-twice-on : (ns : List ℕ) (n : ℕ) → NoneTwice ns → ¬ Contains ns n → NoneTwice (ns ++ n ∷ [])
 none-twice-on [] n none new = (λ among. Contains-none n among, tt)
@@ -160,70 +154,118 @@ none-twice-on (m ∷ ns) n none new = (
   none-twice-on ns n none.1 (λ among. new (Contains-later m ns n among)),
 )
 
-names-taken : (s : Schema) (given taken : List Statement) (statement : Statement) → survey.IsRight s given statement
+names-taken : (rules : Rules) (given taken : List Statement) (statement : Statement) → survey.IsRight rules given statement
     → ((n : ℕ) → Contains (names_among taken) n → Contains (names_among given) n) → NoneTwice (names_among taken) → NoneTwice (names_among (taken ++ statement ∷ []))
-names-taken s given taken (section line) right are none = subst NoneTwice (sym (names-on taken (section line) ∙ append-nil (names_among taken))) none
-names-taken s given taken (header part) right are none = subst NoneTwice (sym (names-on taken (header part) ∙ append-nil (names_among taken))) none
-names-taken s given taken (instance n record_) right are none =
+names-taken rules given taken (section line) right are none = subst NoneTwice (sym (names-on taken (section line) ∙ append-nil (names_among taken))) none
+names-taken rules given taken (header part) right are none = subst NoneTwice (sym (names-on taken (header part) ∙ append-nil (names_among taken))) none
+names-taken rules given taken (instance n record_) right are none =
     subst NoneTwice (sym (names-on taken (instance n record_))) (none-twice-on (names_among taken) n none (λ among. right.1 (are n among)))
 
-none-named_twice : (s : Schema) (limits : Limits) (file : List ℕ) (read : Reading) → IsRead s limits file read → NoneTwice (names_among read.taken)
-none-named_twice s limits file read at_start = tt
-none-named_twice s limits file read (takes old bytes rest statement so_far next is begins right) =
-    names-taken s old.given old.taken statement right (taken-named s limits file old so_far) (none-named_twice s limits file old so_far)
-none-named_twice s limits file read (leaves_out old bytes rest m other number start so_far next is begins wrong none_inside at) = none-named_twice s limits file old so_far
-none-named_twice s limits file read (passes_over old passed rest found number subject start so_far over at) = none-named_twice s limits file old so_far
+none-named_twice : (rules : Rules) (limits : Limits) (file : List ℕ) (read : Reading) → IsRead rules limits file read → NoneTwice (names_among read.taken)
+none-named_twice rules limits file read at_start = tt
+none-named_twice rules limits file read (takes old bytes rest statement so_far next is begins right) =
+    names-taken rules old.given old.taken statement right (taken-named rules limits file old so_far) (none-named_twice rules limits file old so_far)
+none-named_twice rules limits file read (leaves_out old bytes rest m other number start so_far next is begins wrong none_inside at) = none-named_twice rules limits file old so_far
+none-named_twice rules limits file read (passes_over old passed rest found number subject start so_far over at) = none-named_twice rules limits file old so_far
 
 pub names-differ : NamesDiffer
-names-differ s limits file read so_far = none_twice-distinct (names_among read.taken) (none-named_twice s limits file read so_far)
+names-differ rules limits file read so_far = none_twice-distinct (names_among read.taken) (none-named_twice rules limits file read so_far)
 
 -- ---- a file of which something is listed
 
+-- no right file begins with these bytes
+abbrev IsDeadBy : Rules → Limits → List ℕ → Type 0
+IsDeadBy rules limits bytes = (more : List ℕ) → Each IsByte more → ¬ IsRightFile rules limits (bytes ++ more)
+
+no-well_formed : (limits : Limits) (bytes : List ℕ) → IsIllFormed limits bytes → ¬ IsRightFile by_itself limits bytes
+no-well_formed limits bytes none (structure, schema, is) = none structure schema is
+
+begins-no_well_formed : (limits : Limits) (bytes : List ℕ) → BeginsIllFormed limits bytes → IsDeadBy by_itself limits bytes
+begins-no_well_formed limits bytes none more are = no-well_formed limits (bytes ++ more) (none more are)
+
 -- a file whose front is dead
-dead-front : (s : Schema) (limits : Limits) (file front rest : List ℕ) → Each IsByte file → file ≡ front ++ rest → IsDead s limits front → ¬ IsAccepted s limits file
-dead-front s limits file front rest bytes same dead accepted =
-    dead rest (Each-back IsByte front rest (subst (λ (bs : List ℕ). Each IsByte bs) same bytes)) (subst (λ (bs : List ℕ). IsAccepted s limits bs) same accepted)
+dead-front : (rules : Rules) (limits : Limits) (file front rest : List ℕ) → Each IsByte file → file ≡ front ++ rest → IsDeadBy rules limits front
+    → ¬ IsRightFile rules limits file
+dead-front rules limits file front rest bytes same dead right =
+    dead rest (Each-back IsByte front rest (subst (λ (bs : List ℕ). Each IsByte bs) same bytes))
+    (subst (λ (bs : List ℕ). IsRightFile rules limits bs) same right)
 
 -- an instance that is refused
-refused-dead : (s : Schema) (limits : Limits) (bytes : List ℕ) (given : List Statement) (n : ℕ) (record_ : Record) (number : ℕ) → IsRefusedInstance s given n record_ number
-    → AreStatementsTaken bytes (given ++ instance n record_ ∷ []) → IsDead s limits bytes
-refused-dead s limits bytes given n record_ number (broken _ nothing breaks) front =
+refused-dead : (rules : Rules) (limits : Limits) (bytes : List ℕ) (given : List Statement) (n : ℕ) (record_ : Record) (number : ℕ)
+    → IsRefusedInstance rules given n record_ number → AreStatementsTaken bytes (given ++ instance n record_ ∷ []) → IsDeadBy rules limits bytes
+refused-dead (of_schema s) limits bytes given n record_ number (broken _ nothing breaks) front =
     no-meaning s limits bytes (given ++ instance n record_ ∷ []) front n record_ (last-among given (instance n record_)) nothing
-refused-dead s limits bytes given n record_ number (name_again among) front = name-again s limits bytes given n record_ front among
+refused-dead (of_schema s) limits bytes given n record_ number (name_again among) front = name-again s limits bytes given n record_ front among
+refused-dead by_itself limits bytes given n record_ number (broken _ nothing breaks) front = absurd nothing
+refused-dead by_itself limits bytes given n record_ number (name_again among) front =
+    begins-no_well_formed limits bytes (ill_formed.name-again limits bytes given n record_ front among)
+
+-- bytes that are no file, or begin none
+no_file-not_right : (rules : Rules) (limits : Limits) (bytes : List ℕ) → IsNoFile bytes → ¬ IsRightFile rules limits bytes
+no_file-not_right (of_schema s) limits bytes none = no_file-refused s limits bytes none
+no_file-not_right by_itself limits bytes none = no-well_formed limits bytes (no_file-ill_formed limits bytes none)
+
+no_file-begins_dead : (rules : Rules) (limits : Limits) (bytes : List ℕ) → BeginsNoFile limits bytes → IsDeadBy rules limits bytes
+no_file-begins_dead (of_schema s) limits bytes none = no_file-dead s limits bytes none
+no_file-begins_dead by_itself limits bytes none = begins-no_well_formed limits bytes (no_file-begins limits bytes none)
+
+-- a statement that is refused by itself
+offender-begins : (limits : Limits) (bytes : List ℕ) (given : List Statement) (statement : Statement) (number : ℕ)
+    → AreStatementsTaken bytes (given ++ statement ∷ []) → OffendsByItself given statement number → BeginsIllFormed limits bytes
+offender-begins limits bytes given statement number front (no_name part chars is none) =
+    ill_formed.no-name limits bytes (given ++ header part ∷ []) front part chars (last-among given (header part)) is none
+offender-begins limits bytes given statement number front (other_schema part chars schema is (before, others, among, is_before, names) other) =
+    ill_formed.other-name limits bytes (given ++ header part ∷ []) front before part others chars schema
+    (Contains-append_left given (header part ∷ []) (header before) among) is_before names (last-among given (header part)) is other
+offender-begins limits bytes given statement number front (section_of_other_schema heading schema (before, others, among, is_before, names) other) =
+    let line : Statement = section (data_start heading) in
+    ill_formed.other-section limits bytes (given ++ line ∷ []) front before others schema
+    (Contains-append_left given (line ∷ []) (header before) among) is_before names heading (last-among given line) other
+offender-begins limits bytes given statement number front (early_section heading none) = ill_formed.early-section limits bytes given heading front none
+offender-begins limits bytes given statement number front (section_again name text among) =
+    ill_formed.section-again limits bytes given name text front among
+
+offender-not_right : (rules : Rules) → AreWellFormed rules → (limits : Limits) (bytes : List ℕ) (given : List Statement) (size : ℕ)
+    → HasSize rules given size → (statement : Statement) (number : ℕ) → AreStatementsTaken bytes (given ++ statement ∷ [])
+    → OffendsBy rules limits given size statement number → IsDeadBy rules limits bytes
+offender-not_right (of_schema s) formed limits bytes given size has statement number front is =
+    offender-dead s formed limits bytes given size has statement number front is
+offender-not_right by_itself formed limits bytes given size has statement number front is =
+    begins-no_well_formed limits bytes (offender-begins limits bytes given statement number front is)
 
 -- what is read where nothing is listed so far
-module _ (s : Schema) (limits : Limits) (file : List ℕ) (read : Reading) (bytes : Each IsByte file) (so_far : IsRead s limits file read) (none : read.listed ≡ []) where
+module _ (rules : Rules) (limits : Limits) (file : List ℕ) (read : Reading) (bytes : Each IsByte file) (so_far : IsRead rules limits file read) (none : read.listed ≡ []) where
   all_kept : read.kept ≡ read.bytes
-  all_kept = (unlisted-taken s limits file read so_far none).0
+  all_kept = (unlisted-taken rules limits file read so_far none).0
 
   -- behind it a statement is whole
   one-taken : (front : List ℕ) (statement : Statement) → AreStatement front statement → BeginFile (read.given ++ statement ∷ []) → AreStatementsTaken (read.bytes ++ front) (read.given ++ statement ∷ [])
   one-taken front statement is begins =
-      let are = one-kept read.kept front read.given statement (kept-whole s limits file read so_far) is in
+      let are = one-kept read.kept front read.given statement (kept-whole rules limits file read so_far) is in
       subst (λ (bs : List ℕ). AreStatementsTaken (bs ++ front) (read.given ++ statement ∷ [])) all_kept (begun-taken (read.kept ++ front) (read.given ++ statement ∷ []) are begins)
 
   regrouped : (front rest : List ℕ) → file ≡ read.bytes ++ (front ++ rest) → file ≡ (read.bytes ++ front) ++ rest
   regrouped front rest next = next ∙ sym (append_assoc read.bytes front rest)
 
   instance-not_accepted : (front rest : List ℕ) (n : ℕ) (record_ : Record) (number : ℕ) → file ≡ read.bytes ++ (front ++ rest) → AreStatement front (instance n record_)
-      → BeginFile (read.given ++ instance n record_ ∷ []) → IsRefusedInstance s read.given n record_ number → ¬ IsAccepted s limits file
+      → BeginFile (read.given ++ instance n record_ ∷ []) → IsRefusedInstance rules read.given n record_ number → ¬ IsRightFile rules limits file
   instance-not_accepted front rest n record_ number next is begins wrong =
-      dead-front s limits file (read.bytes ++ front) rest bytes (regrouped front rest next)
-      (refused-dead s limits (read.bytes ++ front) read.given n record_ number wrong (one-taken front (instance n record_) is begins))
+      dead-front rules limits file (read.bytes ++ front) rest bytes (regrouped front rest next)
+      (refused-dead rules limits (read.bytes ++ front) read.given n record_ number wrong (one-taken front (instance n record_) is begins))
 
   -- no file begins so
-  begun-not_accepted : (front rest : List ℕ) → file ≡ read.bytes ++ (front ++ rest) → BeginsNone (read.kept ++ front) → ¬ IsAccepted s limits file
+  begun-not_accepted : (front rest : List ℕ) → file ≡ read.bytes ++ (front ++ rest) → BeginsNone (read.kept ++ front) → ¬ IsRightFile rules limits file
   begun-not_accepted front rest next none_begins =
       let same = regrouped front rest next in
       let own : BeginsNone (read.bytes ++ front) = subst (λ (bs : List ℕ). BeginsNone (bs ++ front)) all_kept none_begins in
-      no_file-refused s limits file
+      no_file-not_right rules limits file
       (subst IsNoFile (sym same) (own rest (Each-back IsByte (read.bytes ++ front) rest (subst (λ (bs : List ℕ). Each IsByte bs) same bytes))))
 
   -- it is none at its end
-  end-not_accepted : (left : List ℕ) → file ≡ read.bytes ++ left → IsNoFile (read.kept ++ left) → ¬ IsAccepted s limits file
-  end-not_accepted left next is = no_file-refused s limits file (subst IsNoFile (ap (λ (bs : List ℕ). bs ++ left) all_kept ∙ sym next) is)
+  end-not_accepted : (left : List ℕ) → file ≡ read.bytes ++ left → IsNoFile (read.kept ++ left) → ¬ IsRightFile rules limits file
+  end-not_accepted left next is = no_file-not_right rules limits file (subst IsNoFile (ap (λ (bs : List ℕ). bs ++ left) all_kept ∙ sym next) is)
 
-  why-not_accepted : (statement behind : List ℕ) (number : ℕ) (subject : Subject) → file ≡ read.bytes ++ (statement ++ behind) → IsPassedFor s limits read statement behind number subject → ¬ IsAccepted s limits file
+  why-not_accepted : (statement behind : List ℕ) (number : ℕ) (subject : Subject) → file ≡ read.bytes ++ (statement ++ behind) → IsPassedFor rules limits read statement behind number subject → ¬ IsRightFile rules limits file
   why-not_accepted statement behind number subject next (begins_none refused rest _ behind_are open_ none_begins goes_on) =
       begun-not_accepted (statement ++ refused) rest
       (next ∙ ap (λ (bs : List ℕ). read.bytes ++ bs) (ap (λ (bs : List ℕ). statement ++ bs) behind_are ∙ sym (append_assoc statement refused rest))) none_begins
@@ -231,43 +273,43 @@ module _ (s : Schema) (limits : Limits) (file : List ℕ) (read : Reading) (byte
       end-not_accepted statement (next ∙ ap (λ (bs : List ℕ). read.bytes ++ bs) (ap (λ (bs : List ℕ). statement ++ bs) behind_are ∙ append-nil statement)) is
   why-not_accepted statement behind number subject next (wrong_record n record_ _ is begins wrong inside) = instance-not_accepted statement behind n record_ number next is begins wrong
 
-  passed-not_accepted : (number : ℕ) (subject : Subject) → IsToBePassed s limits file read number subject → ¬ IsAccepted s limits file
+  passed-not_accepted : (number : ℕ) (subject : Subject) → IsToBePassed rules limits file read number subject → ¬ IsRightFile rules limits file
   passed-not_accepted number subject passes = why-not_accepted passes.statement passes.behind number subject passes.next_are passes.why
 
-  ending-not_accepted : IsWellFormed s → (number : ℕ) (subject : Subject) → EndsReading s limits file read number subject → number ≢ 90 → number ≢ 91 → ¬ IsAccepted s limits file
+  ending-not_accepted : AreWellFormed rules → (number : ℕ) (subject : Subject) → EndsReading rules limits file read number subject → number ≢ 90 → number ≢ 91 → ¬ IsRightFile rules limits file
   ending-not_accepted formed number subject (no_landmark _ _ passes no_place) memory reader = passed-not_accepted number subject passes
   ending-not_accepted formed number subject (no_file front behind _ next none_begins stands) memory reader =
-      dead-front s limits file (read.bytes ++ front) behind bytes (regrouped front behind next)
-      (subst (λ (bs : List ℕ). IsDead s limits (bs ++ front)) all_kept (no_file-dead s limits (read.kept ++ front) (none_begins limits refl)))
+      dead-front rules limits file (read.bytes ++ front) behind bytes (regrouped front behind next)
+      (subst (λ (bs : List ℕ). IsDeadBy rules limits (bs ++ front)) all_kept (no_file-begins_dead rules limits (read.kept ++ front) (none_begins limits refl)))
   ending-not_accepted formed number subject (too_long front behind next long) memory reader =
-      dead-front s limits file (read.bytes ++ front) behind bytes (regrouped front behind next) (long-source s limits (read.bytes ++ front) long)
+      dead-front rules limits file (read.bytes ++ front) behind bytes (regrouped front behind next) (no_file-begins_dead rules limits (read.bytes ++ front) (too-long limits (read.bytes ++ front) long))
   ending-not_accepted formed number subject (ends_early left _ next is where_) memory reader = end-not_accepted left next is
   ending-not_accepted formed number subject (offends front rest statement size _ next is begins has offends_ length_) memory reader =
-      let taken_are = (unlisted-taken s limits file read so_far none).1 in
-      dead-front s limits file (read.bytes ++ front) rest bytes (regrouped front rest next)
-      (offender-dead s formed limits (read.bytes ++ front) read.given size (subst (λ (given : List Statement). HasFileSize s given size) taken_are has) statement number
-      (one-taken front statement is begins) (subst (λ (given : List Statement). Offends s limits given size statement number) taken_are offends_))
+      let taken_are = (unlisted-taken rules limits file read so_far none).1 in
+      dead-front rules limits file (read.bytes ++ front) rest bytes (regrouped front rest next)
+      (offender-not_right rules formed limits (read.bytes ++ front) read.given size (subst (λ (given : List Statement). HasSize rules given size) taken_are has) statement number
+      (one-taken front statement is begins) (subst (λ (given : List Statement). OffendsBy rules limits given size statement number) taken_are offends_))
   ending-not_accepted formed number subject (no_memory _) memory reader = absurd (memory refl)
   ending-not_accepted formed number subject read_failed memory reader = absurd (reader refl)
 
 -- a list that goes on behind others, where each file with such others isn't accepted
-either-not_accepted : (s : Schema) (limits : Limits) (file : List ℕ) (listed : List Listed) → (listed ≢ [] → ¬ IsAccepted s limits file) → (listed ≡ [] → ¬ IsAccepted s limits file)
-    → ¬ IsAccepted s limits file
-either-not_accepted s limits file [] before own = own refl
-either-not_accepted s limits file (first ∷ listed) before own = before (λ none. cc)
+either-not_accepted : (rules : Rules) (limits : Limits) (file : List ℕ) (listed : List Listed) → (listed ≢ [] → ¬ IsRightFile rules limits file) → (listed ≡ [] → ¬ IsRightFile rules limits file)
+    → ¬ IsRightFile rules limits file
+either-not_accepted rules limits file [] before own = own refl
+either-not_accepted rules limits file (first ∷ listed) before own = before (λ none. cc)
 
 -- what is listed first
 pub listed-not_accepted : ListedIsNotAccepted
-listed-not_accepted s limits file read bytes at_start some = absurd (some refl)
-listed-not_accepted s limits file read bytes (takes old front rest statement so_far next is begins right) some = listed-not_accepted s limits file old bytes so_far some
-listed-not_accepted s limits file read bytes (leaves_out old front rest n record_ number start so_far next is begins wrong none_inside at) some =
-    either-not_accepted s limits file old.listed (listed-not_accepted s limits file old bytes so_far)
-    (λ none. instance-not_accepted s limits file old bytes so_far none front rest n record_ number next is begins wrong)
-listed-not_accepted s limits file read bytes (passes_over old passed rest found number subject start so_far over at) some =
-    either-not_accepted s limits file old.listed (listed-not_accepted s limits file old bytes so_far)
-    (λ none. passed-not_accepted s limits file old bytes so_far none number subject over.passes)
+listed-not_accepted rules limits file read bytes at_start some = absurd (some refl)
+listed-not_accepted rules limits file read bytes (takes old front rest statement so_far next is begins right) some = listed-not_accepted rules limits file old bytes so_far some
+listed-not_accepted rules limits file read bytes (leaves_out old front rest n record_ number start so_far next is begins wrong none_inside at) some =
+    either-not_accepted rules limits file old.listed (listed-not_accepted rules limits file old bytes so_far)
+    (λ none. instance-not_accepted rules limits file old bytes so_far none front rest n record_ number next is begins wrong)
+listed-not_accepted rules limits file read bytes (passes_over old passed rest found number subject start so_far over at) some =
+    either-not_accepted rules limits file old.listed (listed-not_accepted rules limits file old bytes so_far)
+    (λ none. passed-not_accepted rules limits file old bytes so_far none number subject over.passes)
 
 pub ended-not_accepted : EndedIsNotAccepted
-ended-not_accepted s formed limits file read number subject bytes so_far ends memory reader =
-    either-not_accepted s limits file read.listed (listed-not_accepted s limits file read bytes so_far)
-    (λ none. ending-not_accepted s limits file read bytes so_far none formed number subject ends memory reader)
+ended-not_accepted rules formed limits file read number subject bytes so_far ends memory reader =
+    either-not_accepted rules limits file read.listed (listed-not_accepted rules limits file read bytes so_far)
+    (λ none. ending-not_accepted rules limits file read bytes so_far none formed number subject ends memory reader)

@@ -16,11 +16,11 @@ passed-front before statement behind passed rest signpost (further_on skipped _ 
     ap (λ (bs : List ℕ). statement ++ bs) first.bytes_are ∙ sym (append_assoc statement skipped (signpost_bytes signpost ++ rest))
 
 pub read-in_front : ReadIsInFront
-read-in_front s limits file read at_start = (file, refl)
-read-in_front s limits file read (takes old bytes rest statement so_far next is begins right) = (rest, next ∙ sym (append_assoc old.bytes bytes rest))
-read-in_front s limits file read (leaves_out old bytes rest n record_ number start so_far next is begins wrong none_inside at) =
+read-in_front rules limits file read at_start = (file, refl)
+read-in_front rules limits file read (takes old bytes rest statement so_far next is begins right) = (rest, next ∙ sym (append_assoc old.bytes bytes rest))
+read-in_front rules limits file read (leaves_out old bytes rest n record_ number start so_far next is begins wrong none_inside at) =
     (rest, next ∙ sym (append_assoc old.bytes bytes rest))
-read-in_front s limits file read (passes_over old passed rest found number subject start so_far over at) = (
+read-in_front rules limits file read (passes_over old passed rest found number subject start so_far over at) = (
   signpost_bytes (landmark found) ++ rest,
   over.passes.next_are
       ∙ (ap (λ (bs : List ℕ). old.bytes ++ bs) (passed-front old.bytes over.passes.statement over.passes.behind passed rest _ over.goes_by)
@@ -32,9 +32,9 @@ some-listed [] one none = cc
 some-listed (first ∷ listed) one none = cc
 
 pub unlisted-taken : UnlistedIsTaken
-unlisted-taken s limits file read at_start none = (refl, refl)
-unlisted-taken s limits file read (takes old bytes rest statement so_far next is begins right) none =
-    let both = unlisted-taken s limits file old so_far none in
+unlisted-taken rules limits file read at_start none = (refl, refl)
+unlisted-taken rules limits file read (takes old bytes rest statement so_far next is begins right) none =
+    let both = unlisted-taken rules limits file old so_far none in
     (ap (λ (bs : List ℕ). bs ++ bytes) both.0, ap (λ (xs : List Statement). xs ++ statement ∷ []) both.1)
-unlisted-taken s limits file read (leaves_out old bytes rest n record_ number start so_far next is begins wrong none_inside at) none = absurd (some-listed old.listed _ none)
-unlisted-taken s limits file read (passes_over old passed rest found number subject start so_far over at) none = absurd (some-listed old.listed _ none)
+unlisted-taken rules limits file read (leaves_out old bytes rest n record_ number start so_far next is begins wrong none_inside at) none = absurd (some-listed old.listed _ none)
+unlisted-taken rules limits file read (passes_over old passed rest found number subject start so_far over at) none = absurd (some-listed old.listed _ none)

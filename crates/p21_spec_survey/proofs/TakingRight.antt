@@ -106,7 +106,7 @@ no-tokens [] are = refl
 no-tokens (x ∷ lexemes) are = absurd cc
 
 pub right-taken : RightStatementsAreTaken
-right-taken s limits file read bytes rest lexemes [] is_read file_is whole are begins right = record {
+right-taken rules limits file read bytes rest lexemes [] is_read file_is whole are begins right = record {
   next = read;
   is_read = is_read;
   used = [];
@@ -120,13 +120,13 @@ right-taken s limits file read bytes rest lexemes [] is_read file_is whole are b
   taken_are = sym (append-nil read.taken);
   listed_are = refl;
 }
-right-taken s limits file read bytes rest lexemes (statement ∷ others) is_read file_is whole are begins right =
+right-taken rules limits file read bytes rest lexemes (statement ∷ others) is_read file_is whole are begins right =
     let first = first-apart bytes lexemes statement others whole are in
     let here : file ≡ read.bytes ++ (first.front ++ (first.rest ++ rest)) =
     file_is ∙ ap (λ (l : List ℕ). read.bytes ++ l) (ap (λ (l : List ℕ). l ++ rest) first.bytes_are ∙ append_assoc first.front first.rest rest) in
     let one = takes read first.front (first.rest ++ rest) statement is_read here first.statement_is (begin-front read.given statement others begins) right.0 in
     let others_begin : BeginFile ((read.given ++ statement ∷ []) ++ others) = subst BeginFile (sym (append_assoc read.given (statement ∷ []) others)) begins in
-    let go = right-taken s limits file (taking read first.front statement) first.rest rest first.more others one (here ∙ sym (append_assoc read.bytes first.front (first.rest ++ rest))) first.whole first.more_are others_begin right.1 in
+    let go = right-taken rules limits file (taking read first.front statement) first.rest rest first.more others one (here ∙ sym (append_assoc read.bytes first.front (first.rest ++ rest))) first.whole first.more_are others_begin right.1 in
     record {
       next = go.next;
       is_read = go.is_read;

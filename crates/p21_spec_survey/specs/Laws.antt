@@ -8,14 +8,10 @@ use Rattle.p21_spec_exchange.specs.Laying.{Lexeme, tokens_in}
 use Rattle.p21_spec_exchange.specs.Record.{Record}
 use Rattle.p21_spec_exchange.specs.Separator.{IsSeparatorText}
 use Rattle.p21_spec_exchange.specs.Statement.{Statement, instance, statement_tokens}
-use Rattle.p21_spec_file.specs.Accepted.{IsAccepted}
-use Rattle.p21_spec_file.specs.Meaning.{RecordMeans, Typed}
-use Rattle.p21_spec_file.specs.Reference.{EntitySets}
 use Rattle.p21_spec_laws.specs.Taken.{AreStatementsTaken, names_among}
-use Rattle.p21_spec_schema.specs.Schema.{Schema}
-use Rattle.p21_spec_schema.specs.WellFormed.{IsWellFormed}
 use Rattle.p21_spec_survey.specs.Landmark.{IsFirstSignpost, Signpost}
 use Rattle.p21_spec_survey.specs.Resuming.{GoesBy}
+use Rattle.p21_spec_survey.specs.Rules.{AreWellFormed, HasMeaning, IsRightFile, Rules}
 use Rattle.p21_spec_survey.specs.Survey.{AreStatement, BeginFile, EndsReading, IsRead, IsRefused, IsRight, Reading, Subject}
 use Rattle.p21_spec_survey.specs.Whole.{AreWhole}
 
@@ -32,54 +28,53 @@ GoesByOnePlace = (before statement behind passed other_passed rest other_rest : 
 
 -- what is read stands at the front of the file
 abbrev pub ReadIsInFront : Type 0
-ReadIsInFront = (s : Schema) (limits : Limits) (file : List ℕ) (read : Reading) → IsRead s limits file read
+ReadIsInFront = (rules : Rules) (limits : Limits) (file : List ℕ) (read : Reading) → IsRead rules limits file read
     → (rest : List ℕ) × (file ≡ read.bytes ++ rest)
 
 -- where nothing is listed no byte is passed over, and no statement is left out
 abbrev pub UnlistedIsTaken : Type 0
-UnlistedIsTaken = (s : Schema) (limits : Limits) (file : List ℕ) (read : Reading) → IsRead s limits file read → read.listed ≡ []
+UnlistedIsTaken = (rules : Rules) (limits : Limits) (file : List ℕ) (read : Reading) → IsRead rules limits file read → read.listed ≡ []
     → (read.kept ≡ read.bytes) × (read.taken ≡ read.given)
 
 -- ---- what the kept bytes have by themselves
 
 -- the kept bytes are the statements given, each with its `;`
 abbrev pub KeptAreWhole : Type 0
-KeptAreWhole = (s : Schema) (limits : Limits) (file : List ℕ) (read : Reading) → IsRead s limits file read
+KeptAreWhole = (rules : Rules) (limits : Limits) (file : List ℕ) (read : Reading) → IsRead rules limits file read
     → (lexemes : List Lexeme) × AreWhole read.kept lexemes × (tokens_in lexemes ≡ flat_map statement_tokens read.given)
 
 -- some file begins with these
 abbrev pub GivenBeginFile : Type 0
-GivenBeginFile = (s : Schema) (limits : Limits) (file : List ℕ) (read : Reading) → IsRead s limits file read
+GivenBeginFile = (rules : Rules) (limits : Limits) (file : List ℕ) (read : Reading) → IsRead rules limits file read
     → (read.given ≡ []) ⊎ BeginFile read.given
 
 -- each file that begins with the kept bytes begins with these statements
 abbrev pub GivenAreTaken : Type 0
-GivenAreTaken = (s : Schema) (limits : Limits) (file : List ℕ) (read : Reading) → IsRead s limits file read
+GivenAreTaken = (rules : Rules) (limits : Limits) (file : List ℕ) (read : Reading) → IsRead rules limits file read
     → AreStatementsTaken read.kept read.given
 
 -- each instance among them means something, or it is listed
 abbrev pub EachIsJudged : Type 0
-EachIsJudged = (s : Schema) (limits : Limits) (file : List ℕ) (read : Reading) → IsRead s limits file read → (n : ℕ) (record_ : Record)
-    → Contains read.given (instance n record_)
-    → ((kinds : EntitySets) × (meaning : Typed) × RecordMeans s kinds record_ meaning) ⊎ IsRefused read.listed n
+EachIsJudged = (rules : Rules) (limits : Limits) (file : List ℕ) (read : Reading) → IsRead rules limits file read
+    → (n : ℕ) (record_ : Record) → Contains read.given (instance n record_) → HasMeaning rules record_ ⊎ IsRefused read.listed n
 
 -- those that are not listed have different names
 abbrev pub NamesDiffer : Type 0
-NamesDiffer = (s : Schema) (limits : Limits) (file : List ℕ) (read : Reading) → IsRead s limits file read
+NamesDiffer = (rules : Rules) (limits : Limits) (file : List ℕ) (read : Reading) → IsRead rules limits file read
     → IsDistinct nat_eq (names_among read.taken)
 
 -- ---- what a list says of the whole file
 
--- a file of which something is listed isn't accepted
+-- a file of which something is listed isn't accepted, nor, by itself, well formed
 abbrev pub ListedIsNotAccepted : Type 0
-ListedIsNotAccepted = (s : Schema) (limits : Limits) (file : List ℕ) (read : Reading) → Each IsByte file → IsRead s limits file read
-    → read.listed ≢ [] → ¬ IsAccepted s limits file
+ListedIsNotAccepted = (rules : Rules) (limits : Limits) (file : List ℕ) (read : Reading) → Each IsByte file
+    → IsRead rules limits file read → read.listed ≢ [] → ¬ IsRightFile rules limits file
 
 -- nor is one whose reading is ended, memory and the reader apart
 abbrev pub EndedIsNotAccepted : Type 0
-EndedIsNotAccepted = (s : Schema) → IsWellFormed s → (limits : Limits) (file : List ℕ) (read : Reading) (number : ℕ) (subject : Subject)
-    → Each IsByte file → IsRead s limits file read
-    → EndsReading s limits file read number subject → number ≢ 90 → number ≢ 91 → ¬ IsAccepted s limits file
+EndedIsNotAccepted = (rules : Rules) → AreWellFormed rules → (limits : Limits) (file : List ℕ) (read : Reading) (number : ℕ)
+    (subject : Subject) → Each IsByte file → IsRead rules limits file read
+    → EndsReading rules limits file read number subject → number ≢ 90 → number ≢ 91 → ¬ IsRightFile rules limits file
 
 -- ---- statements one behind the other
 
@@ -99,15 +94,15 @@ FirstStatementIsApart = (bytes : List ℕ) (lexemes : List Lexeme) (statement : 
     → tokens_in lexemes ≡ flat_map statement_tokens (statement ∷ others) → IsApart bytes statement others
 
 -- behind the statements given each of these is right
-abbrev pub AreRight : Schema → List Statement → List Statement → Type 0
-AreRight s given [] = Unit {0}
-AreRight s given (statement ∷ others) = IsRight s given statement × AreRight s (given ++ statement ∷ []) others
+abbrev pub AreRight : Rules → List Statement → List Statement → Type 0
+AreRight rules given [] = Unit {0}
+AreRight rules given (statement ∷ others) = IsRight rules given statement × AreRight rules (given ++ statement ∷ []) others
 
 -- a reading goes on by these bytes, separators behind the last `;` apart, and takes these statements
-pub record TakesRight (s : Schema) (limits : Limits) (file : List ℕ) (read : Reading) (bytes : List ℕ)
+pub record TakesRight (rules : Rules) (limits : Limits) (file : List ℕ) (read : Reading) (bytes : List ℕ)
     (statements : List Statement) : Type 0 where
   pub next : Reading
-  pub is_read : IsRead s limits file next
+  pub is_read : IsRead rules limits file next
   pub used : List ℕ
   pub behind : List ℕ
   pub bytes_are : bytes ≡ used ++ behind
@@ -121,8 +116,8 @@ pub record TakesRight (s : Schema) (limits : Limits) (file : List ℕ) (read : R
 
 -- so it does where whole statements follow, and each is right
 abbrev pub RightStatementsAreTaken : Type 0
-RightStatementsAreTaken = (s : Schema) (limits : Limits) (file : List ℕ) (read : Reading) (bytes rest : List ℕ)
+RightStatementsAreTaken = (rules : Rules) (limits : Limits) (file : List ℕ) (read : Reading) (bytes rest : List ℕ)
     (lexemes : List Lexeme) (statements : List Statement)
-    → IsRead s limits file read → file ≡ read.bytes ++ (bytes ++ rest) → AreWhole bytes lexemes
-    → tokens_in lexemes ≡ flat_map statement_tokens statements → BeginFile (read.given ++ statements) → AreRight s read.given statements
-    → TakesRight s limits file read bytes statements
+    → IsRead rules limits file read → file ≡ read.bytes ++ (bytes ++ rest) → AreWhole bytes lexemes
+    → tokens_in lexemes ≡ flat_map statement_tokens statements → BeginFile (read.given ++ statements) → AreRight rules read.given statements
+    → TakesRight rules limits file read bytes statements

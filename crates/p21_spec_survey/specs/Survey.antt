@@ -1,4 +1,5 @@
--- What a survey lists of a file, statement by statement (this project's own numbers, on exchange structures of ISO 10303-21).
+-- What a survey lists of a file, statement by statement, by some rules (this project's own numbers, on exchange structures of
+-- ISO 10303-21).
 --
 -- A statement is taken, or it is refused. A record that is refused is left out, and its bytes are kept all the same, unless a signpost
 -- stands in a string of it: they are a statement of the grammar. Of a statement that is none the bytes are passed over up to a landmark,
@@ -18,19 +19,12 @@ use Rattle.p21_spec_exchange.specs.Record.{Record}
 use Rattle.p21_spec_exchange.specs.Separator.{IsSeparator, IsSeparatorText, Separator, separator_bytes}
 use Rattle.p21_spec_exchange.specs.Statement.{Statement, data_start, header, instance, section, section_end, statement_tokens}
 use Rattle.p21_spec_exchange.specs.Structure.{AreFirstStatements, Structure, statements}
-use Rattle.p21_spec_file.specs.BrokenRule.{Breaks}
-use Rattle.p21_spec_file.specs.File.{HeadingNamesSchema}
-use Rattle.p21_spec_file.specs.Meaning.{RecordMeans, Typed}
-use Rattle.p21_spec_file.specs.Reference.{EntitySets, IsServed}
-use Rattle.p21_spec_laws.specs.CompleteFile.{Entry, IsMeant, entity_sets_in, written_in}
-use Rattle.p21_spec_laws.specs.DeadLaws.{MeansNothing}
-use Rattle.p21_spec_laws.specs.Offending.{HasFileSize, IsUnserved, Offends}
+use Rattle.p21_spec_laws.specs.CompleteFile.{Entry, written_in}
 use Rattle.p21_spec_laws.specs.Taken.{instances_among, names_among, section_names_among}
 use Rattle.p21_spec_laws.specs.Waiting.{Reference, references_in}
-use Rattle.p21_spec_schema.specs.Schema.{Schema}
-use Rattle.p21_spec_schema.specs.SchemaName.{NamesSchema}
 use Rattle.p21_spec_survey.specs.Landmark.{Landmark, Signpost, file_begin, file_end, landmark}
 use Rattle.p21_spec_survey.specs.Resuming.{EndsInString, EndsInRemark, GoesBy, HasNoneInside}
+use Rattle.p21_spec_survey.specs.Rules.{BreaksRule, HasMeaning, HasNoMeaning, HasSize, IsMeantBy, IsOfSchema, IsSchemaText, IsServedIn, IsUnservedIn, OffendsBy, Rules}
 use Rattle.p21_spec_survey.specs.Whole.{BeginsNone, BeginsNoneWithin}
 use Rattle.p21_spec_syntax.specs.FileWithin.{IsNoFile}
 
@@ -71,20 +65,20 @@ pub record AreStatement (bytes : List ℕ) (statement : Statement) : Type 0 wher
   pub ends : bytes ≡ front ++ codes ";"
 
 -- behind the statements given an instance is refused with this number: its record means nothing and breaks the rule of the number, or
--- its name stands among them
-pub data IsRefusedInstance (s : Schema) (given : List Statement) (n : ℕ) (record_ : Record) : ℕ → Type 0 where
-  broken : (number : ℕ) → MeansNothing s record_ → Breaks s record_ number → IsRefusedInstance s given n record_ number
-  name_again : Contains (names_among given) n → IsRefusedInstance s given n record_ 40
+-- its name stands among them; by itself for its name alone
+pub data IsRefusedInstance (rules : Rules) (given : List Statement) (n : ℕ) (record_ : Record) : ℕ → Type 0 where
+  broken : (number : ℕ) → HasNoMeaning rules record_ → BreaksRule rules record_ number → IsRefusedInstance rules given n record_ number
+  name_again : Contains (names_among given) n → IsRefusedInstance rules given n record_ 40
 
 -- behind the statements given this is right with the next one, whatever its length: an instance means something among some others and has a
--- name of its own, a FILE_SCHEMA and a section with a name are of the schema, and this section too has a name of its own
-abbrev pub IsRight : Schema → List Statement → Statement → Type 0
-IsRight s given (instance n record_) = ((kinds : EntitySets) × (meaning : Typed) × RecordMeans s kinds record_ meaning)
-    × ¬ Contains (names_among given) n
-IsRight s given (header part) = (chars : List ℕ) → IsFileSchema part chars → NamesSchema chars s.name
-IsRight s given (section (data_start heading)) = HeadingNamesSchema s.name heading
+-- name of its own, a FILE_SCHEMA and a section with a name are of the schema, and this section too has a name of its own; by itself a
+-- FILE_SCHEMA begins with a name, the schema is that of those before it, and a record means whatever it says
+abbrev pub IsRight : Rules → List Statement → Statement → Type 0
+IsRight rules given (instance n record_) = HasMeaning rules record_ × ¬ Contains (names_among given) n
+IsRight rules given (header part) = (chars : List ℕ) → IsFileSchema part chars → IsSchemaText rules given chars
+IsRight rules given (section (data_start heading)) = IsOfSchema rules given heading
     × ((name schema : List ℕ) → heading ≡ named name schema → ¬ Contains (section_names_among given) name)
-IsRight s given (section line) = Unit {0}
+IsRight rules given (section line) = Unit {0}
 
 -- ---- statements that are passed over
 
@@ -119,36 +113,36 @@ pub record IsOpen (bytes : List ℕ) : Type 0 where
 
 -- Why the next statement is passed over, with its number and what it names. `statement` are its bytes up to what is refused, and
 -- `behind` those from there on
-pub data IsPassedFor (s : Schema) (limits : Limits) (read : Reading) (statement behind : List ℕ) : ℕ → Subject → Type 0 where
+pub data IsPassedFor (rules : Rules) (limits : Limits) (read : Reading) (statement behind : List ℕ) : ℕ → Subject → Type 0 where
   -- no file begins with the kept bytes, its own, and what is refused: a byte, or a token with the byte behind it that tells its end, of a
   -- string the last one
   begins_none : (refused rest : List ℕ) (number : ℕ) → behind ≡ refused ++ rest → IsOpen statement
       → BeginsNone (read.kept ++ (statement ++ refused)) → IsGoneOnBehind number
-      → IsPassedFor s limits read statement behind number (at_statement (suc read.count))
+      → IsPassedFor rules limits read statement behind number (at_statement (suc read.count))
   -- the file ends within it: with number 2 in a string, with 3 in a remark
   ends_within : (number : ℕ) → behind ≡ [] → IsNoFile (read.kept ++ statement) → IsGoneOnBehind number
       → (number ≡ 2 → EndsInString statement)
       → (number ≡ 3 → (inside : List ℕ) × EndsInRemark statement inside)
-      → IsPassedFor s limits read statement behind number (at_statement (suc read.count))
+      → IsPassedFor rules limits read statement behind number (at_statement (suc read.count))
   -- it is an instance that is refused, with a signpost in a string of it
   wrong_record : (n : ℕ) (record_ : Record) (number : ℕ) → AreStatement statement (instance n record_)
       → BeginFile (read.given ++ instance n record_ ∷ [])
-      → IsRefusedInstance s read.given n record_ number → ¬ HasNoneInside statement behind
-      → IsPassedFor s limits read statement behind number (in_instance n)
+      → IsRefusedInstance rules read.given n record_ number → ¬ HasNoneInside statement behind
+      → IsPassedFor rules limits read statement behind number (in_instance n)
 
 -- the next statement is one of a data section and is to be passed over
-pub record IsToBePassed (s : Schema) (limits : Limits) (file : List ℕ) (read : Reading) (number : ℕ) (subject : Subject) : Type 0 where
+pub record IsToBePassed (rules : Rules) (limits : Limits) (file : List ℕ) (read : Reading) (number : ℕ) (subject : Subject) : Type 0 where
   pub statement : List ℕ
   pub behind : List ℕ
   pub next_are : file ≡ read.bytes ++ (statement ++ behind)
   pub in_data : IsInData read.given
   pub no_end : ¬ BeginsWithEnd (statement ++ behind)
-  pub why : IsPassedFor s limits read statement behind number subject
+  pub why : IsPassedFor rules limits read statement behind number subject
 
 -- it is passed over, and the reading goes by this signpost
-pub record IsPassedOver (s : Schema) (limits : Limits) (file : List ℕ) (read : Reading) (passed : List ℕ) (signpost : Signpost)
+pub record IsPassedOver (rules : Rules) (limits : Limits) (file : List ℕ) (read : Reading) (passed : List ℕ) (signpost : Signpost)
     (rest : List ℕ) (number : ℕ) (subject : Subject) : Type 0 where
-  pub passes : IsToBePassed s limits file read number subject
+  pub passes : IsToBePassed rules limits file read number subject
   pub goes_by : GoesBy read.bytes passes.statement passes.behind passed signpost rest
 
 -- ---- a file, statement by statement
@@ -200,23 +194,23 @@ passing_over read bytes number subject begins = record {
 }
 
 -- so far the file is read
-pub data IsRead (s : Schema) (limits : Limits) (file : List ℕ) : Reading → Type 0 where
-  at_start : IsRead s limits file nothing_read
+pub data IsRead (rules : Rules) (limits : Limits) (file : List ℕ) : Reading → Type 0 where
+  at_start : IsRead rules limits file nothing_read
   -- a statement is taken
-  takes : (read : Reading) (bytes rest : List ℕ) (statement : Statement) → IsRead s limits file read → file ≡ read.bytes ++ (bytes ++ rest)
-      → AreStatement bytes statement → BeginFile (read.given ++ statement ∷ []) → IsRight s read.given statement
-      → IsRead s limits file (taking read bytes statement)
+  takes : (read : Reading) (bytes rest : List ℕ) (statement : Statement) → IsRead rules limits file read
+      → file ≡ read.bytes ++ (bytes ++ rest) → AreStatement bytes statement → BeginFile (read.given ++ statement ∷ [])
+      → IsRight rules read.given statement → IsRead rules limits file (taking read bytes statement)
   -- an instance is refused, and left out: no signpost stands in a string of it
-  leaves_out : (read : Reading) (bytes rest : List ℕ) (n : ℕ) (record_ : Record) (number begins : ℕ) → IsRead s limits file read
+  leaves_out : (read : Reading) (bytes rest : List ℕ) (n : ℕ) (record_ : Record) (number begins : ℕ) → IsRead rules limits file read
       → file ≡ read.bytes ++ (bytes ++ rest)
       → AreStatement bytes (instance n record_) → BeginFile (read.given ++ instance n record_ ∷ [])
-      → IsRefusedInstance s read.given n record_ number
-      → HasNoneInside bytes rest → BeginsAt file read begins → IsRead s limits file (leaving_out read bytes n record_ number begins)
+      → IsRefusedInstance rules read.given n record_ number
+      → HasNoneInside bytes rest → BeginsAt file read begins → IsRead rules limits file (leaving_out read bytes n record_ number begins)
   -- a statement is passed over up to a landmark
   passes_over : (read : Reading) (passed rest : List ℕ) (found : Landmark) (number : ℕ) (subject : Subject) (begins : ℕ)
-      → IsRead s limits file read
-      → IsPassedOver s limits file read passed (landmark found) rest number subject → BeginsAt file read begins
-      → IsRead s limits file (passing_over read passed number subject begins)
+      → IsRead rules limits file read
+      → IsPassedOver rules limits file read passed (landmark found) rest number subject → BeginsAt file read begins
+      → IsRead rules limits file (passing_over read passed number subject begins)
 
 -- ---- how the list ends
 
@@ -238,32 +232,32 @@ HasNoLandmark before statement behind =
     ((passed rest : List ℕ) (signpost : Signpost) → GoesBy before statement behind passed signpost rest → IsFileMark signpost)
 
 -- Why nothing is read behind the next statement, with the number of its refusal and what it names. Of want of memory nothing is said here
-pub data EndsReading (s : Schema) (limits : Limits) (file : List ℕ) (read : Reading) : ℕ → Subject → Type 0 where
+pub data EndsReading (rules : Rules) (limits : Limits) (file : List ℕ) (read : Reading) : ℕ → Subject → Type 0 where
   -- it would be passed over, and no landmark comes
-  no_landmark : (number : ℕ) (subject : Subject) (passes : IsToBePassed s limits file read number subject)
-      → HasNoLandmark read.bytes passes.statement passes.behind → EndsReading s limits file read number subject
+  no_landmark : (number : ℕ) (subject : Subject) (passes : IsToBePassed rules limits file read number subject)
+      → HasNoLandmark read.bytes passes.statement passes.behind → EndsReading rules limits file read number subject
   -- no file begins with the kept bytes and these of it, and it stands in no data section, begins with ENDSEC, or is refused with
   -- another number
   no_file : (front behind : List ℕ) (number : ℕ) → file ≡ read.bytes ++ (front ++ behind)
       → BeginsNoneWithin limits.record_source (read.kept ++ front)
       → (IsGoneOnBehind number → IsInData read.given → BeginsWithEnd (front ++ behind))
-      → EndsReading s limits file read number (at_statement (suc read.count))
+      → EndsReading rules limits file read number (at_statement (suc read.count))
   -- the file has more bytes than one may have, those that are passed over among them
   too_long : (front behind : List ℕ) → file ≡ read.bytes ++ (front ++ behind) → limits.file_source < length (read.bytes ++ front)
-      → EndsReading s limits file read 23 (at_statement (suc read.count))
+      → EndsReading rules limits file read 23 (at_statement (suc read.count))
   -- the file ends within it, as early as nothing else says, or where it isn't passed over
   ends_early : (left : List ℕ) (number : ℕ) → file ≡ read.bytes ++ left → IsNoFile (read.kept ++ left) → (number ≡ 24)
-      ⊎ ¬ IsInData read.given ⊎ BeginsWithEnd left → EndsReading s limits file read number (at_statement (suc read.count))
+      ⊎ ¬ IsInData read.given ⊎ BeginsWithEnd left → EndsReading rules limits file read number (at_statement (suc read.count))
   -- it is a statement that a session refuses, and no record but for its length
   offends : (bytes rest : List ℕ) (statement : Statement) (size number : ℕ) → file ≡ read.bytes ++ (bytes ++ rest)
-      → AreStatement bytes statement → BeginFile (read.given ++ statement ∷ []) → HasFileSize s read.taken size
-      → Offends s limits read.taken size statement number
+      → AreStatement bytes statement → BeginFile (read.given ++ statement ∷ []) → HasSize rules read.taken size
+      → OffendsBy rules limits read.taken size statement number
       → ((n : ℕ) (record_ : Record) → statement ≡ instance n record_ → number ≡ 27)
-      → EndsReading s limits file read number (at_statement (suc read.count))
+      → EndsReading rules limits file read number (at_statement (suc read.count))
   -- memory is wanting
-  no_memory : (subject : Subject) → EndsReading s limits file read 90 subject
+  no_memory : (subject : Subject) → EndsReading rules limits file read 90 subject
   -- a read failed within it
-  read_failed : EndsReading s limits file read 91 (at_statement (suc read.count))
+  read_failed : EndsReading rules limits file read 91 (at_statement (suc read.count))
 
 -- ---- references
 
@@ -273,54 +267,54 @@ IsRefused listed n = (refusal : Listed) × Contains listed refusal × (refusal.s
 
 -- a reference is refused with this number: its target was not refused itself, and none of this name is taken, or it doesn't serve; that
 -- none is taken isn't told where bytes were passed over
-pub record IsRefusedReference (s : Schema) (read : Reading) (entries : List Entry) (reference : Reference) (number : ℕ) : Type 0 where
+pub record IsRefusedReference (rules : Rules) (read : Reading) (entries : List Entry) (reference : Reference) (number : ℕ) : Type 0 where
   pub among : Contains (references_in entries) reference
   pub judged : ¬ IsRefused read.listed reference.1.target
-  pub unserved : IsUnserved s entries reference number
+  pub unserved : IsUnservedIn rules entries reference number
   pub told : number ≡ 56 → read.kept ≡ read.bytes
 
 -- each of these is a number, and the instance that has the reference
-abbrev pub AreReferences : Schema → Reading → List Entry → List (ℕ × ℕ) → Type 0
-AreReferences s read entries told =
-    Each (λ (r : ℕ × ℕ). (reference : Reference) × IsRefusedReference s read entries reference r.0 × (r.1 ≡ reference.0)) told
+abbrev pub AreReferences : Rules → Reading → List Entry → List (ℕ × ℕ) → Type 0
+AreReferences rules read entries told =
+    Each (λ (r : ℕ × ℕ). (reference : Reference) × IsRefusedReference rules read entries reference r.0 × (r.1 ≡ reference.0)) told
 
 -- a reference is served, or its target was refused itself, or it is among those refused; or none of its name stands there, where bytes were
 -- passed over
-abbrev pub IsAnswered : Schema → Reading → List Entry → List (ℕ × ℕ) → Reference → Type 0
-IsAnswered s read entries told reference = IsServed s (entity_sets_in entries) reference.1 ⊎ IsRefused read.listed reference.1.target
-    ⊎ ((number : ℕ) × IsRefusedReference s read entries reference number × Contains told (number, reference.0))
-    ⊎ ((read.kept ≢ read.bytes) × IsUnserved s entries reference 56)
+abbrev pub IsAnswered : Rules → Reading → List Entry → List (ℕ × ℕ) → Reference → Type 0
+IsAnswered rules read entries told reference = IsServedIn rules entries reference.1 ⊎ IsRefused read.listed reference.1.target
+    ⊎ ((number : ℕ) × IsRefusedReference rules read entries reference number × Contains told (number, reference.0))
+    ⊎ ((read.kept ≢ read.bytes) × IsUnservedIn rules entries reference 56)
 
 -- ---- all of it
 
 -- how a list ends
-pub data EndsList (s : Schema) (limits : Limits) (file : List ℕ) (read : Reading) (entries : List Entry) : List Listed → List (ℕ × ℕ)
+pub data EndsList (rules : Rules) (limits : Limits) (file : List ℕ) (read : Reading) (entries : List Entry) : List Listed → List (ℕ × ℕ)
     → Extent → Type 0 where
   -- the kept bytes are a file, with what stands behind its last statement
   at_end : (rest : List ℕ) (structure : Structure) (schema : List ℕ) (references : List (ℕ × ℕ)) → file ≡ read.bytes ++ rest
       → InGrammar (read.kept ++ rest) structure schema → statements structure ≡ read.given
-      → AreReferences s read entries references → Each (IsAnswered s read entries references) (references_in entries)
-      → EndsList s limits file read entries read.listed references whole
+      → AreReferences rules read entries references → Each (IsAnswered rules read entries references) (references_in entries)
+      → EndsList rules limits file read entries read.listed references whole
   -- a refusal ends the reading
-  by_refusal : (number : ℕ) (subject : Subject) (begins : ℕ) → EndsReading s limits file read number subject → BeginsAt file read begins
-      → EndsList s limits file read entries (with_refusal read number subject begins) [] (read_to begins)
+  by_refusal : (number : ℕ) (subject : Subject) (begins : ℕ) → EndsReading rules limits file read number subject
+      → BeginsAt file read begins → EndsList rules limits file read entries (with_refusal read number subject begins) [] (read_to begins)
   -- a read failed while a stretch was passed over
-  interrupted : (number : ℕ) (subject : Subject) (begins : ℕ) → IsToBePassed s limits file read number subject → BeginsAt file read begins
-      → EndsList s limits file read entries
+  interrupted : (number : ℕ) (subject : Subject) (begins : ℕ) → IsToBePassed rules limits file read number subject
+      → BeginsAt file read begins → EndsList rules limits file read entries
       (with_refusal (passing_over read [] number subject begins) 91 (at_statement (suc (suc read.count))) begins) [] (read_to begins)
   -- no more were asked for, the last of them that of a stretch
-  at_stretch : (number : ℕ) (subject : Subject) (begins : ℕ) → IsToBePassed s limits file read number subject → BeginsAt file read begins
-      → EndsList s limits file read entries (with_refusal read number subject begins) [] most
+  at_stretch : (number : ℕ) (subject : Subject) (begins : ℕ) → IsToBePassed rules limits file read number subject
+      → BeginsAt file read begins → EndsList rules limits file read entries (with_refusal read number subject begins) [] most
   -- or that of an instance or a reference
-  at_most : (references : List (ℕ × ℕ)) → AreReferences s read entries references
-      → EndsList s limits file read entries read.listed references most
+  at_most : (references : List (ℕ × ℕ)) → AreReferences rules read entries references
+      → EndsList rules limits file read entries read.listed references most
 
 -- what a survey says of a file: the refusals of statements in their order, and those of references behind them
-pub record IsSurvey (s : Schema) (limits : Limits) (file : List ℕ) (listed : List Listed)
+pub record IsSurvey (rules : Rules) (limits : Limits) (file : List ℕ) (listed : List Listed)
     (references : List (ℕ × ℕ)) (extent : Extent) : Type 0 where
   pub reading : Reading
-  pub is_read : IsRead s limits file reading
+  pub is_read : IsRead rules limits file reading
   pub entries : List Entry
   pub entries_are : instances_among reading.taken ≡ written_in entries
-  pub meant : Each (IsMeant s) entries
-  pub ends : EndsList s limits file reading entries listed references extent
+  pub meant : Each (IsMeantBy rules) entries
+  pub ends : EndsList rules limits file reading entries listed references extent

@@ -43,7 +43,8 @@ pub fn kept_laws()
     ensures names { NamesDiffer }
 {}
 
-/// A file of which something is listed isn't accepted, nor is one whose reading is ended for want of anything but memory and the reader.
+/// A file of which something is listed isn't accepted, or by itself isn't well formed, nor is one whose reading is ended for want of anything
+/// but memory and the reader.
 pub fn list_laws()
     ensures listed { ListedIsNotAccepted }
     ensures ended { EndedIsNotAccepted }

@@ -1,5 +1,6 @@
 -- A survey that is fed what a reader gives.
-use Rattle.std.proofs.Common.{◌≡◌, ◌≤◌, ◌<◌, ◌+◌, ◌-◌, ◌^◌, ◌⊎◌, ℕ, true, false, List, [], ◌∷◌, ◌++◌, length, map, take, get_or, Option, Some, None, inl, inr, refl, sym, ap, subst, ◌∙◌, append_assoc, append-nil, length-append, arith}
+use Rattle.std.proofs.Common.{◌≡◌, ◌≤◌, ◌<◌, ◌+◌, ◌-◌, ◌^◌, ◌⊎◌, ℕ, true, false, List, [], ◌∷◌, ◌++◌, length, map, take, get_or, Option}
+use Rattle.std.proofs.Common.{Some, None, inl, inr, refl, sym, ap, subst, ◌∙◌, append_assoc, append-nil, length-append, arith}
 use Rattle.std.proofs.lemmas.List.{map-append, take_all, take_more}
 use Rattle.std.proofs.KnownBytes.{Consumes-kept, Consumes-nil, Consumes-trans}
 use Rattle.std.specs.Io.KnownBytes.{Consumes, IsAtEnd}
@@ -75,11 +76,11 @@ pub surveyed-none : (now : Option (List ℕ)) (survey : Survey) → StandsBehind
 surveyed-none now survey stands = record { bytes = []; consumed = Consumes-nil now; are_bytes = tt; size_is = refl; stands = stands }
 
 pub same-first : (survey : Survey) → AsksTheSame survey survey
-same-first survey = record { schema = refl; limits = refl; most = refl }
+same-first survey = record { rules = refl; limits = refl; most = refl }
 
 pub same-on : (first second third : Survey) → AsksTheSame first second → AsksTheSame second third → AsksTheSame first third
 same-on first second third before behind = record {
-  schema = behind.schema ∙ before.schema;
+  rules = behind.rules ∙ before.rules;
   limits = behind.limits ∙ before.limits;
   most = behind.most ∙ before.most;
 }

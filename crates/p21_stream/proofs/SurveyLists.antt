@@ -5,15 +5,15 @@ use Rattle.std.specs.List.{AllByRecursion as Each}
 use Rattle.p21_spec_basics.proofs.Members.{Each-back, Each-weaker}
 use Rattle.p21_spec_basics.specs.Digits.{IsByte}
 use Rattle.p21_spec_basics.specs.Limits.{Limits}
-use Rattle.p21_spec_file.specs.Accepted.{IsAccepted}
 use Rattle.p21_spec_laws.specs.CompleteFile.{Entry}
-use Rattle.p21_spec_laws.specs.Offending.{IsUnserved, unfit, unknown}
+use Rattle.p21_spec_laws.specs.Offending.{unfit, unknown}
 use Rattle.p21_spec_laws.specs.Waiting.{Reference}
-use Rattle.p21_spec_schema.specs.Schema.{Schema}
-use Rattle.p21_spec_schema.specs.WellFormed.{IsWellFormed}
 use Rattle.p21_spec_survey.specs.Landmark.{file_begin, file_end, landmark}
 use Rattle.p21_spec_survey.specs.Laws.{EndedIsNotAccepted, ListedIsNotAccepted}
-use Rattle.p21_spec_survey.specs.Survey.{AreReferences, BeginsAt, EndsList, Extent, HasNoLandmark, IsRead, IsRefusedReference, IsToBePassed, Listed, Reading, Subject, at_end, at_most, at_stretch, by_refusal, interrupted, no_landmark, passes_over, passing_over, with_refusal}
+use Rattle.p21_spec_survey.specs.Rules.{AreWellFormed, IsRightFile, IsUnservedIn, Rules, by_itself, of_schema}
+use Rattle.p21_spec_survey.specs.Survey.{AreReferences, BeginsAt, EndsList, Extent, HasNoLandmark, IsRead, IsRefusedReference, IsToBePassed}
+use Rattle.p21_spec_survey.specs.Survey.{Listed, Reading, Subject, at_end, at_most, at_stretch, by_refusal, interrupted, no_landmark}
+use Rattle.p21_spec_survey.specs.Survey.{passes_over, passing_over, with_refusal}
 
 -- the number is below those of want of memory and of a read that failed
 abbrev pub IsLow : Listed → Type 0
@@ -25,11 +25,11 @@ some-more (first ∷ listed) one = λ none. cc
 
 -- ---- a file of which something is listed
 
-module _ (listed_law : ListedIsNotAccepted) (ended_law : EndedIsNotAccepted) (s : Schema) (formed : IsWellFormed s) (limits : Limits)
+module _ (listed_law : ListedIsNotAccepted) (ended_law : EndedIsNotAccepted) (s : Rules) (formed : AreWellFormed s) (limits : Limits)
     (file : List ℕ) (bytes : Each IsByte file) (read : Reading) (so_far : IsRead s limits file read) where
   -- the next statement is to be passed over: a landmark comes, and it is, or none does, and the reading ends
   pub passed-not_accepted : (number : ℕ) (subject : Subject) (begins : ℕ) → IsToBePassed s limits file read number subject
-      → BeginsAt file read begins → number < 90 → ¬ IsAccepted s limits file
+      → BeginsAt file read begins → number < 90 → ¬ IsRightFile s limits file
   passed-not_accepted number subject begins passes at low accepted =
       ended_law s formed limits file read number subject bytes so_far (no_landmark number subject passes none)
       (λ is. omega (arith, is, low))
@@ -44,7 +44,7 @@ module _ (listed_law : ListedIsNotAccepted) (ended_law : EndedIsNotAccepted) (s 
           (some-more read.listed _) accepted)
 
   pub list-not_accepted : (entries : List Entry) (listed : List Listed) (references : List (ℕ × ℕ)) (extent : Extent)
-      → EndsList s limits file read entries listed references extent → Each IsLow listed → listed ≢ [] → ¬ IsAccepted s limits file
+      → EndsList s limits file read entries listed references extent → Each IsLow listed → listed ≢ [] → ¬ IsRightFile s limits file
   list-not_accepted entries _ _ _ (at_end rest structure schema references is in_grammar same right answered) low some =
       listed_law s limits file read bytes so_far some
   list-not_accepted entries _ _ _ (by_refusal number subject begins ends at) low some =
@@ -64,18 +64,19 @@ module _ (listed_law : ListedIsNotAccepted) (ended_law : EndedIsNotAccepted) (s 
 abbrev pub IsOfReference : ℕ × ℕ → Type 0
 IsOfReference told = (told.0 ≡ 56) ⊎ (told.0 ≡ 57)
 
-unserved-number : (s : Schema) (entries : List Entry) (reference : Reference) (number : ℕ) → IsUnserved s entries reference number
+unserved-number : (s : Rules) (entries : List Entry) (reference : Reference) (number : ℕ) → IsUnservedIn s entries reference number
     → (number ≡ 56) ⊎ (number ≡ 57)
-unserved-number s entries reference number (unknown _ none) = inl refl
-unserved-number s entries reference number (unfit _ target among named serves) = inr refl
+unserved-number (of_schema s) entries reference number (unknown _ none) = inl refl
+unserved-number (of_schema s) entries reference number (unfit _ target among named serves) = inr refl
+unserved-number by_itself entries reference number (is, none) = inl is
 
-references-numbers : (s : Schema) (read : Reading) (entries : List Entry) (references : List (ℕ × ℕ))
+references-numbers : (s : Rules) (read : Reading) (entries : List Entry) (references : List (ℕ × ℕ))
     → AreReferences s read entries references → Each IsOfReference references
 references-numbers s read entries references right =
     Each-weaker (λ (r : ℕ × ℕ). (reference : Reference) × IsRefusedReference s read entries reference r.0 × (r.1 ≡ reference.0))
     IsOfReference (λ r (reference, refused, is). unserved-number s entries reference r.0 refused.unserved) references right
 
-pub list-references : (s : Schema) (limits : Limits) (file : List ℕ) (read : Reading) (entries : List Entry) (listed : List Listed)
+pub list-references : (s : Rules) (limits : Limits) (file : List ℕ) (read : Reading) (entries : List Entry) (listed : List Listed)
     (references : List (ℕ × ℕ)) (extent : Extent) → EndsList s limits file read entries listed references extent
     → Each IsOfReference references
 list-references s limits file read entries _ _ _ (at_end rest structure schema references is in_grammar same right answered) =

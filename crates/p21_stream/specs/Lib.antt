@@ -16,6 +16,7 @@ pub mod Feeding
 pub mod ReaderInput
 pub mod Survey
 pub mod SurveyFeeding
+pub mod Alone
 pub mod Listed
 -- What the clauses of its calls cite, for callers who name this crate alone
 pub use Rattle.p21_spec_basics.specs as p21_spec_basics

@@ -50,7 +50,8 @@ SurveysMore old new before after taken None = Keeps old new × (after ≡ before
 
 -- ---- all of it
 
--- why no more is read: a read failed, and the list hasn't ended; or it has, or the reader has no more, or more was read than a file may have
+-- why no more is read: a read failed, and the list hasn't ended; or it has, or the reader has no more, or more was read than a file may
+-- have
 abbrev pub IsOver : Limits → Option (List ℕ) → Survey → List ℕ → Bool → Type 0
 IsOver limits now survey bytes true = ¬ HasListEnded survey.stage
 IsOver limits now survey bytes false = HasListEnded survey.stage ⊎ IsAtEnd now ⊎ (limits.file_source < length bytes)

@@ -19,6 +19,7 @@
 //! (`AnySession::beside`), and neither is put into order.
 #![tactic(auto)]
 
+mod alone;
 mod any_session;
 mod claim;
 mod comparing;
@@ -36,6 +37,7 @@ mod text;
 mod walk;
 mod writing;
 
+pub use alone::{LocatedAlone, SurveyedAlone, survey_alone, survey_alone_located};
 pub use claim::headline;
 pub use comparing::{Which, same_meaning, same_meaning_located};
 pub use counting::{Counted, count, count_located};

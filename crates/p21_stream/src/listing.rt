@@ -1,10 +1,10 @@
 //! The refusals that one reading finds of a file.
 //!
 //! A survey goes on behind refusals of records, of names and of references, and behind a statement of a data section that is broken
-//! (p21_stream_survey). A wrong header or schema name makes every record wrong, and behind a statement that nothing ends nobody knows what the
-//! next one is: so these, and what no landmark comes behind, are the last of the list, and of references nothing is said then, since their
-//! targets may stand in what wasn't read.
-ghost use Rattle.std.specs.Prelude.{◌≡◌, ◌≤◌, ◌<◌, ◌+◌, ◌-◌, ◌^◌, ◌⊎◌, ◌++◌, ℕ, List, [], Option, length, map, IfOk, OnErr, OnOk};
+//! (p21_stream_survey). A wrong header or schema name makes every record wrong, and behind a statement that nothing ends nobody knows what
+//! the next one is: so these, and what no landmark comes behind, are the last of the list, and of references nothing is said then, since
+//! their targets may stand in what wasn't read.
+ghost use Rattle.std.specs.Prelude.{◌≡◌, ◌≤◌, ◌<◌, ◌+◌, ◌-◌, ◌^◌, ◌⊎◌, ◌++◌, ℕ, List, [], Option, length, map, option_map, slice_get, IfOk, OnErr, OnOk};
 ghost use Rattle.p21_stream_io.specs.Watch.{one_call_more};
 ghost use Rattle.p21_stream_survey.specs.Course.{AsksTheSame};
 ghost use Rattle.p21_stream.specs.Feeding.{TakesAtMost};
@@ -38,8 +38,8 @@ pub enum Surveyed {
 /// What is refused of a file.
 #[derive(Debug, Drop)]
 pub struct Refusals {
-    /// The refusals, one or more: those of statements in the order of the file, the one that ended the reading as the last of them, and then
-    /// those of references in the same order.
+    /// The refusals, one or more: those of statements in the order of the file, the one that ended the reading as the last of them, and
+    /// then those of references in the same order.
     pub list: Vec<Refusal>,
     /// For each refusal of a statement how many bytes of the file stand in front of this statement: so it is as long as there are such.
     pub begins: Vec<u64>,
@@ -66,14 +66,7 @@ impl LocatedSurvey {
         let Surveyed::Refused(refusals) = &self.found else {
             return None;
         };
-        let refusal = *refusals.list.get(number)?;
-        Some(Located {
-            refusal,
-            place: self.spots.place(number),
-            attribute: self.spots.attribute(number),
-            indices: self.spots.indices(number),
-            expected: self.spots.expected(number),
-        })
+        located_in(refusals, &self.spots, number)
     }
 
     /// What is wanted at the reference that the refusal of this number is of. None where it is of no reference. It takes no memory.
@@ -87,10 +80,24 @@ impl LocatedSurvey {
     }
 }
 
-/// Reads a file to its end, and lists what is refused of it, up to so many refusals; one is listed where none is asked for. An instance that
-/// is refused is left out, and a statement of a data section that is broken is passed over; the reading goes on behind both. Of references of
-/// an instance that is refused nothing is said, nor of references to its name; and where a statement is passed over no reference is said to
-/// have no target. Every other refusal ends the reading, and is the last one; of references nothing is said then.
+/// The refusal of this number in a list, and where it stands, by the places of the list.
+pub(crate) fn located_in(refusals: &Refusals, spots: &Spots, number: usize) -> Option<Located>
+    ensures { option_map (λ located. located.refusal) result ≡ slice_get refusals.now.list.items number }
+{
+    let refusal = *refusals.list.get(number)?;
+    Some(Located {
+        refusal,
+        place: spots.place(number),
+        attribute: spots.attribute(number),
+        indices: spots.indices(number),
+        expected: spots.expected(number),
+    })
+}
+
+/// Reads a file to its end, and lists what is refused of it, up to so many refusals; one is listed where none is asked for. An instance
+/// that is refused is left out, and a statement of a data section that is broken is passed over; the reading goes on behind both. Of
+/// references of an instance that is refused nothing is said, nor of references to its name; and where a statement is passed over no
+/// reference is said to have no target. Every other refusal ends the reading, and is the last one; of references nothing is said then.
 ///
 /// # Errors
 ///
@@ -182,8 +189,9 @@ fn survey_noting<R: Read>(
     hand_on(alloc, found)
 }
 
-/// Has a survey that is new read what a reader has, until its list has ended or more was read than a file may have; says whether a read failed.
-fn feed_all<R: Read>(
+/// Has a survey that is new read what a reader has, until its list has ended or more was read than a file may have; says whether a read
+/// failed.
+pub(crate) fn feed_all<R: Read>(
     survey: &mut Survey<'_>,
     limits: Limits,
     reader: &mut Watched<R>,
@@ -256,8 +264,8 @@ fn feed_piece<R: Read>(
     }
 }
 
-/// Has a survey read a piece, behind which it has read so many bytes. It stands by itself since the prover knows of a parameter, and of no part
-/// of one, that it holds bytes.
+/// Has a survey read a piece, behind which it has read so many bytes. It stands by itself since the prover knows of a parameter, and of no
+/// part of one, that it holds bytes.
 fn take_piece(survey: &mut Survey<'_>, piece: &[u8], next: u64) -> Result<(), NoMemory>
     requires { TakesPiece survey.old piece.now next }
     ensures taken { OnOk result (HasTakenPiece survey.old piece.now survey.new) }
@@ -278,6 +286,7 @@ fn hand_on(alloc: Global, found: Found) -> Result<LocatedSurvey, NoMemory>
         references,
         extent,
         accepted,
+        well_formed: _,
         spots,
     } = found;
     if let Some(accepted) = accepted {
@@ -296,7 +305,7 @@ fn hand_on(alloc: Global, found: Found) -> Result<LocatedSurvey, NoMemory>
 }
 
 /// The refusals of statements, and behind them those of references.
-fn refusals_of(
+pub(crate) fn refusals_of(
     alloc: Global,
     list: &[Listed],
     references: &[Refusal],

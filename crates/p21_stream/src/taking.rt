@@ -13,7 +13,7 @@ use p21_shorter_instances::GivenUp;
 use p21_shorter_tokens::behind_separators;
 use p21_stream_kept::FoundInstance;
 use p21_stream_statements::{Fault, Refusal};
-use p21_values::Limits;
+use p21_values::{Limits, Name};
 
 impl Walk {
     /// Takes the instances at the beginning of a piece straight from their bytes, one behind the other, and says how many these
@@ -81,22 +81,19 @@ impl Walk {
         ensures taker { IsTakerOf schema.now self.new.taker }
     {
         schema.well_formed();
-        let taken = match self.taker.take(schema, piece) {
-            Ok(taken) => taken,
+        let found = match self.taker.take(schema, piece, &mut self.taken) {
+            Ok(found) => found,
             Err(GivenUp::NotUsual) => return Ok(None),
             Err(GivenUp::NoMemory) => {
                 return Err(refused(Fault::NoMemory, None, self.statement));
             }
         };
-        let count = taken.count;
-        let Some(found) = self.taker.found(taken) else {
-            return Ok(None);
-        };
+        let count = found.count;
         if !self.statements.pass_over(count) {
             return Ok(None);
         }
         let instance = FoundInstance {
-            name: found.name,
+            name: Name(found.number),
             entities: found.entities,
             line: found.line,
             needs: found.needs,
@@ -109,7 +106,7 @@ impl Walk {
             Err(fault) => {
                 self.statements
                     .note_statement(bytes_of_statement(piece, count));
-                Err(refused(fault, Some(found.name), self.statement))
+                Err(refused(fault, Some(instance.name), self.statement))
             }
         }
     }

@@ -21,7 +21,7 @@ ghost use Rattle.p21_stream_statements.specs.StatementReader.{IsLive, limits_of,
 
 use p21_grammar::Event;
 use p21_schema::Schema;
-use p21_shorter_instances::Taker;
+use p21_shorter_instances::{Taken, Taker};
 use p21_stream_kept::{Kept, Workspace};
 use p21_stream_statements::{At, Fault, Refusal, Source, StatementReader};
 use p21_values::{Limits, Name};
@@ -33,8 +33,9 @@ pub(crate) struct Walk {
     // The statement reader, and what is kept of the statements that it gave.
     pub statements: StatementReader,
     pub kept: Kept,
-    // What takes instances straight from their bytes.
+    // What takes instances straight from their bytes, and the room for the line and the references of one.
     pub taker: Taker,
+    pub taken: Taken,
     // Where instances are checked that are taken by their tokens.
     pub workspace: Workspace,
     // The number of the open statement, counted from 1.
@@ -58,6 +59,7 @@ impl Walk {
             statements: StatementReader::new(alloc, limits),
             kept,
             taker: Taker::new(alloc),
+            taken: Taken::new(alloc),
             workspace: Workspace::new(alloc),
             statement: 1,
             source: Source::new(alloc),

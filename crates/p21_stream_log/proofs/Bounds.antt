@@ -2,7 +2,7 @@
 use Rattle.std.proofs.Common.{◌≡◌, ◌≤◌, ℕ, List, [], ◌++◌, Bool, true, false, append_assoc, length, refl, sym, ap, ◌∙◌, length-append, arith}
 use Rattle.std.proofs.lemmas.List.{append-nil}
 use Rattle.p21_spec_basics.specs.Limits.{Limits}
-use Rattle.p21_spec_schema.specs.Schema.{Schema}
+use Rattle.p21_spec_survey.specs.Rules.{Rules}
 use Rattle.p21_stream_log.specs.Laws.{AheadFits}
 use Rattle.p21_stream_log.specs.Log as log
 use Rattle.p21_stream_log.specs.Log.{IsFileOf, Known, Logs, Point}
@@ -10,7 +10,7 @@ use Rattle.p21_stream_statements.proofs.Within.{source-within}
 use Rattle.p21_stream_statements.specs.StatementReader.{limits_of}
 
 -- what is read of a file, with the buffer, is no longer than a file may be
-pub read-within : (s : Schema) (limits : Limits) (known : Known) (held : log.Held) (point : Point) → Logs s limits known held point
+pub read-within : (s : Rules) (limits : Limits) (known : Known) (held : log.Held) (point : Point) → Logs s limits known held point
     → length (point.read.bytes ++ held.buffer) ≤ limits.file_source
 read-within s limits known held point logs =
     let within = source-within held.reader logs.history logs.live in

@@ -6,7 +6,7 @@ use Rattle.p21_spec_basics.proofs.Members.{Each-append, Each-back, Each-front}
 use Rattle.p21_spec_basics.specs.Digits.{IsByte}
 use Rattle.p21_spec_basics.specs.Limits.{Limits}
 use Rattle.p21_spec_exchange.specs.Pending.{nothing}
-use Rattle.p21_spec_schema.specs.Schema.{Schema}
+use Rattle.p21_spec_survey.specs.Rules.{Rules}
 use Rattle.p21_spec_survey.specs.Survey.{BeginsWithEnd, IsGoneOnBehind, IsInData, begins_none}
 use Rattle.p21_spec_survey.specs.Whole.{BeginsNone, BeginsNoneAlike}
 use Rattle.p21_spec_syntax.specs.FileWithin.{IsNoFile}
@@ -68,7 +68,7 @@ none-further bytes more are none behind are_ = subst IsNoFile (sym (append_assoc
 
 -- ---- a statement
 
-module _ (alike : BeginsNoneAlike) (s : Schema) (limits : Limits) (known : Known) (point : Point) (held : Held) (piece more : List ℕ)
+module _ (alike : BeginsNoneAlike) (s : Rules) (limits : Limits) (known : Known) (point : Point) (held : Held) (piece more : List ℕ)
     (fault : Fault) (refused : IsRefused s limits known point piece fault held) (ahead_is : point.ahead ≡ piece ++ more) where
   next-bytes : (file : List ℕ) → IsFileOf known file
       → (rest : List ℕ) × (file ≡ point.read.bytes ++ (held.buffer ++ (piece ++ (more ++ rest))))

@@ -13,7 +13,7 @@ use Rattle.p21_spec_basics.specs.Limits.{Limits}
 use Rattle.p21_spec_exchange.specs.Record.{Record}
 use Rattle.p21_spec_exchange.specs.Separator.{IsSeparatorText, blank}
 use Rattle.p21_spec_exchange.specs.Statement.{Statement, instance}
-use Rattle.p21_spec_schema.specs.Schema.{Schema}
+use Rattle.p21_spec_survey.specs.Rules.{Rules}
 use Rattle.p21_spec_survey.specs.Landmark.{IsOpened, Signpost, landmark, signpost_bytes}
 use Rattle.p21_spec_survey.specs.Resuming.{GoesBy, further_on, within_text}
 use Rattle.p21_spec_survey.specs.Survey.{Subject, passes_over}
@@ -111,7 +111,7 @@ passed-front before statement behind passed rest signpost (further_on skipped _ 
 
 -- ---- the log
 
-module _ (s : Schema) (limits : Limits) (known : Known) (point : Point) (old : Held) (stood : StoodFor s limits known point old) where
+module _ (s : Rules) (limits : Limits) (known : Known) (point : Point) (old : Held) (stood : StoodFor s limits known point old) where
   -- what was held where the statement began
   began-at : BeganAt stood.before stood.logs.began.earlier
   began-at =

@@ -10,7 +10,7 @@ use Rattle.p21_spec_exchange.specs.Pending.{BeginsWithNoSeparator}
 use Rattle.p21_spec_exchange.specs.Record.{Record}
 use Rattle.p21_spec_exchange.specs.Statement.{Statement, instance, statement_tokens}
 use Rattle.p21_spec_exchange.specs.Token.{Token, semicolon}
-use Rattle.p21_spec_schema.specs.Schema.{Schema}
+use Rattle.p21_spec_survey.specs.Rules.{Rules}
 use Rattle.p21_spec_survey.specs.Landmark.{Signpost, StandsAt}
 use Rattle.p21_spec_survey.specs.Resuming.{HasNoneInside}
 use Rattle.p21_spec_survey.specs.Survey.{BeginsAt, IsRead, IsRefusedInstance, leaves_out, leaving_out}
@@ -58,7 +58,7 @@ FindsLexed statement found = (behind : State) → AreLexed statement behind → 
 
 -- ---- the log
 
-module _ (s : Schema) (limits : Limits) (known : Known) (held : Held) (point : Point) (logs : Logs s limits known held point) where
+module _ (s : Rules) (limits : Limits) (known : Known) (held : Held) (point : Point) (logs : Logs s limits known held point) where
   -- where its statement begins in each file
   begins-at : (statement : Statement) → point.ended ≡ statement ∷ [] → EndsWith 59 held.buffer → (start : ℕ) → BeginsBehind held start
       → (file : List ℕ) → IsFileOf known file → BeginsAt file point.read start

@@ -11,7 +11,7 @@ use Rattle.p21_spec_exchange.specs.Pending.{IsPending}
 use Rattle.p21_spec_exchange.specs.Statement.{Statement, statement_tokens}
 use Rattle.p21_spec_exchange.specs.Token.{Token, semicolon}
 use Rattle.p21_spec_file.specs.Accepted.{IsDead}
-use Rattle.p21_spec_schema.specs.Schema.{Schema}
+use Rattle.p21_spec_survey.specs.Rules.{Rules}
 use Rattle.p21_spec_survey.specs.Survey.{AreStatement}
 use Rattle.p21_spec_survey.specs.Whole.{JoinedIsLaid}
 use Rattle.p21_stream_log.proofs.Between.{between-given}
@@ -127,7 +127,7 @@ place-further limits taken bytes piece rest is _ place has = has
 
 -- ---- a statement ends with the last of them
 
-module _ (joined : JoinedIsLaid) (s : Schema) (limits : Limits) (known : Known) (old : Held) (point : Point)
+module _ (joined : JoinedIsLaid) (s : Rules) (limits : Limits) (known : Known) (old : Held) (point : Point)
     (logs : Logs s limits known old point) (none : point.ended ≡ []) (statement : Statement)
     (reader : statements.Held) (reading : StatementHistory) (live : statements.IsLive reader reading) (between : IsBetweenStatements reader)
     (given_are : reading.given ≡ logs.history.given ++ statement ∷ [])

@@ -3,7 +3,7 @@ use Rattle.std.proofs.Common.{◌≡◌, ◌⊎◌, ◌↔◌, ◌+◌, ◌-◌,
 use Rattle.std.proofs.lemmas.List.{append_cancel_left, drop_at, length-take-le, take-append-drop, take_at}
 use Rattle.p21_spec_basics.proofs.Members.{head_is, tail_is}
 use Rattle.p21_spec_basics.specs.Limits.{Limits}
-use Rattle.p21_spec_schema.specs.Schema.{Schema}
+use Rattle.p21_spec_survey.specs.Rules.{Rules}
 use Rattle.p21_spec_survey.specs.Landmark as landmarks
 use Rattle.p21_spec_survey.specs.Landmark.{IsFirstSignpost, IsOpened, Landmark, Signpost, StandsAt, file_begin, file_end, landmark, signpost_bytes}
 use Rattle.p21_spec_survey.specs.Laws.{GoesByOnePlace}
@@ -279,7 +279,7 @@ mark-same file_end (landmark (landmarks.section_end blanks)) rest other_rest mar
 
 -- ---- a log
 
-module _ (s : Schema) (limits : Limits) (known : Known) (point : Point) (old : Held) (statement behind more : List ℕ) (number : ℕ)
+module _ (s : Rules) (limits : Limits) (known : Known) (point : Point) (old : Held) (statement behind more : List ℕ) (number : ℕ)
     (subject : Subject) (begins : ℕ) (broken : IsBrokenBy s limits known point old statement behind more number subject begins) (count : ℕ)
     (signpost : Signpost) (comes : List ℕ → Type 0) (come : (file : List ℕ) (of : IsFileOf known file)
     → comes (more ++ (broken.next_in file of).rest)) (passes : PassesTo comes point.read.bytes statement behind count signpost) where
@@ -369,7 +369,7 @@ reach-stays old new count own AtFileMark gives = gives.0
 reach-stays old new count own TooLong gives = gives.0
 reach-stays old new count own (Sought seeker) gives = absurd gives
 
-module _ (one_place : GoesByOnePlace) (s : Schema) (limits : Limits) (known : Known) (point : Point) (old new : Held)
+module _ (one_place : GoesByOnePlace) (s : Rules) (limits : Limits) (known : Known) (point : Point) (old new : Held)
     (statement behind more : List ℕ) (number : ℕ) (subject : Subject) (begins : ℕ)
     (broken : IsBrokenBy s limits known point old statement behind more number subject begins) (count : ℕ) (own : code.Signpost)
     (signpost : Signpost) (describes : Describes own signpost) (comes : List ℕ → Type 0)
@@ -398,7 +398,7 @@ abbrev pub FindsLexedInside : List ℕ → List ℕ → Option (ℕ × code.Sign
 FindsLexedInside statement behind found = (state : State) → AreLexed statement state → FindsInside statement behind found
 
 -- where the files end with the statement nothing comes behind it
-none-come : (s : Schema) (limits : Limits) (known : Known) (point : Point) (old : Held) (statement behind more : List ℕ) (number : ℕ)
+none-come : (s : Rules) (limits : Limits) (known : Known) (point : Point) (old : Held) (statement behind more : List ℕ) (number : ℕ)
     (subject : Subject) (begins : ℕ) (broken : IsBrokenBy s limits known point old statement behind more number subject begins)
     → behind ≡ []
     → (inside : List ℕ) × EndsInRemark statement inside → (file : List ℕ) (of : IsFileOf known file)

@@ -3,7 +3,7 @@ use Rattle.std.proofs.Common.{◌≡◌, ℕ, Bool, true, IsTrue, List, [], ◌�
 use Rattle.p21_spec_basics.specs.Limits.{Limits}
 use Rattle.p21_spec_exchange.specs.Record.{Record}
 use Rattle.p21_spec_exchange.specs.Statement.{Statement, instance}
-use Rattle.p21_spec_schema.specs.Schema.{Schema}
+use Rattle.p21_spec_survey.specs.Rules.{Rules}
 use Rattle.p21_spec_survey.specs.Landmark.{IsOpened}
 use Rattle.p21_stream_log.proofs.Stepping.{began-on, file-on, given-before, taken-on}
 use Rattle.p21_stream_log.specs.Log.{Held, Known, Logs, PassGives, Point, behind_passed}
@@ -12,7 +12,7 @@ use Rattle.p21_stream_statements.specs.Reopening.{IsBetweenStatements}
 use Rattle.p21_stream_statements.specs.StatementReader as statements
 use Rattle.p21_stream_statements.specs.StatementReader.{limits_of}
 
-pub passed-logs : (s : Schema) (limits : Limits) (known : Known) (old new : Held) (point : Point) (bytes more : List ℕ) (n : ℕ)
+pub passed-logs : (s : Rules) (limits : Limits) (known : Known) (old new : Held) (point : Point) (bytes more : List ℕ) (n : ℕ)
     (record_ : Record) → Logs s limits known old point → point.ended ≡ [] → point.ahead ≡ bytes ++ more
     → AreInstances bytes ((n, record_) ∷ []) → GivesPassed old.reader (length bytes) new.reader → IsBetweenStatements new.reader
     → limits_of new.reader ≡ limits_of old.reader → new.start ≡ old.start → new.opened ≡ old.opened → new.buffer ≡ old.buffer ++ bytes

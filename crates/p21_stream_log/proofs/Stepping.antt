@@ -6,7 +6,7 @@ use Rattle.p21_grammar.specs.Statements.{statement_of, statements_of}
 use Rattle.p21_grammar.specs.declared.event.Event.{Event}
 use Rattle.p21_spec_basics.specs.Limits.{Limits}
 use Rattle.p21_spec_exchange.specs.Statement.{Statement}
-use Rattle.p21_spec_schema.specs.Schema.{Schema}
+use Rattle.p21_spec_survey.specs.Rules.{Rules}
 use Rattle.p21_spec_survey.specs.Landmark.{IsOpened}
 use Rattle.p21_spec_survey.specs.Survey as survey
 use Rattle.p21_spec_survey.specs.Whole.{JoinedIsLaid}
@@ -23,7 +23,7 @@ use Rattle.p21_stream_statements.specs.declared.fault.Fault.{Fault}
 use Rattle.p21_stream_statements.specs.declared.fault.Fault.TheVariants.{NoMemory}
 
 -- nothing is read
-pub at-start : (s : Schema) (limits : Limits) (known : Known) (new : Held) (ahead : List ℕ) → statements.IsLive new.reader nothing_read
+pub at-start : (s : Rules) (limits : Limits) (known : Known) (new : Held) (ahead : List ℕ) → statements.IsLive new.reader nothing_read
     → IsBetweenStatements new.reader → limits_of new.reader ≡ (limits.record_source, limits.file_source) → new.start ≡ 0 → new.buffer ≡ []
     → new.opened ≡ false → BeginSo known ahead → Logs s limits known new (at_start ahead)
 at-start s limits known new ahead live between limits_are start_is buffer_is opened_is begin = record {
@@ -62,7 +62,7 @@ began-on held next taken given same began = record {
   was_live = began.was_live;
 }
 
-module _ (s : Schema) (limits : Limits) (known : Known) (old new : Held) (point : Point) (more : List ℕ)
+module _ (s : Rules) (limits : Limits) (known : Known) (old new : Held) (point : Point) (more : List ℕ)
     (logs : Logs s limits known old point) (none : point.ended ≡ []) (start_is : new.start ≡ old.start)
     (opened_is : new.opened ≡ old.opened)
     (limits_are : limits_of new.reader ≡ limits_of old.reader) where

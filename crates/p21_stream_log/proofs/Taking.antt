@@ -10,7 +10,7 @@ use Rattle.p21_spec_exchange.specs.OpenNesting.{EndsWithSemicolon}
 use Rattle.p21_spec_exchange.specs.Separator.{IsSeparatorText}
 use Rattle.p21_spec_exchange.specs.Statement.{Statement, statement_tokens}
 use Rattle.p21_spec_exchange.specs.Token.{Token, semicolon}
-use Rattle.p21_spec_schema.specs.Schema.{Schema}
+use Rattle.p21_spec_survey.specs.Rules.{Rules}
 use Rattle.p21_spec_survey.proofs.TakingRight.{first-apart}
 use Rattle.p21_spec_survey.proofs.WholeFronts.{whole-goes_on}
 use Rattle.p21_spec_survey.specs.Landmark.{IsOpened}
@@ -62,7 +62,7 @@ pub record HasEnded (buffer : List ℕ) (statement : Statement) : Type 0 where
   pub whole : AreWhole buffer more
   pub tokens_are : tokens_in more ≡ statement_tokens statement
 
-module _ (s : Schema) (limits : Limits) (known : Known) (held : Held) (point : Point) (statement : Statement)
+module _ (s : Rules) (limits : Limits) (known : Known) (held : Held) (point : Point) (statement : Statement)
     (logs : Logs s limits known held point) (ended : point.ended ≡ statement ∷ []) where
   given : logs.history.given ≡ point.read.given ++ statement ∷ []
   given = logs.given_are ∙ ap (λ (sts : List Statement). point.read.given ++ sts) ended

@@ -3,6 +3,7 @@ use Rattle.std.specs.Prelude.{◌≡◌, ◌≢◌, ◌⊎◌, ◌<◌, ◌-◌,
 use Rattle.p21_spec_basics.specs.Limits.{Limits}
 use Rattle.p21_spec_file.specs.Accepted.{IsDead}
 use Rattle.p21_spec_schema.specs.Schema.{Schema}
+use Rattle.p21_spec_survey.specs.Rules.{Rules}
 use Rattle.p21_spec_survey.specs.Survey.{BeginsAt, BeginsWithEnd, IsGoneOnBehind, IsInData, IsToBePassed, Reading, at_statement}
 use Rattle.p21_spec_survey.specs.Whole.{HoldTheSame}
 use Rattle.p21_stream_log.specs.Front.{IsFront}
@@ -81,7 +82,7 @@ BeginsIn held bytes begins =
 -- ---- that it is to be passed over
 
 -- in each file in which no ENDSEC comes next, the statement with these bytes at its front is to be passed over
-abbrev pub IsBroken : Schema → Limits → Known → Point → List ℕ → ℕ → Type 0
+abbrev pub IsBroken : Rules → Limits → Known → Point → List ℕ → ℕ → Type 0
 IsBroken s limits known point front number =
     (file : List ℕ) → IsFileOf known file → (rest : List ℕ) → file ≡ point.read.bytes ++ rest → ¬ BeginsWithEnd rest
     → (passes : IsToBePassed s limits file point.read number (at_statement (suc point.read.count))) × (passes.statement ≡ front)
@@ -90,6 +91,6 @@ IsBroken s limits known point front number =
 -- the front of the open statement, and it is to be passed over
 abbrev pub BreaksOff : Held → List ℕ → List ℕ → Type 0
 BreaksOff held piece front =
-    IsFront front × ((s : Schema) (limits : Limits) (known : Known) (point : Point) (more : List ℕ) (fault : Fault)
+    IsFront front × ((s : Rules) (limits : Limits) (known : Known) (point : Point) (more : List ℕ) (fault : Fault)
     → IsRefused s limits known point piece fault held → point.ahead ≡ piece ++ more → IsGoneOnBehind (fault_number fault)
     → IsInData point.read.given → IsBroken s limits known point front (fault_number fault))

@@ -5,7 +5,7 @@ use Rattle.p21_spec_exchange.specs.Grammar.{InGrammar}
 use Rattle.p21_spec_exchange.specs.Laying.{AreStatementsWithin}
 use Rattle.p21_spec_exchange.specs.Statement.{Statement}
 use Rattle.p21_spec_exchange.specs.Structure.{Structure, statements}
-use Rattle.p21_spec_schema.specs.Schema.{Schema}
+use Rattle.p21_spec_survey.specs.Rules.{Rules}
 use Rattle.p21_spec_survey.specs.Resuming.{EndsInRemark, EndsInString}
 use Rattle.p21_spec_syntax.specs.FileWithin.{IsNoFile}
 use Rattle.p21_stream_log.specs.Log.{Held, IsFileOf, Known, Logs, Point}
@@ -27,11 +27,11 @@ pub record AreFileOf (most : ℕ) (bytes : List ℕ) (given : List Statement) : 
 -- the statements given, and no more bytes are read than a file may have; or they are none
 abbrev pub EndGives : Held → Result (Unit {0}) Fault → Type 0
 EndGives held (Ok done) =
-    (s : Schema) (limits : Limits) (known : Known) (point : Point) → Logs s limits known held point → point.ended ≡ [] → point.seen ≡ None
+    (s : Rules) (limits : Limits) (known : Known) (point : Point) → Logs s limits known held point → point.ended ≡ [] → point.seen ≡ None
     → AreFileOf limits.record_source (point.read.kept ++ held.buffer) point.read.given
     × (length (point.read.bytes ++ held.buffer) ≤ limits.file_source)
 EndGives held (Err fault) =
-    fault ≢ NoMemory → (s : Schema) (limits : Limits) (known : Known) (point : Point) → Logs s limits known held point → point.ended ≡ []
+    fault ≢ NoMemory → (s : Rules) (limits : Limits) (known : Known) (point : Point) → Logs s limits known held point → point.ended ≡ []
     → point.seen ≡ None
     → IsNoFile (point.read.kept ++ held.buffer)
 

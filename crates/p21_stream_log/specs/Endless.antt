@@ -1,7 +1,7 @@
 -- Statements in which a file ends, where no remark in them ends (this project's own, on the tokens of ISO 10303-21).
 use Rattle.std.specs.Prelude.{◌≡◌, ◌≢◌, ◌<◌, ◌^◌, ℕ, suc, List, [], ◌++◌, length, codes}
 use Rattle.p21_spec_basics.specs.Limits.{Limits}
-use Rattle.p21_spec_schema.specs.Schema.{Schema}
+use Rattle.p21_spec_survey.specs.Rules.{Rules}
 use Rattle.p21_spec_survey.specs.Resuming.{EndsInRemark}
 use Rattle.p21_spec_survey.specs.Survey.{BeginsAt, BeginsWithEnd, IsInData, Reading, at_statement}
 use Rattle.p21_stream_log.specs.Ending.{EndsBehind}
@@ -38,7 +38,7 @@ UnendedGoesOn = (bytes inside more : List ℕ) → EndsNoRemark (bytes ++ more) 
 
 -- in a data section the files end with this statement in a remark, and it doesn't begin with ENDSEC: so it is broken by all its bytes
 abbrev pub UnendedIsBroken : Type 0
-UnendedIsBroken = (s : Schema) (limits : Limits) (known : Known) (point : Point) (held : Held) (statement inside : List ℕ) (begins : ℕ)
+UnendedIsBroken = (s : Rules) (limits : Limits) (known : Known) (point : Point) (held : Held) (statement inside : List ℕ) (begins : ℕ)
     → Logs s limits known held point
     → point.ended ≡ [] → EndsBehind known point statement → EndsInRemark statement inside → IsInData point.read.given
     → ¬ BeginsWithEnd statement → BeginsInEach known point begins

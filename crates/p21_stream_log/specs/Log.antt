@@ -12,7 +12,7 @@ use Rattle.p21_spec_basics.specs.Limits.{Limits}
 use Rattle.p21_spec_exchange.specs.Laying.{Lexeme, tokens_in}
 use Rattle.p21_spec_exchange.specs.Record.{Record}
 use Rattle.p21_spec_exchange.specs.Statement.{Statement, instance, statement_tokens}
-use Rattle.p21_spec_schema.specs.Schema.{Schema}
+use Rattle.p21_spec_survey.specs.Rules.{Rules}
 use Rattle.p21_spec_survey.specs.Landmark.{IsOpened}
 use Rattle.p21_spec_survey.specs.Resuming.{HasNoneInside}
 use Rattle.p21_spec_survey.specs.Survey.{AreStatement, IsRead, IsRefusedInstance, IsRight, Reading, leaving_out, nothing_read, taking}
@@ -66,7 +66,7 @@ pub record BeganBehind (held : statements.Held) (taken : List ℕ) (given : List
 
 -- What is held stands for this point in each file of which so much is known: so far it is read, and the buffer stands behind that, and the
 -- bytes ahead
-pub record Logs (s : Schema) (limits : Limits) (known : Known) (held : Held) (point : Point) : Type 0 where
+pub record Logs (s : Rules) (limits : Limits) (known : Known) (held : Held) (point : Point) : Type 0 where
   pub is_read : (file : List ℕ) → IsFileOf known file → IsRead s limits file point.read
   pub file_is : (file : List ℕ) → IsFileOf known file
       → (rest : List ℕ) × (file ≡ point.read.bytes ++ (held.buffer ++ (point.ahead ++ rest)))
@@ -116,7 +116,7 @@ behind_token point seen piece count more event = record point { ended = statemen
 
 -- So many bytes of the piece were taken, with the `;` of a statement as the last of them where one has ended; and a byte may have been looked
 -- at. They are none only where a token was given by the byte behind it, which is looked at now and wasn't before
-pub record TakesToken (s : Schema) (limits : Limits) (known : Known) (point : Point) (piece more : List ℕ) (count : ℕ)
+pub record TakesToken (s : Rules) (limits : Limits) (known : Known) (point : Point) (piece more : List ℕ) (count : ℕ)
     (event : Option Event) (new : Held) : Type 0 where
   pub seen : Option ℕ
   pub seen_at : IsSeenAt seen piece count
@@ -126,7 +126,7 @@ pub record TakesToken (s : Schema) (limits : Limits) (known : Known) (point : Po
 
 -- A step was refused at a point: before it this was held but for what the reader holds, no file begins with the kept bytes, the buffer, and
 -- some of the piece, and the statement that was open is open still; if it is the fault of a byte, the reader stands in front of this
-pub record IsRefused (s : Schema) (limits : Limits) (known : Known) (point : Point) (piece : List ℕ) (fault : Fault) (new : Held) : Type
+pub record IsRefused (s : Rules) (limits : Limits) (known : Known) (point : Point) (piece : List ℕ) (fault : Fault) (new : Held) : Type
     0 where
   pub before : statements.Held
   pub logs : Logs s limits known (record { reader = before; start = new.start; buffer = new.buffer; opened = new.opened }) point
@@ -137,11 +137,11 @@ pub record IsRefused (s : Schema) (limits : Limits) (known : Known) (point : Poi
 -- What a step gives, at each point that was stood for, with no statement that has ended and the piece ahead
 abbrev pub StepGives : Held → List ℕ → Result (ℕ × Option Event) Fault → Held → Type 0
 StepGives old piece (Ok (count, event)) new =
-    (s : Schema) (limits : Limits) (known : Known) (point : Point) (more : List ℕ) → Logs s limits known old point → point.ended ≡ []
+    (s : Rules) (limits : Limits) (known : Known) (point : Point) (more : List ℕ) → Logs s limits known old point → point.ended ≡ []
     → point.ahead ≡ piece ++ more → IsSeenAt point.seen piece 0
     → TakesToken s limits known point piece more count event new
 StepGives old piece (Err fault) new =
-    fault ≢ NoMemory → (s : Schema) (limits : Limits) (known : Known) (point : Point) (more : List ℕ) → Logs s limits known old point
+    fault ≢ NoMemory → (s : Rules) (limits : Limits) (known : Known) (point : Point) (more : List ℕ) → Logs s limits known old point
     → point.ended ≡ []
     → point.ahead ≡ piece ++ more → IsSeenAt point.seen piece 0
     → IsRefused s limits known point piece fault new
@@ -167,7 +167,7 @@ behind_taken point bytes statement = record { read = taking point.read bytes sta
 -- Of each point where a statement has ended with the last byte of the buffer: it is right there, and so it is taken
 abbrev pub TakeGives : Held → Held → Type 0
 TakeGives old new =
-    (s : Schema) (limits : Limits) (known : Known) (point : Point) (statement : Statement) → Logs s limits known old point
+    (s : Rules) (limits : Limits) (known : Known) (point : Point) (statement : Statement) → Logs s limits known old point
     → point.ended ≡ statement ∷ []
     → EndsWith 59 old.buffer → IsRight s point.read.given statement
     → AreStatement old.buffer statement × Logs s limits known new (behind_taken point old.buffer statement)
@@ -189,12 +189,12 @@ behind_left_out point bytes n record_ number begins =
 -- stands in a string of it, and nothing has changed
 abbrev pub LeaveOutGives : Held → Option ℕ → Held → Type 0
 LeaveOutGives old (Some begins) new =
-    (s : Schema) (limits : Limits) (known : Known) (point : Point) (n : ℕ) (record_ : Record) (number : ℕ) → Logs s limits known old point
+    (s : Rules) (limits : Limits) (known : Known) (point : Point) (n : ℕ) (record_ : Record) (number : ℕ) → Logs s limits known old point
     → point.ended ≡ instance n record_ ∷ [] → EndsWith 59 old.buffer
     → IsRefusedInstance s point.read.given n record_ number
     → Logs s limits known new (behind_left_out point old.buffer n record_ number begins)
 LeaveOutGives old None new =
-    (new ≡ old) × ((s : Schema) (limits : Limits) (known : Known) (point : Point) (statement : Statement) (behind : List ℕ)
+    (new ≡ old) × ((s : Rules) (limits : Limits) (known : Known) (point : Point) (statement : Statement) (behind : List ℕ)
     → Logs s limits known old point → point.ended ≡ statement ∷ [] → EndsWith 59 old.buffer
     → ¬ HasNoneInside old.buffer behind)
 
@@ -207,7 +207,7 @@ behind_passed point n record_ more = record { read = point.read; ended = instanc
 -- of each point with no statement that has ended, where the bytes of an instance are ahead: it has ended behind them
 abbrev pub PassGives : Held → List ℕ → Bool → Held → Type 0
 PassGives old bytes true new =
-    (s : Schema) (limits : Limits) (known : Known) (point : Point) (more : List ℕ) (n : ℕ) (record_ : Record)
+    (s : Rules) (limits : Limits) (known : Known) (point : Point) (more : List ℕ) (n : ℕ) (record_ : Record)
     → Logs s limits known old point → point.ended ≡ []
     → point.ahead ≡ bytes ++ more → AreInstances bytes ((n, record_) ∷ [])
     → Logs s limits known new (behind_passed point n record_ more)

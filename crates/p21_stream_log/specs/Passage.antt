@@ -1,7 +1,7 @@
 -- How a statement is passed over by bytes that are in hand (this project's own, on the tokens of ISO 10303-21).
 use Rattle.std.specs.Prelude.{◌≡◌, ◌⊎◌, ◌<◌, ◌≤◌, ◌+◌, ◌-◌, ◌^◌, ℕ, true, List, [], ◌++◌, length, take, drop, Option, Some, None}
 use Rattle.p21_spec_basics.specs.Limits.{Limits}
-use Rattle.p21_spec_schema.specs.Schema.{Schema}
+use Rattle.p21_spec_survey.specs.Rules.{Rules}
 use Rattle.p21_spec_survey.specs.Landmark.{Landmark, landmark}
 use Rattle.p21_spec_survey.specs.Resuming.{EndsInRemark, HasNoneInside}
 use Rattle.p21_spec_survey.specs.Survey.{BeginsAt, EndsReading, IsPassedOver, IsToBePassed, Reading, Subject}
@@ -26,7 +26,7 @@ IsMark other = ⊥
 
 -- In a file the next statement is to be passed over, and begins behind so many bytes. These are its own up to what is refused, and behind
 -- them stand these, and more
-pub record IsNextIn (s : Schema) (limits : Limits) (file : List ℕ) (read : Reading) (statement behind more : List ℕ) (number : ℕ)
+pub record IsNextIn (s : Rules) (limits : Limits) (file : List ℕ) (read : Reading) (statement behind more : List ℕ) (number : ℕ)
     (subject : Subject) (begins : ℕ) : Type 0 where
   pub to_pass : IsToBePassed s limits file read number subject
   pub statement_is : to_pass.statement ≡ statement
@@ -36,7 +36,7 @@ pub record IsNextIn (s : Schema) (limits : Limits) (file : List ℕ) (read : Rea
 
 -- Of a point that was stood for: so it is in each file. A lexer takes the bytes of the statement, and where none are known behind it, it ends
 -- in no remark, or the files end with it
-pub record IsBrokenBy (s : Schema) (limits : Limits) (known : Known) (point : Point) (held : Held) (statement behind more : List ℕ)
+pub record IsBrokenBy (s : Rules) (limits : Limits) (known : Known) (point : Point) (held : Held) (statement behind more : List ℕ)
     (number : ℕ) (subject : Subject) (begins : ℕ) : Type 0 where
   pub stood : StoodFor s limits known point held
   pub state : State
@@ -49,7 +49,7 @@ abbrev pub IsTooMany : Limits → ℕ → Type 0
 IsTooMany limits count = (limits.file_source < count) ⊎ (2 ^ 64 ≤ count)
 
 -- in a file the next statement is passed over up to a landmark, but the file may not have as many bytes
-pub record IsPassedTooFar (s : Schema) (limits : Limits) (file : List ℕ) (read : Reading) (number : ℕ) (subject : Subject) : Type 0 where
+pub record IsPassedTooFar (s : Rules) (limits : Limits) (file : List ℕ) (read : Reading) (number : ℕ) (subject : Subject) : Type 0 where
   pub passed : List ℕ
   pub found : Landmark
   pub rest : List ℕ
@@ -80,7 +80,7 @@ GoesOnAt old other new = Unit {0}
 
 -- What is given of a point of which the statement is broken so. It is passed over in the reading that is stood for; or in each file the
 -- reading ends there, or the file may not have as many bytes; or a seeker has taken the bytes behind it
-abbrev pub PassageFor : (s : Schema) (limits : Limits) (known : Known) (point : Point) (statement behind more : List ℕ) (number : ℕ)
+abbrev pub PassageFor : (s : Rules) (limits : Limits) (known : Known) (point : Point) (statement behind more : List ℕ) (number : ℕ)
     (subject : Subject) (begins : ℕ) → Passage → Held → Type 0
 PassageFor s limits known point statement behind more number subject begins (GoesOn count) new =
     Logs s limits known new (behind_stretch point (take count (statement ++ behind)) number subject begins
@@ -94,7 +94,7 @@ PassageFor s limits known point statement behind more number subject begins (Sou
 abbrev pub PassageGives : Held → List ℕ → List ℕ → Passage → Held → Type 0
 PassageGives old statement behind passage new =
     StaysAt passage old new
-    × ((s : Schema) (limits : Limits) (known : Known) (point : Point) (more : List ℕ) (number : ℕ) (subject : Subject) (begins : ℕ)
+    × ((s : Rules) (limits : Limits) (known : Known) (point : Point) (more : List ℕ) (number : ℕ) (subject : Subject) (begins : ℕ)
     → IsBrokenBy s limits known point old statement behind more number subject begins
     → PassageFor s limits known point statement behind more number subject begins passage new)
 
@@ -111,7 +111,7 @@ FurtherGives old seeker taken piece None new after =
     → IsSoughtBy point statement (behind ++ piece) after)
 FurtherGives old seeker taken piece (Some (count, passage)) new after =
     StaysAt passage old new
-    × ((s : Schema) (limits : Limits) (known : Known) (point : Point) (statement behind more : List ℕ) (number : ℕ) (subject : Subject)
+    × ((s : Rules) (limits : Limits) (known : Known) (point : Point) (statement behind more : List ℕ) (number : ℕ) (subject : Subject)
     (begins : ℕ) → taken ≡ length (statement ++ behind) → IsSoughtBy point statement behind seeker
     → IsBrokenBy s limits known point old statement (behind ++ piece) more number subject begins
     → PassageFor s limits known point statement (behind ++ piece) more number subject begins passage new
@@ -134,6 +134,6 @@ abbrev pub PassToGives : Held → ℕ → code.Signpost → Passage → Held →
 PassToGives old count signpost (GoesOn passed) new = (passed ≡ count) × (IsMark signpost → ⊥) × GoOnGives old (old.start + count) true new
 PassToGives old count signpost AtFileMark new = (new ≡ old) × IsMark signpost
 PassToGives old count signpost TooLong new =
-    (new ≡ old) × (IsMark signpost → ⊥) × ((s : Schema) (limits : Limits) (known : Known) (point : Point)
+    (new ≡ old) × (IsMark signpost → ⊥) × ((s : Rules) (limits : Limits) (known : Known) (point : Point)
     → StoodFor s limits known point old → IsTooMany limits (old.start + count))
 PassToGives old count signpost (Sought seeker) new = ⊥

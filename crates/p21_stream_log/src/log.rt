@@ -1,5 +1,5 @@
 ghost use Rattle.std.specs.Prelude.{◌≡◌, ◌≤◌, ◌-◌, ◌++◌, [], IfErr, IfOk, IfSome, IsTrue, List, OnOk, length, ℕ};
-ghost use Rattle.p21_spec_schema.specs.Schema.{Schema};
+ghost use Rattle.p21_spec_survey.specs.Rules.{Rules};
 ghost use Rattle.p21_stream_log.specs.Broken.{BeginsIn, BreaksOff, HasSize, IsFrontOf, TellsRefused};
 ghost use Rattle.p21_stream_log.specs.Ending.{EndGives};
 ghost use Rattle.p21_stream_log.specs.Endless.{BeginsUnendedIn};
@@ -47,7 +47,7 @@ impl Model for Log {
 impl Log {
     /// A log of a file of which nothing is read. It takes no memory.
     pub fn new(alloc: Global, limits: Limits) -> Log
-        ensures logs { (s : Schema) (known : Known) (ahead : List ℕ) → BeginSo known ahead → Logs s limits known result (at_start ahead) }
+        ensures logs { (s : Rules) (known : Known) (ahead : List ℕ) → BeginSo known ahead → Logs s limits known result (at_start ahead) }
         ensures begins { BeginsAnew 0 result }
     {
         Log {

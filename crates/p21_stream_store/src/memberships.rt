@@ -90,7 +90,27 @@ impl Memberships {
     /// # Errors
     ///
     /// `NoMemory`, which changes nothing.
+    #[inline(always)]
     pub fn add(
+        &mut self,
+        alloc: Global,
+        section: usize,
+        entities: &[EntityId],
+    ) -> Result<usize, NoMemory>
+        ensures ok { IfOk result (λ number. Interns self.old (membership_of section entities.now) number self.new) }
+        ensures err { OnErr result (self.new ≡ self.old) }
+    {
+        let guess = guess_of(entities);
+        let (guessed, row) = remembered(&self.sets, &self.rows, &self.guesses, guess, entities);
+        if is_of(row, section) {
+            return Ok(guessed);
+        }
+        self.add_other(alloc, section, entities)
+    }
+
+    /// The same where none is remembered.
+    #[inline(never)]
+    fn add_other(
         &mut self,
         alloc: Global,
         section: usize,
@@ -120,6 +140,7 @@ impl Memberships {
 }
 
 /// Where the pair begins in which a membership with these entities is remembered.
+#[inline(always)]
 fn guess_of(entities: &[EntityId]) -> usize
     ensures { result + 1 < 64 }
 {
@@ -173,6 +194,7 @@ fn row_of(
 }
 
 /// Whether there is a row, and it is of this section.
+#[inline(always)]
 fn is_of(row: Option<(usize, usize)>, section: usize) -> bool
     ensures section { IsTrue result → IfSome row (λ row. row.0 ≡ section) }
     ensures some { IsTrue result → IsSome row }

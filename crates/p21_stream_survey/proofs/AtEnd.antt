@@ -1,10 +1,12 @@
 -- The end of a file.
-use Rattle.std.proofs.Common.{Bool, true, false, IsTrue, Option, Result, Ok, Err, IfOk, ◌≡◌, ◌⊎◌, ◌↔◌, ◌≤◌, ◌<◌, ◌^◌, ℕ, suc, List, [], ◌∷◌, ◌++◌, length, map, take, drop, inl, inr, refl, sym, ap, subst, ◌∙◌, append-nil, length-append, arith}
+use Rattle.std.proofs.Common.{Bool, true, false, IsTrue, Option, Result, Ok, Err, IfOk, ◌≡◌, ◌⊎◌, ◌↔◌, ◌≤◌, ◌<◌, ◌^◌, ℕ, suc, List, [], ◌∷◌}
+use Rattle.std.proofs.Common.{◌++◌, length, map, take, drop, inl, inr, refl, sym, ap, subst, ◌∙◌, append-nil, length-append, arith, None}
 use Rattle.std.proofs.lemmas.List.{take-append-drop}
 use Rattle.std.proofs.lemmas.Result.{IfOk-weaker}
 use Rattle.p21_spec_basics.specs.Limits.{Limits}
-use Rattle.p21_spec_schema.specs.Schema.{Schema}
-use Rattle.p21_spec_survey.specs.Survey.{BeginsWithEnd, EndsReading, IsGoneOnBehind, IsInData, IsSurvey, IsToBePassed, at_statement, read_failed}
+use Rattle.p21_spec_survey.specs.Rules.{Rules, by_itself, of_schema}
+use Rattle.p21_spec_survey.specs.Survey.{BeginsWithEnd, EndsReading, IsGoneOnBehind, IsInData, IsSurvey, IsToBePassed, at_statement}
+use Rattle.p21_spec_survey.specs.Survey.{read_failed}
 use Rattle.p21_stream_log.proofs.Bounds.{read-within}
 use Rattle.p21_stream_log.specs.Broken.{BeginsIn}
 use Rattle.p21_stream_log.specs.Ending.{EndGives, EndsBehind, EndsWithin}
@@ -20,7 +22,7 @@ use Rattle.p21_stream_log.specs.declared.passage.Passage.{Passage}
 use Rattle.p21_stream_log.specs.declared.passage.Passage.TheVariants.{AtFileMark, GoesOn, Sought, TooLong}
 use Rattle.p21_stream_output.specs.Output.{Output}
 use Rattle.p21_stream_resume.specs.Seeking as seeking
-use Rattle.p21_stream_sieve.specs.declared.sieve.Sieve.{Sieve}
+use Rattle.p21_stream_survey.specs.Sifted.{Sifted}
 use Rattle.p21_stream_statements.specs.Fault.{fault_number}
 use Rattle.p21_stream_statements.specs.declared.fault.Fault.{Fault}
 use Rattle.p21_stream_statements.specs.declared.fault.Fault.TheVariants.{NoMemory, Read, Token}
@@ -29,8 +31,10 @@ use Rattle.p21_stream_statements.specs.declared.refusal.Refusal.{Refusal}
 use Rattle.p21_stream_survey.proofs.Numbers.{gone-on-number}
 use Rattle.p21_stream_survey.proofs.PassedOn.{passed-reads}
 use Rattle.p21_stream_survey.specs.Ending.{EndsAtStretch, EndsBy, EndsInterrupted, IsReadSo, extent_of}
-use Rattle.p21_stream_survey.specs.Finishing.{EndsSought, EndsStatement, EndsUnread, EndsWithRefusal, FindsAtEnd, FindsReferences, FindsRefusal, InterruptsSought, IsAtEnd, IsEnded, IsEndedAt, IsKeptWhole, PassesEnded, StandsAtEnd, TellsEnd, end_fault}
-use Rattle.p21_stream_survey.specs.Found.{Accepts, IsFound, told_as}
+use Rattle.p21_stream_survey.specs.Finishing.{EndsSought, EndsStatement, EndsUnread, EndsWithRefusal, FindsAtEnd, FindsReferences}
+use Rattle.p21_stream_survey.specs.Finishing.{FindsRefusal, InterruptsSought, IsAtEnd, IsEnded, IsEndedAt, IsKeptWhole, PassesEnded}
+use Rattle.p21_stream_survey.specs.Finishing.{StandsAtEnd, TellsEnd, end_fault}
+use Rattle.p21_stream_survey.specs.Found.{Accepts, AcceptsAlone, AcceptsFile, IsFound, ListsNothing, told_as}
 use Rattle.p21_stream_survey.specs.Passing.{ListsPassed}
 use Rattle.p21_stream_survey.specs.Reading.{HasRead, listed_as}
 use Rattle.p21_stream_survey.specs.declared.finishing.Ended.{Ended}
@@ -39,11 +43,12 @@ use Rattle.p21_stream_survey.specs.declared.listed.Extent.{Extent}
 use Rattle.p21_stream_survey.specs.declared.listed.Found.{Found}
 use Rattle.p21_stream_survey.specs.declared.listed.Listed as code
 use Rattle.p21_stream_survey.specs.declared.listing.Listing.{Listing}
+use Rattle.p21_stream_syntax.specs.declared.well_formed.WellFormed.{WellFormed}
 use Rattle.p21_tokens.specs.declared.fault.TokenFault.TheVariants.{FileTooLong}
 
 -- ---- what is known where nothing was refused
 
-pub stood : (s : Schema) (limits : Limits) (known : Known) (point : Point) (held : Held) → Logs s limits known held point → point.ended ≡ []
+pub stood : (s : Rules) (limits : Limits) (known : Known) (point : Point) (held : Held) → Logs s limits known held point → point.ended ≡ []
     → StoodFor s limits known point held
 stood s limits known point held logs between = record {
   before = held.reader;
@@ -62,7 +67,7 @@ pub in-data : (held : Held) (found : Bool) → TellsData held found → found �
 in-data held found tells is = subst (TellsData held) is tells
 
 pub out-of_data : (held : Held) (found : Bool) → TellsData held found → found ≡ false
-    → (s : Schema) (limits : Limits) (known : Known) (point : Point) → StoodFor s limits known point held → ¬ IsInData point.read.given
+    → (s : Rules) (limits : Limits) (known : Known) (point : Point) → StoodFor s limits known point held → ¬ IsInData point.read.given
 out-of_data held found tells none s limits known point for_point in_data = let clash : false ≡ true = sym none
     ∙ (tells s limits known point for_point).1 in_data in cc
 
@@ -76,7 +81,7 @@ not-with_end bytes opening.Statement other (begun, never) = λ ends. never [] (s
 not-with_end bytes Untold other (never, rest) = never
 
 -- where the files end behind the buffer the statement begins there
-begins-there : (s : Schema) (limits : Limits) (known : Known) (point : Point) (held : Held) (begins : ℕ) → limits.file_source < 2 ^ 64
+begins-there : (s : Rules) (limits : Limits) (known : Known) (point : Point) (held : Held) (begins : ℕ) → limits.file_source < 2 ^ 64
     → BeginsIn held held.buffer begins → Logs s limits known held point → EndsBehind known point held.buffer
     → BeginsInEach known point begins
 begins-there s limits known point held begins short begins_in logs to_end file of =
@@ -84,13 +89,13 @@ begins-there s limits known point held begins short begins_in logs to_end file o
     begins_in file [] point.read logs.start_is (omega (arith, within, short))
     (to_end file of ∙ ap (λ (l : List ℕ). point.read.bytes ++ l) (sym (append-nil held.buffer))) (inr refl)
 
-pub begins-at_end : (s : Schema) (limits : Limits) (known : Known) (point : Point) (held : Held) (bytes : List ℕ) (begins : ℕ)
+pub begins-at_end : (s : Rules) (limits : Limits) (known : Known) (point : Point) (held : Held) (bytes : List ℕ) (begins : ℕ)
     → limits.file_source < 2 ^ 64 → bytes ≡ held.buffer → BeginsIn held bytes begins → Logs s limits known held point
     → EndsBehind known point held.buffer → BeginsInEach known point begins
 begins-at_end s limits known point held bytes begins short are begins_in =
     begins-there s limits known point held begins short (subst (λ (l : List ℕ). BeginsIn held l begins) are begins_in)
 
-read-so : (s : Schema) (limits : Limits) (known : Known) (point : Point) (held : Held) (sieve : Sieve) (listing : Listing) (begins : ℕ)
+read-so : (s : Rules) (limits : Limits) (known : Known) (point : Point) (held : Held) (sieve : Sifted) (listing : Listing) (begins : ℕ)
     → Logs s limits known held point → HasRead s limits point.read sieve listing → BeginsInEach known point begins
     → (file : List ℕ) → IsFileOf known file → IsReadSo s limits file point.read sieve listing begins
 read-so s limits known point held sieve listing begins logs has at file of =
@@ -101,7 +106,7 @@ read-so s limits known point held sieve listing begins logs has at file of =
 module _ (limits : Limits) (held : Held) (bytes : List ℕ) (fault : Fault) (begins : ℕ) where
   -- it is to be passed over, where that is so at each point
   abbrev pub EndsAt : Type 0
-  EndsAt = (s : Schema) (known : Known) (point : Point) (sieve : Sieve) (listing : Listing) → bytes ≡ held.buffer
+  EndsAt = (s : Rules) (known : Known) (point : Point) (sieve : Sifted) (listing : Listing) → bytes ≡ held.buffer
       → IsAtEnd s limits known held sieve listing point → IsEndedAt s limits known point held fault begins
 
   pub ends-at : limits.file_source < 2 ^ 64 → TellsData held true → ¬ BeginsWithEnd bytes
@@ -120,7 +125,7 @@ module _ (limits : Limits) (held : Held) (bytes : List ℕ) (fault : Fault) (beg
         begins_in = begins-at_end s limits known point held bytes begins short are begins_in logs at.to_end;
       }
 
-ended-broken : EndedIsBroken → (s : Schema) (limits : Limits) (known : Known) (point : Point) (held : Held) (fault : Fault) (begins : ℕ)
+ended-broken : EndedIsBroken → (s : Rules) (limits : Limits) (known : Known) (point : Point) (held : Held) (fault : Fault) (begins : ℕ)
     → IsEndedAt s limits known point held fault begins
     → IsBrokenBy s limits known point held held.buffer [] [] (fault_number fault) (at_statement (suc point.read.count)) begins
 ended-broken broken s limits known point held fault begins at =
@@ -143,7 +148,7 @@ stretch-ends broken limits old new before behind bytes fault begins extent at en
 -- ---- it is passed over
 
 says-ended : EndedIsBroken → (old new : Held) (fault : Fault) (begins : ℕ) (bytes : List ℕ) (passage : Passage)
-    → PassageGives old bytes [] passage new → (s : Schema) (limits : Limits) (known : Known) (point : Point)
+    → PassageGives old bytes [] passage new → (s : Rules) (limits : Limits) (known : Known) (point : Point)
     → bytes ≡ old.buffer → IsEndedAt s limits known point old fault begins
     → PassageFor s limits known point bytes [] [] (fault_number fault) (at_statement (suc point.read.count)) begins passage new
 says-ended broken old new fault begins bytes passage gives s limits known point are at =
@@ -221,7 +226,7 @@ passes-on limits old new before behind bytes fault begins count at passes none s
 -- with this refusal, in each file
 with-refusal : (limits : Limits) (old new : Held) (before between behind : Listing) (bytes : List ℕ) (fault : Fault) (begins : ℕ)
     (ended : Ended) → between ≡ before → EndsWithRefusal between fault begins ended behind
-    → ((s : Schema) (known : Known) (point : Point) (sieve : Sieve) → bytes ≡ old.buffer → IsAtEnd s limits known old sieve before point
+    → ((s : Rules) (known : Known) (point : Point) (sieve : Sifted) → bytes ≡ old.buffer → IsAtEnd s limits known old sieve before point
     → BeginsInEach known point begins × ((file : List ℕ) → IsFileOf known file
     → EndsReading s limits file point.read (fault_number fault) (at_statement (suc point.read.count))))
     → EndsStatement limits old before bytes ended new behind
@@ -318,8 +323,16 @@ stretch-interrupted before behind fault begins extent by s limits known point he
 
 -- ---- what is found
 
+-- where something is refused, no file is accepted
+accepts-none : (s : Rules) (limits : Limits) (file : List ℕ) (found : Found) → found.accepted ≡ None → found.well_formed ≡ None
+    → ¬ ListsNothing found → Accepts s limits file found
+accepts-none (of_schema s) limits file found accepted well_formed some =
+    subst (λ (a : Option Output). AcceptsFile s limits file found a) (sym accepted) some
+accepts-none by_itself limits file found accepted well_formed some =
+    subst (λ (w : Option WellFormed). AcceptsAlone limits file found w) (sym well_formed) some
+
 -- where the list has ended
-pub ended-found : (s : Schema) (limits : Limits) (file : List ℕ) (listing : Listing) (extent : Extent) (found : Found)
+pub ended-found : (s : Rules) (limits : Limits) (file : List ℕ) (listing : Listing) (extent : Extent) (found : Found)
     → 0 < length listing.list.items → IsSurvey s limits file (map listed_as listing.list.items) [] (extent_of extent)
     → IsEnded listing extent found
     → IsFound s limits file found
@@ -330,7 +343,7 @@ ended-found s limits file listing extent found some survey ended = record {
       (subst (λ (l : List Refusal). IsSurvey s limits file (map listed_as found.list.items) (map told_as l) (extent_of extent))
       (sym ended.references)
       (subst (λ (l : List code.Listed). IsSurvey s limits file (map listed_as l) [] (extent_of extent)) (sym ended.list) survey));
-  accepted = subst (λ (a : Option Output). Accepts s limits file found a) (sym ended.accepted)
+  accepted = accepts-none s limits file found ended.accepted ended.well_formed
       (λ nothing. let size : length listing.list.items ≡ 0 = ap length (sym ended.list ∙ nothing.0) in omega (arith, size, some));
   unserved = λ told. absurd (told ended.references);
 }
@@ -345,7 +358,7 @@ refusal-found listing behind fault begins extent found list by ended s limits fi
     ended-found s limits file behind extent found (omega (arith, size, sum)) (by s limits file read sieve so reading) ended
 
 -- what is kept of a whole file
-pub kept-whole : (s : Schema) (held : Held) (sieve : Sieve) (listing : Listing) → StandsAtEnd s held sieve listing → EndGives held (Ok tt)
+pub kept-whole : (s : Rules) (held : Held) (sieve : Sifted) (listing : Listing) → StandsAtEnd s held sieve listing → EndGives held (Ok tt)
     → IsKeptWhole s sieve listing
 kept-whole s held sieve listing stands gives =
     let at = stands.at_end in
@@ -358,7 +371,7 @@ kept-whole s held sieve listing stands gives =
       are_file = (gives s stands.limits stands.known stands.point at.stands.logs at.between at.unseen).0;
     }
 
-pub file-found : (s : Schema) (limits : Limits) (held : Held) (sieve : Sieve) (listing : Listing) (found : Found) → EndGives held (Ok tt)
+pub file-found : (s : Rules) (limits : Limits) (held : Held) (sieve : Sifted) (listing : Listing) (found : Found) → EndGives held (Ok tt)
     → FindsReferences s sieve listing found → FindsAtEnd s limits held sieve listing found
 file-found s limits held sieve listing found gives finds known point at file of =
     let logs = at.stands.logs in
@@ -374,12 +387,12 @@ file-found s limits held sieve listing found gives finds known point at file of 
 
 -- the number of the end of a file that is refused
 early-number : (held : Held) (bytes : List ℕ) (fault : Fault) (is_told : Bool) → (IsTrue is_told → TellsEnd held bytes)
-    → (s : Schema) (limits : Limits) (known : Known) (point : Point) → StoodFor s limits known point held
+    → (s : Rules) (limits : Limits) (known : Known) (point : Point) → StoodFor s limits known point held
     → (fault_number (end_fault fault is_told) ≡ 24) ⊎ ¬ IsInData point.read.given ⊎ OpensAs bytes SectionEnd
 early-number held bytes fault true tells s limits known point for_point = inr (tells refl s limits known point for_point)
 early-number held bytes fault false tells s limits known point for_point = inl refl
 
-pub early-found : EarlyEnds → (s : Schema) (limits : Limits) (held : Held) (sieve : Sieve) (listing : Listing) (bytes : List ℕ)
+pub early-found : EarlyEnds → (s : Rules) (limits : Limits) (held : Held) (sieve : Sifted) (listing : Listing) (bytes : List ℕ)
     (fault : Fault) (is_told : Bool) (begins : ℕ) (found : Found) → limits.file_source < 2 ^ 64 → bytes ≡ held.buffer
     → BeginsIn held bytes begins
     → (IsTrue is_told → TellsEnd held bytes) → EndGives held (Err fault) → ¬ (fault ≡ NoMemory)

@@ -1,11 +1,12 @@
 -- The walk behind a statement that has ended and was judged.
-use Rattle.std.proofs.Common.{◌≡◌, ◌≢◌, ◌+◌, ℕ, suc, true, List, [], ◌∷◌, ◌++◌, length, length-append, Ok, Err, inl, inr, refl, sym, subst, ◌∙◌, arith}
+use Rattle.std.proofs.Common.{◌≡◌, ◌≢◌, ◌+◌, ℕ, suc, true, List, [], ◌∷◌, ◌++◌, length, length-append, Ok, Err, inl, inr, refl, sym, subst}
+use Rattle.std.proofs.Common.{◌∙◌, arith}
 use Rattle.p21_spec_exchange.specs.Statement.{Statement, instance}
+use Rattle.p21_spec_survey.specs.Rules.{Rules}
 use Rattle.p21_spec_survey.specs.Survey.{in_instance}
 use Rattle.p21_stream_log.specs.Laws.{OffendingEnds}
 use Rattle.p21_stream_log.specs.Log as log
 use Rattle.p21_stream_log.specs.Log.{Known, behind_left_out, behind_taken}
-use Rattle.p21_stream_sieve.specs.declared.sieve.Sieve.{Sieve}
 use Rattle.p21_stream_statements.specs.Fault.{fault_number}
 use Rattle.p21_stream_statements.specs.declared.fault.Fault.{Fault}
 use Rattle.p21_stream_statements.specs.declared.fault.Fault.TheVariants.{NoMemory}
@@ -15,8 +16,11 @@ use Rattle.p21_stream_survey.proofs.Numbers.{are-listed}
 use Rattle.p21_stream_survey.proofs.Surveyed.{surveyed-most}
 use Rattle.p21_stream_survey.specs.Course.{Course, GoesTo, IsInStage}
 use Rattle.p21_stream_survey.specs.Following.{HasEnded, LeavesOut, Stands, TakesRight}
+use Rattle.p21_stream_survey.specs.Keeping.{StaysBy, kept_by, rules_by, rules_of, sifted_of}
+use Rattle.p21_stream_survey.specs.Sifted.{Sifted}
 use Rattle.p21_stream_survey.specs.Walking.{EndsAt, EndsWhereFull, EndsWithin, FollowsJudged, GoesBehind}
 use Rattle.p21_stream_survey.specs.declared.judging.Judgement.TheVariants.{Right, Wrong}
+use Rattle.p21_stream_survey.specs.declared.keeper.Keeper.{Keeper}
 use Rattle.p21_stream_survey.specs.declared.listing.Listing.{Listing}
 use Rattle.p21_stream_survey.specs.declared.stage.Stage.{Stage}
 use Rattle.p21_stream_survey.specs.declared.stage.Stage.TheVariants.{Reading}
@@ -44,16 +48,16 @@ pub right-follows : (old : Survey) (held : log.Held) (listing : Listing) (again 
 right-follows old held listing again none takes anew known ahead j =
     let has = j.has in
     let point = has.point in
-    let s = old.schema.now in
+    let s = rules_by old in
     let new : Survey = record old { log = held; listing = listing } in
     let taken = j.gives point.read.given point.read.taken has.stands.has.sifts in
-    let stands = takes s old.limits known point j.statement j.before old.judge.sieve has.stands has.ended taken in
+    let stands = takes s old.limits known point j.statement j.before (kept_by old) has.stands has.ended taken in
     let before = listed-length s old.limits point.read j.before old.listing has.stands.has in
-    let behind = listed-length s old.limits (behind_taken point old.log.buffer j.statement).read old.judge.sieve listing stands.has in
+    let behind = listed-length s old.limits (behind_taken point old.log.buffer j.statement).read (kept_by old) listing stands.has in
     let same : length listing.list.items ≡ length old.listing.list.items = behind ∙ sym before in
     let fewer = has.fewer in
     let reads : IsInStage known new Reading ahead = record {
-      sound = record { few = has.sound.few; limited = has.sound.limited; same_schema = has.sound.same_schema; taker = has.sound.taker };
+      sound = record { few = has.sound.few; limited = has.sound.limited; keeper = has.sound.keeper };
       within = omega (arith, same, fewer);
       is_at = record {
         point = behind_taken point old.log.buffer j.statement;
@@ -68,31 +72,34 @@ right-follows old held listing again none takes anew known ahead j =
     none-again known old new again ahead none
     (record {
       course = still-reading known new ahead has.reading reads;
-      same = record { schema = refl; limits = refl; most = refl };
+      same = record { rules = refl; limits = refl; most = refl };
       no_fewer = omega (arith, same);
     })
 
 -- ---- it is wrong, and left out
 
-pub left-follows : (old : Survey) (n : ℕ) (fault : Fault) (held : log.Held) (sieve : Sieve) (listing : Listing) (new : Survey)
-    (again : List ℕ) → again ≡ [] → LeavesOut old.log old.judge.sieve old.listing n fault true held sieve listing → held.buffer ≡ []
-    → EndsWhereFull (record old { log = held; judge = record old.judge { sieve = sieve }; listing = listing }) new
+pub left-follows : (old : Survey) (n : ℕ) (fault : Fault) (held : log.Held) (keeper : Keeper) (listing : Listing) (new : Survey)
+    (again : List ℕ) → again ≡ [] → LeavesOut old.log (kept_by old) old.listing n fault true held (sifted_of keeper) listing
+    → StaysBy old.keeper keeper → held.buffer ≡ [] → EndsWhereFull (record old { log = held; keeper = keeper; listing = listing }) new
     → FollowsJudged old (Ok (Wrong n fault)) again new
-left-follows old n fault held sieve listing new again none leaves anew full known ahead j =
+left-follows old n fault held keeper listing new again none leaves stays anew full known ahead j =
     let has = j.has in
     let point = has.point in
-    let s = old.schema.now in
+    let s = rules_by old in
     let wrong = j.gives in
-    let middle : Survey = record old { log = held; judge = record old.judge { sieve = sieve }; listing = listing } in
+    let middle : Survey = record old { log = held; keeper = keeper; listing = listing } in
     let ended : HasEnded old.log point (instance n wrong.record_) =
     subst (λ (st : Statement). HasEnded old.log point st) wrong.statement_is has.ended in
     let refused = wrong.refused point.read.given point.read.taken has.stands.has.sifts in
-    let own : Stands s old.limits known old.log old.judge.sieve old.listing point =
-    subst (λ (k : Sieve). Stands s old.limits known old.log k old.listing point) (sym wrong.same) has.stands in
-    let (begins, stands) = leaves s old.limits known point wrong.record_ own ended refused in
+    let own : Stands s old.limits known old.log (kept_by old) old.listing point =
+    subst (λ (k : Sifted). Stands s old.limits known old.log k old.listing point) (sym wrong.same) has.stands in
+    let (begins, left) = leaves s old.limits known point wrong.record_ own ended refused in
     let next = behind_left_out point old.log.buffer n wrong.record_ (fault_number fault) begins in
-    let before = listed-length s old.limits point.read old.judge.sieve old.listing own.has in
-    let behind = listed-length s old.limits next.read sieve listing stands.has in
+    let r = rules_of keeper in
+    let stands : Stands r old.limits known held (sifted_of keeper) listing next =
+    subst (λ (x : Rules). Stands x old.limits known held (sifted_of keeper) listing next) (sym stays.rules) left in
+    let before = listed-length s old.limits point.read (kept_by old) old.listing own.has in
+    let behind = listed-length r old.limits next.read (sifted_of keeper) listing stands.has in
     let one : length (point.read.listed ++ record { number = fault_number fault; subject = in_instance n; begins = begins } ∷ []) ≡ length
     point.read.listed + 1 = length-append point.read.listed
     (record { number = fault_number fault; subject = in_instance n; begins = begins } ∷ []) in
@@ -106,9 +113,7 @@ left-follows old n fault held sieve listing new again none leaves anew full know
                   sound = record {
                     few = has.sound.few;
                     limited = has.sound.limited;
-                    same_schema = has.sound.same_schema;
-                    taker =
-                        has.sound.taker;
+                    keeper = stays.sound has.sound.keeper;
                   };
                   within = low;
                   is_at = record {
@@ -121,7 +126,7 @@ left-follows old n fault held sieve listing new again none leaves anew full know
                         own.logs.start_is stands.logs.start_is anew has.counted;
                   };
                 });
-            same = record { schema = refl; limits = refl; most = refl };
+            same = record { rules = refl; limits = refl; most = refl };
             no_fewer = omega arith;
           })
       | inr (high, same) ↦ subst (λ (survey : Survey). GoesTo known middle survey ahead) (sym same)
@@ -130,17 +135,15 @@ left-follows old n fault held sieve listing new again none leaves anew full know
               sound = record {
                 few = has.sound.few;
                 limited = has.sound.limited;
-                same_schema = has.sound.same_schema;
-                taker =
-                    has.sound.taker;
+                keeper = stays.sound has.sound.keeper;
               };
               within = (omega (arith, more), omega (arith, more, fewer), λ most. omega (arith, more, fewer, high));
               is_at = record {
-                surveys = λ file of. surveyed-most s old.limits file next.read sieve listing (stands.logs.is_read file of) stands.has;
+                surveys = λ file of. surveyed-most r old.limits file next.read (sifted_of keeper) listing (stands.logs.is_read file of) stands.has;
                 of_file = are-listed listing.list.items next.read.listed stands.has.listed stands.has.of_file;
               };
             };
-            same = record { schema = refl; limits = refl; most = refl };
+            same = record { rules = refl; limits = refl; most = refl };
             no_fewer = omega arith;
           })
     ] in
@@ -148,7 +151,7 @@ left-follows old n fault held sieve listing new again none leaves anew full know
     none-again known old new again ahead none
     (record {
       course = goes.course;
-      same = record { schema = goes.same.schema; limits = goes.same.limits; most = goes.same.most };
+      same = record { rules = goes.same.rules ∙ stays.rules; limits = goes.same.limits; most = goes.same.most };
       no_fewer = omega (arith, more, grown);
     })
 

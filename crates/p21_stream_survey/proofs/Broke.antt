@@ -3,7 +3,7 @@ use Rattle.std.proofs.Common.{◌-◌, take, length-append, arith, ◌≡◌, �
 use Rattle.std.proofs.lemmas.List.{take_all}
 use Rattle.std.proofs.Math.Seq.{drop-append_seam}
 use Rattle.p21_spec_basics.specs.Limits.{Limits}
-use Rattle.p21_spec_schema.specs.Schema.{Schema}
+use Rattle.p21_spec_survey.specs.Rules.{Rules}
 use Rattle.p21_spec_survey.specs.Survey.{at_statement}
 use Rattle.p21_stream_log.specs.Broken.{IsFrontOf}
 use Rattle.p21_stream_log.specs.Going.{StoodFor}
@@ -16,7 +16,7 @@ use Rattle.p21_stream_statements.specs.declared.fault.Fault.{Fault}
 use Rattle.p21_stream_survey.specs.Breaking.{IsRefusedAt, PassesBroken}
 
 -- what is held stood for the point
-stood : (s : Schema) (limits : Limits) (known : Known) (point : Point) (held : Held) (piece more : List ℕ) (fault : Fault) (begins : ℕ)
+stood : (s : Rules) (limits : Limits) (known : Known) (point : Point) (held : Held) (piece more : List ℕ) (fault : Fault) (begins : ℕ)
     → IsRefusedAt s limits known point held piece more fault begins → StoodFor s limits known point held
 stood s limits known point held piece more fault begins at =
     record { before = at.refused.before; logs = at.refused.logs; stays = at.refused.stays; of_instance = inl at.between }

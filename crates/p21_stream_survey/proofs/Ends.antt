@@ -1,16 +1,17 @@
 -- How the walk ends the list.
-use Rattle.std.proofs.Common.{◌≡◌, ◌≢◌, ◌<◌, ◌+◌, ◌^◌, ℕ, suc, List, [], ◌∷◌, ◌++◌, length, length-append, Result, Ok, Err, OnOk, refl, sym, ap, subst, ◌∙◌, arith}
+use Rattle.std.proofs.Common.{◌≡◌, ◌≢◌, ◌<◌, ◌+◌, ◌^◌, ℕ, suc, List, [], ◌∷◌, ◌++◌, length, length-append, Result, Ok, Err, OnOk, refl, sym}
+use Rattle.std.proofs.Common.{ap, subst, ◌∙◌, arith}
 use Rattle.std.proofs.lemmas.List.{length-map}
 use Rattle.p21_spec_basics.specs.Limits.{Limits}
 use Rattle.p21_spec_laws.proofs.Keeps.{keeps-size}
-use Rattle.p21_spec_schema.specs.Schema.{Schema}
+use Rattle.p21_spec_survey.specs.Rules.{Rules, HasSize, of_schema, by_itself}
 use Rattle.p21_spec_survey.specs.Survey as survey
 use Rattle.p21_spec_survey.specs.Survey.{EndsReading, IsRead, Reading, at_statement}
 use Rattle.p21_stream_log.specs.Laws.{OffendingEnds}
 use Rattle.p21_stream_log.specs.Log.{Known}
 use Rattle.p21_stream_log.specs.Broken.{BeginsIn}
 use Rattle.p21_stream_log.specs.Opening.{IsBegun}
-use Rattle.p21_stream_sieve.specs.declared.sieve.Sieve.{Sieve}
+use Rattle.p21_stream_survey.specs.Sifted.{Sifted, size_kept, sieved, alone}
 use Rattle.p21_stream_statements.specs.Fault.{fault_number}
 use Rattle.p21_stream_statements.specs.declared.fault.Fault.{Fault}
 use Rattle.p21_stream_statements.specs.declared.fault.Fault.TheVariants.{NoMemory}
@@ -29,9 +30,12 @@ use Rattle.p21_stream_survey.specs.declared.listing.Listing.{Listing}
 use Rattle.p21_stream_survey.specs.declared.stage.Stage.TheVariants.{Ended, Waiting}
 use Rattle.p21_stream_survey.specs.declared.stage.Unlisted.{Unlisted}
 use Rattle.p21_stream_survey.specs.declared.survey.Survey.{Survey}
+use Rattle.p21_stream_survey.specs.Keeping.{rules_by}
+use Rattle.p21_stream_survey.specs.Judging.{SiftsTo}
+use Rattle.p21_spec_exchange.specs.Statement as exchange
 
 -- as many are listed as of the reading
-pub listed-length : (s : Schema) (limits : Limits) (read : Reading) (sieve : Sieve) (listing : Listing)
+pub listed-length : (s : Rules) (limits : Limits) (read : Reading) (sieve : Sifted) (listing : Listing)
     → HasRead s limits read sieve listing → length listing.list.items ≡ length read.listed
 listed-length s limits read sieve listing has = sym (length-map listing.list.items listed_as) ∙ ap length has.listed
 
@@ -58,9 +62,9 @@ ends-told known old fault bytes ahead begins ends in_ begun =
         begins_at = begins-each known old.log w.read bytes begins in_ w.start_is low
             (λ f o. (let (rest, is) = w.file_is f o in (ahead ++ rest, is))) begun file of;
       };
-      ends = λ file of. subst (λ (s : survey.Subject). EndsReading old.schema.now old.limits file w.read (fault_number fault) s) number
+      ends = λ file of. subst (λ (s : survey.Subject). EndsReading (rules_by old) old.limits file w.read (fault_number fault) s) number
           (w.ends file of);
-      of_file = reads-with old.schema.now old.limits w.read w.sieve old.listing w.has
+      of_file = reads-with (rules_by old) old.limits w.read w.sieve old.listing w.has
           (record { fault = fault; at = Statement old.listing.statement; begins = begins }) w.of_file;
     }
 
@@ -78,15 +82,21 @@ pub ends-waiting : (old : Survey) (unlisted : Unlisted)
     → EndsAt old unlisted.fault unlisted.bytes.items (record old { stage = Waiting unlisted })
 ends-waiting old unlisted known ahead ends = record {
   course = record {
-    sound = record { few = ends.sound.few; limited = ends.sound.limited; same_schema = ends.sound.same_schema; taker = ends.sound.taker };
+    sound = record { few = ends.sound.few; limited = ends.sound.limited; keeper = ends.sound.keeper };
     within = ends.fewer;
     is_at = ends.waits;
   };
-  same = record { schema = refl; limits = refl; most = refl };
+  same = record { rules = refl; limits = refl; most = refl };
   no_fewer = omega arith;
 }
 
 -- ---- a statement that has ended, and that a session refuses
+
+kept-size : (s : Rules) (limits : Limits) (given taken : List exchange.Statement) (sieve : Sifted) → SiftsTo s limits given taken sieve
+    → HasSize s taken (size_kept sieve)
+kept-size (of_schema s) limits given taken (sieved sieve) sifts = (keeps-size s limits taken sieve.kept sifts.keeps).0
+kept-size (of_schema s) limits given taken (alone kept names) sifts = absurd sifts
+kept-size by_itself limits given taken sieve sifts = tt
 
 pub refused-within : OffendingEnds → (known : Known) (old : Survey) (fault : Fault) (ahead : List ℕ) → fault ≢ NoMemory
     → IsJudged known old (Err fault) ahead → EndsWithin known old fault old.log.buffer ahead
@@ -95,9 +105,9 @@ refused-within offends known old fault ahead other j =
     let point = has.point in
     let logs = has.stands.logs in
     let end = j.gives other point.read.given point.read.taken has.stands.has.sifts in
-    let size = (keeps-size old.schema.now old.limits point.read.taken j.before.kept has.stands.has.sifts.keeps).0 in
+    let size = kept-size (rules_by old) old.limits point.read.given point.read.taken j.before has.stands.has.sifts in
     record {
-      sound = record { few = has.sound.few; limited = has.sound.limited; same_schema = has.sound.same_schema; taker = has.sound.taker };
+      sound = record { few = has.sound.few; limited = has.sound.limited; keeper = has.sound.keeper };
       fewer = has.fewer;
       waits = record {
         read = point.read;
@@ -107,9 +117,9 @@ refused-within offends known old fault ahead other j =
         start_is = logs.start_is;
         file_is = λ file of. subst (λ (l : List ℕ). (rest : List ℕ) × (file ≡ point.read.bytes ++ (old.log.buffer ++ (l ++ rest))))
             has.ahead_are (logs.file_is file of);
-        ends = offends old.schema.now old.limits known point old.log j.statement (j.before.kept.bytes + j.before.kept.framing)
+        ends = offends (rules_by old) old.limits known point old.log j.statement (size_kept j.before)
             (fault_number fault) logs has.ended.ended has.ended.ends size end.offends end.by_length;
-        of_file = offends-number old.schema.now old.limits point.read.taken (j.before.kept.bytes + j.before.kept.framing) j.statement
+        of_file = offends-number (rules_by old) old.limits point.read.taken (size_kept j.before) j.statement
             (fault_number fault) end.offends;
         counted = has.counted;
       };
@@ -136,7 +146,7 @@ module _ (old : Survey) (listing : Listing) (refusal : code.Listed) (extent : Ex
       let one = one-more in (
         record {
           course = record {
-            sound = record { few = so.sound.few; limited = so.sound.limited; same_schema = so.sound.same_schema; taker = so.sound.taker };
+            sound = record { few = so.sound.few; limited = so.sound.limited; keeper = so.sound.keeper };
             within = (
               omega (arith, one),
               omega (arith, one, fewer),
@@ -144,11 +154,11 @@ module _ (old : Survey) (listing : Listing) (refusal : code.Listed) (extent : Ex
                   (let clash : Most ≡ ReadTo refusal.begins = sym is ∙ read in cc),
             );
             is_at = record {
-              surveys = λ file of. ends old.schema.now old.limits file so.read so.sieve (so.so file of) (so.ends file of);
+              surveys = λ file of. ends (rules_by old) old.limits file so.read so.sieve (so.so file of) (so.ends file of);
               of_file = subst AreOfFile (sym list) so.of_file;
             };
           };
-          same = record { schema = refl; limits = refl; most = refl };
+          same = record { rules = refl; limits = refl; most = refl };
           no_fewer = omega (arith, one);
         },
         omega (arith, one),
@@ -162,14 +172,14 @@ module _ (old : Survey) (listing : Listing) (refusal : code.Listed) (extent : Ex
       let one = one-more in (
         record {
           course = record {
-            sound = record { few = so.sound.few; limited = so.sound.limited; same_schema = so.sound.same_schema; taker = so.sound.taker };
+            sound = record { few = so.sound.few; limited = so.sound.limited; keeper = so.sound.keeper };
             within = (omega (arith, one), omega (arith, one, last), λ is. omega (arith, one, last));
             is_at = record {
-              surveys = λ file of. ends old.schema.now old.limits file so.read so.sieve (so.so file of) (so.passes file of);
+              surveys = λ file of. ends (rules_by old) old.limits file so.read so.sieve (so.so file of) (so.passes file of);
               of_file = subst AreOfFile (sym list) so.of_file;
             };
           };
-          same = record { schema = refl; limits = refl; most = refl };
+          same = record { rules = refl; limits = refl; most = refl };
           no_fewer = omega (arith, one);
         },
         omega (arith, one),

@@ -1,7 +1,7 @@
 -- The loops of the walk.
-use Rattle.std.proofs.Common.{◌≡◌, ◌⊎◌, ◌≤◌, ◌<◌, ◌+◌, ◌-◌, ◌*◌, ◌^◌, ℕ, suc, List, [], ◌++◌, Bool, true, false, length, length-append, drop, inl, inr, refl, sym, ap, subst, ◌∙◌, append_assoc, append-nil, arith}
-use Rattle.p21_shorter_instances.specs.Taker.{IsTakerOf}
-use Rattle.p21_spec_schema.specs.Schema.{Schema}
+use Rattle.std.proofs.Common.{◌≡◌, ◌⊎◌, ◌≤◌, ◌<◌, ◌+◌, ◌-◌, ◌*◌, ◌^◌, ℕ, suc, List, [], ◌++◌, Bool, true, false, length, length-append}
+use Rattle.std.proofs.Common.{drop, inl, inr, refl, sym, ap, subst, ◌∙◌, append_assoc, append-nil, arith}
+use Rattle.p21_spec_survey.specs.Rules.{Rules}
 use Rattle.p21_spec_survey.specs.Survey.{nothing_read}
 use Rattle.p21_stream_log.specs.Going.{BeginsAnew}
 use Rattle.p21_stream_log.specs.Log.{BeginSo, Known, Logs, at_start}
@@ -12,6 +12,7 @@ use Rattle.p21_stream_survey.specs.declared.stage.Stage.{Stage}
 use Rattle.p21_stream_survey.specs.declared.stage.Stage.TheVariants as stage
 use Rattle.p21_stream_survey.specs.declared.survey.Next.{Next}
 use Rattle.p21_stream_survey.specs.declared.survey.Survey.{Survey}
+use Rattle.p21_stream_survey.specs.Keeping.{rules_by, kept_by, IsSoundKeeper}
 
 -- ---- the beginning
 
@@ -26,19 +27,19 @@ begins-so : (known : Known) → BeginSo known known.bytes
 begins-so known file of = front-of known.is_all known.bytes file of.1
 
 pub begins-course : (known : Known) (survey : Survey)
-    → ((s : Schema) (k : Known) (ahead : List ℕ) → BeginSo k ahead → Logs s survey.limits k survey.log (at_start ahead))
-    → BeginsAnew 0 survey.log → HasRead survey.schema.now survey.limits nothing_read survey.judge.sieve survey.listing
-    → length survey.listing.list.items ≡ 0 → 0 < survey.most → survey.limits.file_source < 2 ^ 64 → survey.judge.known ≡ survey.schema.now
-    → IsTakerOf survey.schema.now survey.taker → length known.bytes < 2 ^ 64 → IsInStage known survey stage.Reading known.bytes
-begins-course known survey logs anew has none some limited same taker few =
+    → ((s : Rules) (k : Known) (ahead : List ℕ) → BeginSo k ahead → Logs s survey.limits k survey.log (at_start ahead))
+    → BeginsAnew 0 survey.log → HasRead (rules_by survey) survey.limits nothing_read (kept_by survey) survey.listing
+    → length survey.listing.list.items ≡ 0 → 0 < survey.most → survey.limits.file_source < 2 ^ 64 → IsSoundKeeper survey.keeper
+    → length known.bytes < 2 ^ 64 → IsInStage known survey stage.Reading known.bytes
+begins-course known survey logs anew has none some limited keeper few =
     let start = anew.start in
     let size = ap length anew.buffer in
     record {
-      sound = record { few = few; limited = limited; same_schema = same; taker = taker };
+      sound = record { few = few; limited = limited; keeper = keeper };
       within = omega (arith, none, some);
       is_at = record {
         point = at_start known.bytes;
-        stands = record { logs = logs survey.schema.now known known.bytes (begins-so known); has = has };
+        stands = record { logs = logs (rules_by survey) known known.bytes (begins-so known); has = has };
         between = refl;
         ahead_are = refl;
         seen_at = tt;
@@ -56,7 +57,7 @@ goes-on known old middle new between ahead first second =
     record {
       course = second.course;
       same = record {
-        schema = second.same.schema ∙ first.same.schema;
+        rules = second.same.rules ∙ first.same.rules;
         limits = second.same.limits
             ∙ first.same.limits;
         most = second.same.most ∙ first.same.most;
@@ -67,7 +68,7 @@ goes-on known old middle new between ahead first second =
 pub stays-there : (known : Known) (survey : Survey) (ahead : List ℕ) → Course known survey ahead → GoesTo known survey survey ahead
 stays-there known survey ahead course = record {
   course = course;
-  same = record { schema = refl; limits = refl; most = refl };
+  same = record { rules = refl; limits = refl; most = refl };
   no_fewer =
       omega arith;
 }

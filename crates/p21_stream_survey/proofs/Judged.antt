@@ -4,14 +4,18 @@ use Rattle.p21_spec_basics.specs.Limits.{Limits}
 use Rattle.p21_spec_exchange.specs.Parameter.{Param}
 use Rattle.p21_spec_exchange.specs.Record.{Part, Record}
 use Rattle.p21_spec_exchange.specs.Statement.{SectionLine, Statement, header, instance, section}
-use Rattle.p21_spec_file.specs.BrokenRule.{Breaks, abstract_leaf, at_place, one_of, open_place, part_missing, part_twice, unknown_entity, wrong_count}
-use Rattle.p21_spec_file.specs.BrokenValue.{BreaksAt, BreaksAtPlace, BreaksWithin, derived_not_star, in_chosen, in_element, in_underlying, itself, missing, not_distinct, number_range, out_of_bounds, select_type, star_not_derived, stored, unknown_item, wrong_kind, wrong_width}
+use Rattle.p21_spec_file.specs.BrokenRule.{Breaks, abstract_leaf, at_place, one_of, open_place, part_missing, part_twice, unknown_entity}
+use Rattle.p21_spec_file.specs.BrokenRule.{wrong_count}
+use Rattle.p21_spec_file.specs.BrokenValue.{BreaksAt, BreaksAtPlace, BreaksWithin, derived_not_star, in_chosen, in_element, in_underlying}
+use Rattle.p21_spec_file.specs.BrokenValue.{itself, missing, not_distinct, number_range, out_of_bounds, select_type, star_not_derived}
+use Rattle.p21_spec_file.specs.BrokenValue.{stored, unknown_item, wrong_kind, wrong_width}
 use Rattle.p21_spec_file.specs.Reference.{Need}
 use Rattle.p21_spec_laws.specs.Keeping.{Kept}
 use Rattle.p21_spec_laws.specs.Offending.{Offends, broken as breaks_rule}
 use Rattle.p21_spec_schema.specs.PlaceType.{PlaceType}
 use Rattle.p21_spec_schema.specs.Schema.{Schema, TypeUse}
 use Rattle.p21_spec_schema.specs.WellFormed.{IsWellFormed}
+use Rattle.p21_spec_survey.specs.Rules.{of_schema}
 use Rattle.p21_stream_kept.specs.Steps as kept_steps
 use Rattle.p21_stream_kept.specs.Taking as kept_taking
 use Rattle.p21_stream_sieve.proofs.SieveTaking.{Reason, by_name, by_rule, by_size, reason-is, refuses-behind}
@@ -22,15 +26,18 @@ use Rattle.p21_stream_sieve.specs.declared.sieve.Sieve.{Sieve}
 use Rattle.p21_stream_statements.specs.Fault.{fault_number}
 use Rattle.p21_stream_statements.specs.Source.{IsOfStatement}
 use Rattle.p21_stream_statements.specs.declared.fault.Fault.{Fault}
-use Rattle.p21_stream_statements.specs.declared.fault.Fault.TheVariants.{CanonicalTooLong, Check, Dangling, DuplicateName, Grammar, NoMemory, Read, SchemaName, SectionTwice, Token, Write, WrongTarget}
+use Rattle.p21_stream_statements.specs.declared.fault.Fault.TheVariants.{CanonicalTooLong, Check, Dangling, DuplicateName, Grammar}
+use Rattle.p21_stream_statements.specs.declared.fault.Fault.TheVariants.{NoMemory, Read, SchemaName, SectionTwice, Token, Write}
+use Rattle.p21_stream_statements.specs.declared.fault.Fault.TheVariants.{WrongTarget}
 use Rattle.p21_stream_survey.proofs.Rightness.{right-behind}
-use Rattle.p21_stream_survey.specs.Judging.{Follows, FollowsFound, IsWrong, JudgeGives, SiftsTo, said_of, wrong_or_end}
+use Rattle.p21_stream_survey.specs.Judging.{FollowsFound, FollowsSieved, IsWrong, JudgesSieved, SiftsOfSchema, said_of, wrong_or_end}
+use Rattle.p21_stream_survey.specs.Sifted.{sieved}
 use Rattle.p21_stream_survey.specs.declared.judging.Judgement.{Judgement}
 use Rattle.p21_stream_survey.specs.declared.judging.Judgement.TheVariants.{Right, Wrong}
 
 -- ---- what is asked of what is kept
 
-pub follows-taken : (s : Schema) (limits : Limits) (sieve : Sieve) (statement : Statement) → Follows s limits sieve statement
+pub follows-taken : (s : Schema) (limits : Limits) (sieve : Sieve) (statement : Statement) → FollowsSieved s limits sieve statement
     → kept_taking.Follows s limits sieve.kept statement
 follows-taken s limits sieve statement follows =
     let sifts = follows.sifts in
@@ -52,7 +59,7 @@ found-taken s limits sieve n entities needs text is =
 pub kept-judges : (s : Schema) (limits : Limits) (old : Sieve) (kept : Kept) (statement : Statement) (result : Result (Unit {0}) Fault)
     → kept_steps.StepGives s limits old.kept statement result kept → kept.lines ≡ old.kept.lines
     → ((n : ℕ) (r : Record) → statement ≡ instance n r → ⊥)
-    → JudgeGives s limits old statement (said_of result) (record old { kept = kept })
+    → JudgesSieved s limits old statement (said_of result) (record old { kept = kept })
 kept-judges s limits old kept statement (Ok done) gives lines none = λ given taken sifts. record {
   sifts = record {
     sifted = passes given taken old.refusals.items statement sifts.sifted;
@@ -72,10 +79,10 @@ kept-judges s limits old kept statement (Err fault) gives lines none = λ other 
 pub said-judges : (s : Schema) (limits : Limits) (old now : Sieve) (kept : Kept) (statement : Statement) (result : Result (Unit {0}) Fault)
     (said : Result Judgement Fault) → now ≡ old → kept_steps.StepGives s limits now.kept statement result kept
     → kept.lines ≡ now.kept.lines → ((n : ℕ) (r : Record) → statement ≡ instance n r → ⊥) → said ≡ said_of result
-    → JudgeGives s limits old statement said (record now { kept = kept })
+    → JudgesSieved s limits old statement said (record now { kept = kept })
 said-judges s limits old now kept statement result said same gives lines none is =
-    subst (λ (sieve : Sieve). JudgeGives s limits sieve statement said (record now { kept = kept })) same
-    (subst (λ (answer : Result Judgement Fault). JudgeGives s limits now statement answer (record now { kept = kept })) (sym is)
+    subst (λ (sieve : Sieve). JudgesSieved s limits sieve statement said (record now { kept = kept })) same
+    (subst (λ (answer : Result Judgement Fault). JudgesSieved s limits now statement answer (record now { kept = kept })) (sym is)
     (kept-judges s limits now kept statement result gives lines none))
 
 pub no-section : (line : SectionLine) (n : ℕ) (r : Record) → section line ≡ instance n r → ⊥
@@ -86,7 +93,7 @@ no-header part n r is = cc
 
 pub taken-judges : (s : Schema) (limits : Limits) (old : Sieve) (kept : Kept) (n : ℕ) (record_ : Record)
     → kept_steps.StepGives s limits old.kept (instance n record_) (Ok tt) kept → kept.lines ≡ old.kept.lines → ¬ HasName old.names n
-    → JudgeGives s limits old (instance n record_) (Ok Right) (record old { kept = kept })
+    → JudgesSieved s limits old (instance n record_) (Ok Right) (record old { kept = kept })
 taken-judges s limits old kept n r gives lines fresh = λ given taken sifts. record {
   sifts = record {
     sifted = passes given taken old.refusals.items (instance n r) sifts.sifted;
@@ -172,22 +179,22 @@ by-length s limits taken size n r WrongTarget kind other memory offends =
 module _ (s : Schema) (formed : IsWellFormed s) (limits : Limits) (old : Sieve) (kept : Kept) (n : ℕ) (record_ : Record) where
   -- for all that were taken it is refused by the fault, want of memory apart
   abbrev IsRefusedBy : Fault → Type 0
-  IsRefusedBy fault = fault ≢ NoMemory → (given taken : List Statement) → SiftsTo s limits given taken old
+  IsRefusedBy fault = fault ≢ NoMemory → (given taken : List Statement) → SiftsOfSchema s limits given taken old
       → Offends s limits taken (old.kept.bytes + old.kept.framing) (instance n record_) (fault_number fault)
 
   wrong-is : (fault : Fault) → IsOfStatement fault → IsOfInstance fault → fault ≢ NoMemory → (fault ≢ NoMemory → kept ≡ old.kept)
-      → IsRefusedBy fault → IsWrong s limits old (instance n record_) n fault (record old { kept = kept })
+      → IsRefusedBy fault → IsWrong (of_schema s) limits (sieved old) (instance n record_) n fault (sieved (record old { kept = kept }))
   wrong-is fault kind of other same refused = record {
     record_ = record_;
     statement_is = refl;
-    same = ap (λ (k : Kept). record old { kept = k }) (same other);
+    same = ap (λ (k : Kept). sieved (record old { kept = k })) (same other);
     kind = kind;
     refused = λ given taken sifts. refuses-behind s formed limits given taken n (old.kept.bytes + old.kept.framing) record_
         (λ m among. passed-named s given taken old.refusals.items sifts.sifted m among) fault of (refused other given taken sifts);
   }
 
   end-is : (fault : Fault) → IsOfStatement fault → (IsOfInstance fault → ⊥) → IsRefusedBy fault
-      → JudgeGives s limits old (instance n record_) (Err fault) (record old { kept = kept })
+      → JudgesSieved s limits old (instance n record_) (Err fault) (record old { kept = kept })
   end-is fault kind none refused = λ other given taken sifts. record {
     offends = refused other given taken sifts;
     by_length = λ m q is. by-length s limits taken (old.kept.bytes + old.kept.framing) n record_ fault kind none other
@@ -195,7 +202,7 @@ module _ (s : Schema) (formed : IsWellFormed s) (limits : Limits) (old : Sieve) 
   }
 
   pub refused-judges : (fault : Fault) → IsOfStatement fault → (fault ≢ NoMemory → kept ≡ old.kept) → IsRefusedBy fault
-      → JudgeGives s limits old (instance n record_) (wrong_or_end n fault) (record old { kept = kept })
+      → JudgesSieved s limits old (instance n record_) (wrong_or_end n fault) (record old { kept = kept })
   refused-judges (Check fault) kind same refused = wrong-is (Check fault) kind tt (λ is. cc) same refused
   refused-judges DuplicateName kind same refused = wrong-is DuplicateName kind tt (λ is. cc) same refused
   refused-judges (Token fault) kind same refused = end-is (Token fault) kind (λ of. of) refused
@@ -211,24 +218,24 @@ module _ (s : Schema) (formed : IsWellFormed s) (limits : Limits) (old : Sieve) 
 
 -- one whose record is refused before it is asked for
 pub alone-judges : (s : Schema) → IsWellFormed s → (limits : Limits) (old : Sieve) (statement : Statement) (n : ℕ) (fault : Fault)
-    → IsRefusedAlone s old statement n fault → IsOfStatement fault → JudgeGives s limits old statement (wrong_or_end n fault) old
+    → IsRefusedAlone s old statement n fault → IsOfStatement fault → JudgesSieved s limits old statement (wrong_or_end n fault) old
 alone-judges s formed limits old statement n fault is kind =
-    subst (λ (st : Statement). JudgeGives s limits old st (wrong_or_end n fault) old) (sym is.statement_is)
+    subst (λ (st : Statement). JudgesSieved s limits old st (wrong_or_end n fault) old) (sym is.statement_is)
     (refused-judges s formed limits old old.kept n is.record_ fault kind (λ other. refl)
     (λ other given taken sifts. breaks_rule n is.record_ (fault_number fault) (is.breaks other)))
 
 -- the same, by what was told of it
 pub alone-said : (s : Schema) → IsWellFormed s → (limits : Limits) (old now : Sieve) (statement : Statement) (n : ℕ) (fault : Fault)
     (known : Schema) (said : Result Judgement Fault) → known ≡ s → IsRefusedAlone known old statement n fault → IsOfStatement fault
-    → said ≡ wrong_or_end n fault → now ≡ old → JudgeGives s limits old statement said now
+    → said ≡ wrong_or_end n fault → now ≡ old → JudgesSieved s limits old statement said now
 alone-said s formed limits old now statement n fault known said is alone kind answer same =
-    subst (λ (sieve : Sieve). JudgeGives s limits old statement said sieve) (sym same)
-    (subst (λ (answered : Result Judgement Fault). JudgeGives s limits old statement answered old) (sym answer)
+    subst (λ (sieve : Sieve). JudgesSieved s limits old statement said sieve) (sym same)
+    (subst (λ (answered : Result Judgement Fault). JudgesSieved s limits old statement answered old) (sym answer)
     (alone-judges s formed limits old statement n fault (subst (λ (k : Schema). IsRefusedAlone k old statement n fault) is alone) kind))
 
 -- one whose name one has that was refused
 pub again-judges : (s : Schema) (limits : Limits) (old : Sieve) (n : ℕ) (record_ : Record) → HasName old.names n
-    → JudgeGives s limits old (instance n record_) (Ok (Wrong n DuplicateName)) old
+    → JudgesSieved s limits old (instance n record_) (Ok (Wrong n DuplicateName)) old
 again-judges s limits old n r has = record {
   record_ = r;
   statement_is = refl;

@@ -1,20 +1,22 @@
 -- The bytes in which a file ends, where no remark ends in them.
-use Rattle.std.proofs.Common.{true, Option, Result, IfOk, ◌≡◌, ◌⊎◌, ◌≤◌, ◌<◌, ◌+◌, ◌-◌, ◌^◌, ℕ, List, [], ◌++◌, length, take, drop, min, inl, inr, refl, sym, ap, subst, ◌∙◌, append_assoc, append-nil, length-append, arith}
+use Rattle.std.proofs.Common.{true, Option, Result, IfOk, ◌≡◌, ◌≤◌, ◌<◌, ◌+◌, ◌-◌, ℕ, List, [], ◌++◌, length, take, drop, min, inl, inr}
+use Rattle.std.proofs.Common.{refl, sym, ap, subst, ◌∙◌, append_assoc, append-nil, length-append, arith}
 use Rattle.std.proofs.lemmas.List.{drop-drop, drop_at, drop_min, take-append-drop}
 use Rattle.std.proofs.lemmas.Result.{IfOk-weaker}
 use Rattle.p21_spec_basics.proofs.Members.{rest_is}
 use Rattle.p21_spec_basics.specs.Limits.{Limits}
-use Rattle.p21_spec_schema.specs.Schema.{Schema}
+use Rattle.p21_spec_survey.specs.Rules.{Rules}
 use Rattle.p21_stream_log.specs.Log as log
 use Rattle.p21_stream_log.specs.Log.{IsFileOf, Known}
 use Rattle.p21_stream_resume.proofs.EndlessRemarks.{none-behind}
 use Rattle.p21_stream_resume.specs.Standing.{EndsNoRemark}
-use Rattle.p21_stream_sieve.specs.declared.sieve.Sieve.{Sieve}
+use Rattle.p21_stream_survey.specs.Sifted.{Sifted}
 use Rattle.p21_stream_statements.specs.StatementReader.{IsSeenAt}
-use Rattle.p21_stream_survey.proofs.Feeding.{IsOnWay, ended-anywhere, further-on, goes-on, left_to_do, less-left, stays-there}
+use Rattle.p21_stream_survey.proofs.Feeding.{ended-anywhere, further-on, goes-on, left_to_do, less-left, stays-there}
 use Rattle.p21_stream_survey.proofs.LastStage.{goes-ended, goes-reading, none-left}
 use Rattle.p21_stream_survey.proofs.Numbers.{reads-of_file}
-use Rattle.p21_stream_survey.specs.Course.{AsksTheSame, Course, Feeds, GoesFurther, GoesTo, HasListEnded, IsInStage, IsUnderWay, ListsWithin, Reads, listed_of}
+use Rattle.p21_stream_survey.specs.Course.{AsksTheSame, Course, Feeds, GoesFurther, GoesTo, HasListEnded, IsInStage, IsUnderWay}
+use Rattle.p21_stream_survey.specs.Course.{ListsWithin, Reads, listed_of}
 use Rattle.p21_stream_survey.specs.Finishing.{CountsEnd}
 use Rattle.p21_stream_survey.specs.Kinds.{AreOfFile}
 use Rattle.p21_stream_survey.specs.Unended.{EndsUnended, FeedsLast, GoesLast, IsAtLast, IsLast, IsStatementIn, PassesOpen}
@@ -26,11 +28,12 @@ use Rattle.p21_stream_survey.specs.declared.stage.Stage.{Stage}
 use Rattle.p21_stream_survey.specs.declared.stage.Stage.TheVariants as stage
 use Rattle.p21_stream_survey.specs.declared.survey.Next.{Next}
 use Rattle.p21_stream_survey.specs.declared.survey.Survey.{Survey}
+use Rattle.p21_stream_survey.specs.Keeping.{kept_by, rules_by}
 
 -- ---- the open statement
 
 -- the files end with what is taken of it and what comes next
-at-last : (s : Schema) (limits : Limits) (known : Known) (held : log.Held) (sieve : Sieve) (listing : Listing) (ahead statement : List ℕ)
+at-last : (s : Rules) (limits : Limits) (known : Known) (held : log.Held) (sieve : Sifted) (listing : Listing) (ahead statement : List ℕ)
     → known.is_all ≡ true → statement ≡ held.buffer ++ ahead → (reads : Reads s limits known held sieve listing ahead)
     → IsAtLast s limits known held sieve listing reads.point statement
 at-last s limits known held sieve listing ahead statement all is reads = record {
@@ -54,16 +57,16 @@ at-last s limits known held sieve listing ahead statement all is reads = record 
 -- it is passed over
 pub open-passes : (old new : Survey) (front statement bytes left : List ℕ) (count : ℕ) → front ≡ old.log.buffer
     → statement ≡ front ++ bytes → old.stage ≡ stage.Reading → new.stage ≡ stage.Reading → AsksTheSame old new
-    → new.judge.known ≡ old.judge.known → new.taker ≡ old.taker → new.judge.sieve ≡ old.judge.sieve
+    → new.keeper ≡ old.keeper
     → EndsUnended old.limits old.log old.listing front statement (at_end.PassedOver count) new.log new.listing
     → (listed_of old < old.most → CountsEnd old.most (listed_of old) (at_end.PassedOver count) (listed_of new))
     → left ≡ drop count statement → PassesOpen old bytes left new
-open-passes old new front statement bytes left count are is reading still same judge taker sieve ends counts left_is known all course =
+open-passes old new front statement bytes left count are is reading still same keeper ends counts left_is known all course =
     let in_stage = subst (λ (g : Stage). IsInStage known old g bytes) reading course in
     let reads = in_stage.is_at in
     let whole : statement ≡ old.log.buffer ++ bytes = is ∙ ap (λ (l : List ℕ). l ++ bytes) are in
-    let last = at-last old.schema.now old.limits known old.log old.judge.sieve old.listing bytes statement all whole reads in
-    let passed = ends old.schema.now known reads.point old.judge.sieve are last in
+    let last = at-last (rules_by old) old.limits known old.log (kept_by old) old.listing bytes statement all whole reads in
+    let passed = ends (rules_by old) known reads.point (kept_by old) are last in
     let (further, fewer) = counts in_stage.within in
     let size = passed.counted in
     let counted = reads.counted in
@@ -71,7 +74,7 @@ open-passes old new front statement bytes left count are is reading still same j
     let items = ap length left_is in
     let all_of = ap length whole in
     let sum = length-append old.log.buffer bytes in
-    let into = goes-reading known old new left in_stage.sound same judge taker sieve fewer (record {
+    let into = goes-reading known old new left in_stage.sound same keeper fewer (record {
       point = passed.point;
       stands = passed.stands;
       between = passed.between;
@@ -90,20 +93,20 @@ open-passes old new front statement bytes left count are is reading still same j
 -- the list ends with it
 pub open-ends : (old new : Survey) (front statement bytes : List ℕ) (extent : Extent) → front ≡ old.log.buffer
     → statement ≡ front ++ bytes → old.stage ≡ stage.Reading → new.stage ≡ stage.Ended extent → AsksTheSame old new
-    → new.judge.known ≡ old.judge.known → new.taker ≡ old.taker
+    → new.keeper ≡ old.keeper
     → EndsUnended old.limits old.log old.listing front statement (at_end.Listed extent) new.log new.listing
     → (listed_of old < old.most → CountsEnd old.most (listed_of old) (at_end.Listed extent) (listed_of new))
     → listed_of old ≤ listed_of new
     → (AreOfFile old.listing.list.items → AreOfFile new.listing.list.items) → PassesOpen old bytes bytes new
-open-ends old new front statement bytes extent are is reading over same judge taker ends counts more of_file known all course =
+open-ends old new front statement bytes extent are is reading over same keeper ends counts more of_file known all course =
     let in_stage = subst (λ (g : Stage). IsInStage known old g bytes) reading course in
     let reads = in_stage.is_at in
     let whole : statement ≡ old.log.buffer ++ bytes = is ∙ ap (λ (l : List ℕ). l ++ bytes) are in
-    let last = at-last old.schema.now old.limits known old.log old.judge.sieve old.listing bytes statement all whole reads in
-    let into = goes-ended known old new extent in_stage.sound same judge taker
+    let last = at-last (rules_by old) old.limits known old.log (kept_by old) old.listing bytes statement all whole reads in
+    let into = goes-ended known old new extent in_stage.sound same keeper
     (subst (λ (most : ℕ). ListsWithin most (listed_of new) (stage.Ended extent)) (sym same.most) (counts in_stage.within))
-    (ends old.schema.now known reads.point old.judge.sieve are last)
-    (of_file (reads-of_file old.schema.now old.limits reads.point.read old.judge.sieve old.listing reads.stands.has)) in (
+    (ends (rules_by old) known reads.point (kept_by old) are last)
+    (of_file (reads-of_file (rules_by old) old.limits reads.point.read (kept_by old) old.listing reads.stands.has)) in (
       record {
         course = subst (λ (g : Stage). IsInStage known new g bytes) (sym over)
             (ended-anywhere known new (stage.Ended extent) [] bytes tt into.in_stage);

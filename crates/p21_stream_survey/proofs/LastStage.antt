@@ -1,15 +1,15 @@
 -- A survey at the end of what is known of its file.
-use Rattle.std.proofs.Common.{Bool, true, false, Option, Some, None, ◌≡◌, ◌<◌, ◌+◌, ◌^◌, ℕ, suc, List, [], ◌∷◌, ◌++◌, length, drop, inl, inr, refl, sym, ap, subst, ◌∙◌, append-nil, length-append, arith}
+use Rattle.std.proofs.Common.{Bool, true, false, Option, Some, None, ◌≡◌, ◌<◌, ◌+◌, ◌^◌, ℕ, suc, List, [], ◌∷◌, ◌++◌, length, drop, inl}
+use Rattle.std.proofs.Common.{inr, refl, sym, ap, subst, ◌∙◌, append-nil, length-append, arith}
 use Rattle.std.proofs.lemmas.List.{nil_from_length}
-use Rattle.p21_shorter_instances.specs.Taker.{IsTakerOf}
 use Rattle.p21_spec_basics.specs.Limits.{Limits}
-use Rattle.p21_spec_schema.specs.Schema.{Schema}
+use Rattle.p21_spec_survey.specs.Rules.{Rules}
 use Rattle.p21_spec_survey.specs.Survey.{EndsReading, Reading, at_statement, read_failed}
 use Rattle.p21_stream_log.proofs.Endings.{all-passed}
 use Rattle.p21_stream_log.specs.Broken.{BeginsIn}
 use Rattle.p21_stream_log.specs.Log as log
 use Rattle.p21_stream_log.specs.Log.{IsFileOf, Known}
-use Rattle.p21_stream_sieve.specs.declared.sieve.Sieve.{Sieve}
+use Rattle.p21_stream_survey.specs.Sifted.{Sifted}
 use Rattle.p21_stream_statements.specs.Fault.{fault_number}
 use Rattle.p21_stream_statements.specs.StatementReader.{IsSeenAt}
 use Rattle.p21_stream_statements.specs.declared.fault.Fault.{Fault}
@@ -17,13 +17,15 @@ use Rattle.p21_stream_statements.specs.declared.fault.Fault.TheVariants.{Read}
 use Rattle.p21_stream_statements.specs.declared.refusal.At.TheVariants.{Statement}
 use Rattle.p21_stream_survey.proofs.AtEnd.{ended-found}
 use Rattle.p21_stream_survey.proofs.Numbers.{reads-of_file, reads-with}
-use Rattle.p21_stream_survey.specs.Course.{AsksTheSame, Course, Feeds, GoesTo, IsInStage, IsSound, ListsWithin, Reads, SurveysEach, listed_of}
+use Rattle.p21_stream_survey.specs.Course.{AsksTheSame, Course, GoesTo, IsInStage, IsSound, ListsWithin, Reads, SurveysEach, listed_of}
 use Rattle.p21_stream_survey.specs.Ending as ending
 use Rattle.p21_stream_survey.specs.Ending.{ListsRead}
-use Rattle.p21_stream_survey.specs.Finishing.{CountsEnd, EndsSought, EndsStatement, EndsUnread, FindsAtEnd, InterruptsSought, IsAtEnd, IsEnded, IsFoundIn, StandsAtEnd}
+use Rattle.p21_stream_survey.specs.Finishing.{CountsEnd, EndsSought, EndsStatement, EndsUnread, FindsAtEnd, InterruptsSought, IsAtEnd}
+use Rattle.p21_stream_survey.specs.Finishing.{IsEnded, IsFoundIn, StandsAtEnd}
 use Rattle.p21_stream_survey.specs.Found.{FindsAtMost, IsFound}
 use Rattle.p21_stream_survey.specs.Kinds.{AreOfFile, AreOfReading, IsOfFile}
-use Rattle.p21_stream_survey.specs.ReadOut.{AddsRead, EndsBy, EndsIn, EndsReadOut, EndsStage, FindsAll, FindsIn, GoesInto, Interrupts, IsAgain, IsInterrupted, IsReadOut, ListsInterrupted, ReadsAgain, SomeIsReadOut, last_stage}
+use Rattle.p21_stream_survey.specs.ReadOut.{AddsRead, EndsBy, EndsIn, EndsReadOut, EndsStage, FindsAll, FindsIn, GoesInto, Interrupts}
+use Rattle.p21_stream_survey.specs.ReadOut.{IsAgain, IsInterrupted, IsReadOut, ListsInterrupted, ReadsAgain, SomeIsReadOut, last_stage}
 use Rattle.p21_stream_survey.specs.Unended.{FeedsLast, IsLast}
 use Rattle.p21_stream_survey.specs.declared.at_end.AtEnd.{AtEnd}
 use Rattle.p21_stream_survey.specs.declared.at_end.AtEnd.TheVariants.{Again, FileEnd, Listed}
@@ -38,6 +40,7 @@ use Rattle.p21_stream_survey.specs.declared.stage.Stage.{Stage}
 use Rattle.p21_stream_survey.specs.declared.stage.Stage.TheVariants as stage
 use Rattle.p21_stream_survey.specs.declared.stage.Unlisted.{Unlisted}
 use Rattle.p21_stream_survey.specs.declared.survey.Survey.{Survey}
+use Rattle.p21_stream_survey.specs.Keeping.{rules_by, IsSoundKeeper, kept_by, sifted_of}
 
 -- ---- where all is known
 
@@ -64,7 +67,7 @@ none-left known file front bytes rest all of is counted =
     nil_from_length rest (omega (arith, size, own, sum, behind, counted))
 
 -- a survey that reads statements has read all of the files
-pub at-end : (s : Schema) (limits : Limits) (known : Known) (held : log.Held) (sieve : Sieve) (listing : Listing) → known.is_all ≡ true
+pub at-end : (s : Rules) (limits : Limits) (known : Known) (held : log.Held) (sieve : Sifted) (listing : Listing) → known.is_all ≡ true
     → (reads : Reads s limits known held sieve listing []) → IsAtEnd s limits known held sieve listing reads.point
 at-end s limits known held sieve listing all reads = record {
   stands = reads.stands;
@@ -84,30 +87,29 @@ at-end s limits known held sieve listing all reads = record {
 -- ---- the list has ended
 
 own-surveys : (known : Known) (old new : Survey) (extent : Extent) → AsksTheSame old new
-    → SurveysEach old.schema.now old.limits known new.listing extent
-    → SurveysEach new.schema.now new.limits known new.listing extent
+    → SurveysEach (rules_by old) old.limits known new.listing extent
+    → SurveysEach (rules_by new) new.limits known new.listing extent
 own-surveys known old new extent same surveys =
-    subst (λ (s : Schema). SurveysEach s new.limits known new.listing extent) (sym same.schema)
-    (subst (λ (l : Limits). SurveysEach old.schema.now l known new.listing extent) (sym same.limits) surveys)
+    subst (λ (s : Rules). SurveysEach s new.limits known new.listing extent) (sym same.rules)
+    (subst (λ (l : Limits). SurveysEach (rules_by old) l known new.listing extent) (sym same.limits) surveys)
 
 -- whatever is listed
 ends-in : (known : Known) (old new : Survey) (extent : Extent) → AsksTheSame old new
     → ListsWithin new.most (listed_of new) (stage.Ended extent)
-    → SurveysEach old.schema.now old.limits known new.listing extent → EndsIn known old new extent
+    → SurveysEach (rules_by old) old.limits known new.listing extent → EndsIn known old new extent
 ends-in known old new extent same within surveys =
     record { same = same; within = within; surveys = own-surveys known old new extent same surveys }
 
 pub goes-ended : (known : Known) (old new : Survey) (extent : Extent) → IsSound known old → AsksTheSame old new
-    → new.judge.known ≡ old.judge.known → new.taker ≡ old.taker → ListsWithin new.most (listed_of new) (stage.Ended extent)
-    → SurveysEach old.schema.now old.limits known new.listing extent → AreOfFile new.listing.list.items
+    → new.keeper ≡ old.keeper → ListsWithin new.most (listed_of new) (stage.Ended extent)
+    → SurveysEach (rules_by old) old.limits known new.listing extent → AreOfFile new.listing.list.items
     → GoesInto known old new (stage.Ended extent) []
-goes-ended known old new extent sound same judge taker within surveys of_file = record {
+goes-ended known old new extent sound same keeper within surveys of_file = record {
   in_stage = record {
     sound = record {
       few = sound.few;
       limited = subst (λ (l : Limits). l.file_source < 2 ^ 64) (sym same.limits) sound.limited;
-      same_schema = judge ∙ (sound.same_schema ∙ sym same.schema);
-      taker = subst (λ (s : Schema). IsTakerOf s new.taker) (sym same.schema) (subst (IsTakerOf old.schema.now) (sym taker) sound.taker);
+      keeper = subst IsSoundKeeper (sym keeper) sound.keeper;
     };
     within = within;
     is_at = record { surveys = own-surveys known old new extent same surveys; of_file = of_file };
@@ -131,32 +133,31 @@ pub unread-ends : (old new : Survey) (bytes : List ℕ) (extent : Extent) → by
     → listed_of new ≡ suc (listed_of old) → Interrupts old stage.Reading extent new
 unread-ends old new bytes extent are same ends (begins, read) one known out =
     let reads = out.in_stage.is_at in
-    let end = at-end old.schema.now old.limits known old.log old.judge.sieve old.listing out.all reads in
+    let end = at-end (rules_by old) old.limits known old.log (kept_by old) old.listing out.all reads in
     ends-in known old new extent same (own-most old new (listed_of new) extent same
     (counted-end old.most (listed_of old) (listed_of new) begins extent out.in_stage.within one read))
-    (ends old.schema.now known reads.point old.judge.sieve are reads.stands end.to_end)
+    (ends (rules_by old) known reads.point (kept_by old) are reads.stands end.to_end)
 
 -- with a stretch behind which no landmark came
-pub sought-ends : (old new : Survey) (sought : Sought) (extent : Extent) → AsksTheSame old new → new.judge.known ≡ old.judge.known
-    → new.taker ≡ old.taker → EndsSought old.listing sought.stretch.fault sought.stretch.begins extent new.listing
+pub sought-ends : (old new : Survey) (sought : Sought) (extent : Extent) → AsksTheSame old new → new.keeper ≡ old.keeper → EndsSought old.listing sought.stretch.fault sought.stretch.begins extent new.listing
     → extent ≡ ReadTo sought.stretch.begins
     → listed_of new ≡ suc (listed_of old) → new.listing.list.items ≡ old.listing.list.items
     ++ record { fault = sought.stretch.fault; at = Statement old.listing.statement; begins = sought.stretch.begins } ∷ []
     → EndsBy old (stage.Seeking sought) extent new
-sought-ends old new sought extent same judge taker ends read one list known out =
+sought-ends old new sought extent same keeper ends read one list known out =
     let seeks = out.in_stage.is_at in
     let within = out.in_stage.within in
     let taken = seeks.is_sought.taken_is in
     let counted = seeks.counted in
-    let to_end = all-passed old.schema.now old.limits known seeks.point old.log seeks.statement seeks.behind []
+    let to_end = all-passed (rules_by old) old.limits known seeks.point old.log seeks.statement seeks.behind []
     (fault_number sought.stretch.fault) (at_statement (suc seeks.point.read.count)) sought.stretch.begins seeks.is_sought.broken
     (out.all, omega (arith, taken, counted)) in
-    goes-ended known old new extent out.in_stage.sound same judge taker
+    goes-ended known old new extent out.in_stage.sound same keeper
     (own-most old new (listed_of new) extent same (counted-end old.most (listed_of old) (listed_of new) sought.stretch.begins extent
     (omega (arith, within)) one read))
-    (ends old.schema.now old.limits known seeks.point old.log seeks.statement seeks.behind sought.stretch.taken sought.seeker
-    old.judge.sieve seeks.is_sought to_end seeks.has)
-    (subst AreOfFile (sym list) (reads-with old.schema.now old.limits seeks.point.read old.judge.sieve old.listing seeks.has
+    (ends (rules_by old) old.limits known seeks.point old.log seeks.statement seeks.behind sought.stretch.taken sought.seeker
+    (kept_by old) seeks.is_sought to_end seeks.has)
+    (subst AreOfFile (sym list) (reads-with (rules_by old) old.limits seeks.point.read (kept_by old) old.listing seeks.has
     (record { fault = sought.stretch.fault; at = Statement old.listing.statement; begins = sought.stretch.begins })
     seeks.is_sought.of_file))
 
@@ -168,18 +169,18 @@ interrupted-ends old new sought extent same ends read two known out =
     let seeks = out.in_stage.is_at in
     ends-in known old new extent same (own-most old new (listed_of new) extent same
     (counted-end old.most (suc (listed_of old)) (listed_of new) sought.stretch.begins extent out.in_stage.within two read))
-    (ends old.schema.now old.limits known seeks.point old.log seeks.statement seeks.behind [] sought.stretch.taken sought.seeker
-    old.judge.sieve seeks.is_sought seeks.has)
+    (ends (rules_by old) old.limits known seeks.point old.log seeks.statement seeks.behind [] sought.stretch.taken sought.seeker
+    (kept_by old) seeks.is_sought seeks.has)
 
 -- with a refusal of a statement that wasn't listed yet, which ends the reading where the other one does
 waiting-surveys : (known : Known) (old new : Survey) (unlisted : Unlisted) (fault : Fault) (begins : ℕ) (extent : Extent)
-    → ((s : Schema) (limits : Limits) (file : List ℕ) (read : Reading)
+    → ((s : Rules) (limits : Limits) (file : List ℕ) (read : Reading)
     → EndsReading s limits file read (fault_number unlisted.fault) (at_statement (suc read.count))
     → EndsReading s limits file read (fault_number fault) (at_statement (suc read.count)))
     → BeginsIn old.log unlisted.bytes.items begins
     → ending.EndsBy old.listing fault (Statement old.listing.statement) begins extent new.listing
     → IsReadOut known old (stage.Waiting unlisted)
-    → SurveysEach old.schema.now old.limits known new.listing extent
+    → SurveysEach (rules_by old) old.limits known new.listing extent
 waiting-surveys known old new unlisted fault begins extent by begins_in ends out file of =
     let waits = out.in_stage.is_at in
     let few = out.in_stage.sound.few in
@@ -188,19 +189,19 @@ waiting-surveys known old new unlisted fault begins extent by begins_in ends out
     let sum = length-append waits.read.bytes unlisted.bytes.items in
     let (rest, here) = waits.file_is file of in
     let none = none-left known file waits.read.bytes unlisted.bytes.items rest out.all of here (omega (arith, start, counted)) in
-    ends old.schema.now old.limits file waits.read waits.sieve
+    ends (rules_by old) old.limits file waits.read waits.sieve
     (record {
       is_read = waits.is_read file of;
       has = waits.has;
       begins_at =
           begins_in file rest waits.read start (omega (arith, few, counted, start, sum)) here (inr none);
     })
-    (subst (λ (n : ℕ). EndsReading old.schema.now old.limits file waits.read (fault_number fault) (at_statement n)) (sym waits.has.counted)
-    (by old.schema.now old.limits file waits.read (waits.ends file of)))
+    (subst (λ (n : ℕ). EndsReading (rules_by old) old.limits file waits.read (fault_number fault) (at_statement n)) (sym waits.has.counted)
+    (by (rules_by old) old.limits file waits.read (waits.ends file of)))
 
 -- with that refusal
 pub unlisted-ends : (old new : Survey) (unlisted : Unlisted) (begins : ℕ) (extent : Extent) → AsksTheSame old new
-    → new.judge.known ≡ old.judge.known → new.taker ≡ old.taker → BeginsIn old.log unlisted.bytes.items begins
+    → new.keeper ≡ old.keeper → BeginsIn old.log unlisted.bytes.items begins
     → ending.EndsBy old.listing unlisted.fault (Statement old.listing.statement) begins extent new.listing → extent ≡ ReadTo begins
     → listed_of new ≡ suc (listed_of old)
     → new.listing.list.items ≡ old.listing.list.items ++ record {
@@ -210,13 +211,13 @@ pub unlisted-ends : (old new : Survey) (unlisted : Unlisted) (begins : ℕ) (ext
           begins;
     } ∷ []
     → EndsBy old (stage.Waiting unlisted) extent new
-unlisted-ends old new unlisted begins extent same judge taker begins_in ends read one list known out =
+unlisted-ends old new unlisted begins extent same keeper begins_in ends read one list known out =
     let waits = out.in_stage.is_at in
-    goes-ended known old new extent out.in_stage.sound same judge taker
+    goes-ended known old new extent out.in_stage.sound same keeper
     (own-most old new (listed_of new) extent same (counted-end old.most (listed_of old) (listed_of new) begins extent out.in_stage.within
     one read))
     (waiting-surveys known old new unlisted unlisted.fault begins extent (λ s limits file read_ so. so) begins_in ends out)
-    (subst AreOfFile (sym list) (reads-with old.schema.now old.limits waits.read waits.sieve old.listing waits.has
+    (subst AreOfFile (sym list) (reads-with (rules_by old) old.limits waits.read waits.sieve old.listing waits.has
     (record { fault = unlisted.fault; at = Statement old.listing.statement; begins = begins }) waits.of_file))
 
 -- with a read that failed in place of it
@@ -231,20 +232,20 @@ unread-behind-ends old new unlisted begins extent same begins_in ends read one k
     (waiting-surveys known old new unlisted Read begins extent (λ s limits file read_ so. read_failed) begins_in ends out)
 
 -- it has by now
-pub ended-ends : (old new : Survey) (extent : Extent) → AsksTheSame old new → new.judge.known ≡ old.judge.known → new.taker ≡ old.taker
+pub ended-ends : (old new : Survey) (extent : Extent) → AsksTheSame old new → new.keeper ≡ old.keeper
     → new.listing ≡ old.listing → EndsBy old (stage.Ended extent) extent new
-ended-ends old new extent same judge taker listing known out =
-    goes-ended known old new extent out.in_stage.sound same judge taker
+ended-ends old new extent same keeper listing known out =
+    goes-ended known old new extent out.in_stage.sound same keeper
     (own-most old new (listed_of new) extent same (subst
     (λ (l : Listing). ListsWithin old.most (length l.list.items) (stage.Ended extent)) (sym listing) out.in_stage.within))
-    (subst (λ (l : Listing). SurveysEach old.schema.now old.limits known l extent) (sym listing) out.in_stage.is_at.surveys)
+    (subst (λ (l : Listing). SurveysEach (rules_by old) old.limits known l extent) (sym listing) out.in_stage.is_at.surveys)
     (subst (λ (l : Listing). AreOfFile l.list.items) (sym listing) out.in_stage.is_at.of_file)
 
 -- the same where a read failed
 pub ended-interrupts : (old : Survey) (other : Stage) (extent : Extent)
     → Interrupts (record old { stage = other }) (stage.Ended extent) extent (record old { stage = other })
 ended-interrupts old other extent known out = record {
-  same = record { schema = refl; limits = refl; most = refl };
+  same = record { rules = refl; limits = refl; most = refl };
   within = out.in_stage.within;
   surveys = out.in_stage.is_at.surveys;
 }
@@ -252,48 +253,47 @@ ended-interrupts old other extent known out = record {
 -- ---- the statement in which the file ends
 
 pub statement-ends : (old new : Survey) (bytes : List ℕ) (extent : Extent) → bytes ≡ old.log.buffer → AsksTheSame old new
-    → new.judge.known ≡ old.judge.known → new.taker ≡ old.taker
+    → new.keeper ≡ old.keeper
     → EndsStatement old.limits old.log old.listing bytes (at_end.Listed extent) new.log new.listing
     → (listed_of old < old.most → CountsEnd old.most (listed_of old) (at_end.Listed extent) (listed_of new))
     → (AreOfFile old.listing.list.items → AreOfFile new.listing.list.items) → EndsBy old stage.Reading extent new
-statement-ends old new bytes extent are same judge taker ends counts of_file known out =
+statement-ends old new bytes extent are same keeper ends counts of_file known out =
     let reads = out.in_stage.is_at in
-    let end = at-end old.schema.now old.limits known old.log old.judge.sieve old.listing out.all reads in
-    goes-ended known old new extent out.in_stage.sound same judge taker
+    let end = at-end (rules_by old) old.limits known old.log (kept_by old) old.listing out.all reads in
+    goes-ended known old new extent out.in_stage.sound same keeper
     (own-most old new (listed_of new) extent same (counts out.in_stage.within))
-    (ends old.schema.now known reads.point old.judge.sieve are end)
-    (of_file (reads-of_file old.schema.now old.limits reads.point.read old.judge.sieve old.listing reads.stands.has))
+    (ends (rules_by old) known reads.point (kept_by old) are end)
+    (of_file (reads-of_file (rules_by old) old.limits reads.point.read (kept_by old) old.listing reads.stands.has))
 
 -- statements are read
 pub goes-reading : (known : Known) (old new : Survey) (ahead : List ℕ) → IsSound known old → AsksTheSame old new
-    → new.judge.known ≡ old.judge.known → new.taker ≡ old.taker → new.judge.sieve ≡ old.judge.sieve → listed_of new < old.most
-    → Reads old.schema.now old.limits known new.log old.judge.sieve new.listing ahead → GoesInto known old new stage.Reading ahead
-goes-reading known old new ahead sound same judge taker sieve fewer reads = record {
+    → new.keeper ≡ old.keeper → listed_of new < old.most
+    → Reads (rules_by old) old.limits known new.log (kept_by old) new.listing ahead → GoesInto known old new stage.Reading ahead
+goes-reading known old new ahead sound same keeper fewer reads = record {
   in_stage = record {
     sound = record {
       few = sound.few;
       limited = subst (λ (l : Limits). l.file_source < 2 ^ 64) (sym same.limits) sound.limited;
-      same_schema = judge ∙ (sound.same_schema ∙ sym same.schema);
-      taker = subst (λ (s : Schema). IsTakerOf s new.taker) (sym same.schema) (subst (IsTakerOf old.schema.now) (sym taker) sound.taker);
+      keeper = subst IsSoundKeeper (sym keeper) sound.keeper;
     };
     within = subst (λ (most : ℕ). listed_of new < most) (sym same.most) fewer;
-    is_at = subst (λ (s : Schema). Reads s new.limits known new.log new.judge.sieve new.listing ahead) (sym same.schema)
-        (subst (λ (l : Limits). Reads old.schema.now l known new.log new.judge.sieve new.listing ahead) (sym same.limits)
-        (subst (λ (v : Sieve). Reads old.schema.now old.limits known new.log v new.listing ahead) (sym sieve) reads));
+    is_at = subst (λ (s : Rules). Reads s new.limits known new.log (kept_by new) new.listing ahead) (sym same.rules)
+        (subst (λ (l : Limits). Reads (rules_by old) l known new.log (kept_by new) new.listing ahead) (sym same.limits)
+        (subst (λ (v : Sifted). Reads (rules_by old) old.limits known new.log v new.listing ahead) (sym (ap sifted_of keeper)) reads));
   };
   same = same;
 }
 
 pub statement-passes : (old new : Survey) (bytes : List ℕ) (count : ℕ) (ended : AtEnd) → bytes ≡ old.log.buffer → AsksTheSame old new
-    → new.judge.known ≡ old.judge.known → new.taker ≡ old.taker → new.judge.sieve ≡ old.judge.sieve
+    → new.keeper ≡ old.keeper
     → EndsStatement old.limits old.log old.listing bytes (at_end.PassedOver count) new.log new.listing
     → (listed_of old < old.most → CountsEnd old.most (listed_of old) (at_end.PassedOver count) (listed_of new))
     → IsAgain (drop count bytes) ended
     → EndsStage old stage.Reading ended new
-statement-passes old new bytes count (Again again) are same judge taker sieve ends counts behind = λ known out.
+statement-passes old new bytes count (Again again) are same keeper ends counts behind = λ known out.
     let reads = out.in_stage.is_at in
-    let end = at-end old.schema.now old.limits known old.log old.judge.sieve old.listing out.all reads in
-    let passed = ends old.schema.now known reads.point old.judge.sieve are end in
+    let end = at-end (rules_by old) old.limits known old.log (kept_by old) old.listing out.all reads in
+    let passed = ends (rules_by old) known reads.point (kept_by old) are end in
     let (further, fewer) = counts out.in_stage.within in
     let size = passed.counted in
     let own = ap length are in
@@ -301,7 +301,7 @@ statement-passes old new bytes count (Again again) are same judge taker sieve en
     let none = ap length passed.none_open in
     let items = ap length behind in
     record {
-      goes = goes-reading known old new again.items out.in_stage.sound same judge taker sieve fewer (record {
+      goes = goes-reading known old new again.items out.in_stage.sound same keeper fewer (record {
         point = passed.point;
         stands = passed.stands;
         between = passed.between;
@@ -311,24 +311,23 @@ statement-passes old new bytes count (Again again) are same judge taker sieve en
       });
       further = further;
     }
-statement-passes old new bytes count (Listed extent) are same judge taker sieve ends counts behind = absurd behind
-statement-passes old new bytes count FileEnd are same judge taker sieve ends counts behind = absurd behind
+statement-passes old new bytes count (Listed extent) are same keeper ends counts behind = absurd behind
+statement-passes old new bytes count FileEnd are same keeper ends counts behind = absurd behind
 
-pub statement-stays : (old new : Survey) (bytes : List ℕ) → AsksTheSame old new → new.judge.known ≡ old.judge.known → new.taker ≡ old.taker
-    → new.judge.sieve ≡ old.judge.sieve → EndsStatement old.limits old.log old.listing bytes at_end.AtFileEnd new.log new.listing
+pub statement-stays : (old new : Survey) (bytes : List ℕ) → AsksTheSame old new → new.keeper ≡ old.keeper → EndsStatement old.limits old.log old.listing bytes at_end.AtFileEnd new.log new.listing
     → EndsStage old stage.Reading FileEnd new
-statement-stays old new bytes same judge taker sieve (log_is, listing_is) known out =
-    goes-reading known old new [] out.in_stage.sound same judge taker sieve
+statement-stays old new bytes same keeper (log_is, listing_is) known out =
+    goes-reading known old new [] out.in_stage.sound same keeper
     (subst (λ (l : Listing). length l.list.items < old.most) (sym listing_is) out.in_stage.within)
-    (subst (λ (h : log.Held). Reads old.schema.now old.limits known h old.judge.sieve new.listing []) (sym log_is)
-    (subst (λ (l : Listing). Reads old.schema.now old.limits known old.log old.judge.sieve l []) (sym listing_is) out.in_stage.is_at))
+    (subst (λ (h : log.Held). Reads (rules_by old) old.limits known h (kept_by old) new.listing []) (sym log_is)
+    (subst (λ (l : Listing). Reads (rules_by old) old.limits known old.log (kept_by old) l []) (sym listing_is) out.in_stage.is_at))
 
 -- ---- what is found
 
 pub ended-finds : (survey : Survey) (extent : Extent) (found : Found) → IsEnded survey.listing extent found
     → FindsIn survey (stage.Ended extent) found
 ended-finds survey extent found ended known out file of =
-    ended-found survey.schema.now survey.limits file survey.listing extent found out.in_stage.within.0 (out.in_stage.is_at.surveys file of)
+    ended-found (rules_by survey) survey.limits file survey.listing extent found out.in_stage.within.0 (out.in_stage.is_at.surveys file of)
     ended
 
 pub ended-counts : (survey : Survey) (extent : Extent) (found : Found) → SomeIsReadOut survey (stage.Ended extent)
@@ -347,7 +346,7 @@ ended-of_file survey extent found (known, out) ended = subst AreOfFile (sym ende
 pub reading-of_file : (survey : Survey) → SomeIsReadOut survey stage.Reading → AreOfFile survey.listing.list.items
 reading-of_file survey (known, out) =
     let reads = out.in_stage.is_at in
-    reads-of_file survey.schema.now survey.limits reads.point.read survey.judge.sieve survey.listing reads.stands.has
+    reads-of_file (rules_by survey) survey.limits reads.point.read (kept_by survey) survey.listing reads.stands.has
 
 -- ---- where a read failed
 
@@ -356,9 +355,9 @@ pub interrupted-finds : (old new : Survey) (extent : Extent) (found : Found) →
     → FindsAll old found
 interrupted-finds old new extent found ends ended known out file of =
     let there = ends known out in
-    subst (λ (s : Schema). IsFound s old.limits file found) there.same.schema
-    (subst (λ (l : Limits). IsFound new.schema.now l file found) there.same.limits
-    (ended-found new.schema.now new.limits file new.listing extent found there.within.0 (there.surveys file of) ended))
+    subst (λ (s : Rules). IsFound s old.limits file found) there.same.rules
+    (subst (λ (l : Limits). IsFound (rules_by new) l file found) there.same.limits
+    (ended-found (rules_by new) new.limits file new.listing extent found there.within.0 (there.surveys file of) ended))
 
 pub interrupted-counts : (old new : Survey) (extent : Extent) (found : Found) → SomeIsReadOut old old.stage
     → Interrupts old old.stage extent new
@@ -405,35 +404,35 @@ pub interrupted-kinds : (old : Survey) (in_stage : Stage) (extent : Extent) (lis
     → ListsInterrupted old in_stage extent listing → IsEnded listing extent found → AreOfReading true found.list.items
 interrupted-kinds old stage.Reading extent listing found (known, out) reads ended =
     let at = out.in_stage.is_at in
-    let of_file = reads-of_file old.schema.now old.limits at.point.read old.judge.sieve old.listing at.stands.has in
+    let of_file = reads-of_file (rules_by old) old.limits at.point.read (kept_by old) old.listing at.stands.has in
     (old.listing.list.items, reads.refusal, ended.list ∙ reads.list_is, of_file, inr reads.fault_is)
 interrupted-kinds old (stage.Seeking sought) extent listing found (known, out) (stretch, same, reads) ended =
     let at = out.in_stage.is_at in
     let kind : IsOfFile (fault_number stretch.fault) =
     subst (λ (fault : Fault). IsOfFile (fault_number fault)) (sym same) at.is_sought.of_file in
-    let of_file = reads-with old.schema.now old.limits at.point.read old.judge.sieve old.listing at.has stretch kind in
+    let of_file = reads-with (rules_by old) old.limits at.point.read (kept_by old) old.listing at.has stretch kind in
     (old.listing.list.items ++ stretch ∷ [], reads.refusal, ended.list ∙ reads.list_is, of_file, inr reads.fault_is)
 interrupted-kinds old (stage.Waiting unlisted) extent listing found (known, out) reads ended =
     let at = out.in_stage.is_at in
-    let of_file = reads-of_file old.schema.now old.limits at.read at.sieve old.listing at.has in
+    let of_file = reads-of_file (rules_by old) old.limits at.read at.sieve old.listing at.has in
     (old.listing.list.items, reads.refusal, ended.list ∙ reads.list_is, of_file, inr reads.fault_is)
 interrupted-kinds old (stage.Ended last) extent listing found (known, out) same ended =
     let list : found.list.items ≡ old.listing.list.items = ended.list ∙ ap (λ (l : Listing). l.list.items) same in
     subst (AreOfReading true) (sym list) (last-of old.listing.list.items out.in_stage.within.0 out.in_stage.is_at.of_file)
 
 pub reading-stands : (survey : Survey) → SomeIsReadOut survey stage.Reading
-    → StandsAtEnd survey.schema.now survey.log survey.judge.sieve survey.listing
+    → StandsAtEnd (rules_by survey) survey.log (kept_by survey) survey.listing
 reading-stands survey (known, out) = record {
   limits = survey.limits;
   known = known;
   point = out.in_stage.is_at.point;
-  at_end = at-end survey.schema.now survey.limits known survey.log survey.judge.sieve survey.listing out.all out.in_stage.is_at;
+  at_end = at-end (rules_by survey) survey.limits known survey.log (kept_by survey) survey.listing out.all out.in_stage.is_at;
 }
 
 pub reading-finds : (survey : Survey) (found : Found)
-    → FindsAtEnd survey.schema.now survey.limits survey.log survey.judge.sieve survey.listing found → FindsIn survey stage.Reading found
+    → FindsAtEnd (rules_by survey) survey.limits survey.log (kept_by survey) survey.listing found → FindsIn survey stage.Reading found
 reading-finds survey found finds known out =
-    finds known out.in_stage.is_at.point (at-end survey.schema.now survey.limits known survey.log survey.judge.sieve survey.listing out.all
+    finds known out.in_stage.is_at.point (at-end (rules_by survey) survey.limits known survey.log (kept_by survey) survey.listing out.all
     out.in_stage.is_at)
 
 -- ---- a survey that says another stage of itself
@@ -446,9 +445,7 @@ out-restaged known survey other in_stage out = record {
     sound = record {
       few = out.in_stage.sound.few;
       limited = out.in_stage.sound.limited;
-      same_schema =
-          out.in_stage.sound.same_schema;
-      taker = out.in_stage.sound.taker;
+      keeper = out.in_stage.sound.keeper;
     };
     within = out.in_stage.within;
     is_at = out.in_stage.is_at;
@@ -458,7 +455,7 @@ out-restaged known survey other in_stage out = record {
 goes-restaged : (known : Known) (old new : Survey) (other in_stage : Stage) (ahead : List ℕ)
     → GoesInto known (record old { stage = other }) new in_stage ahead → GoesInto known old new in_stage ahead
 goes-restaged known old new other in_stage ahead goes =
-    record { in_stage = goes.in_stage; same = record { schema = goes.same.schema; limits = goes.same.limits; most = goes.same.most } }
+    record { in_stage = goes.in_stage; same = record { rules = goes.same.rules; limits = goes.same.limits; most = goes.same.most } }
 
 pub ends-restaged : (old new : Survey) (other in_stage : Stage) (extent : Extent)
     → EndsBy (record old { stage = other }) in_stage extent new → old.stage ≡ in_stage → EndsBy old old.stage extent new
@@ -472,7 +469,7 @@ pub interrupts-restaged : (old new : Survey) (other in_stage : Stage) (extent : 
 interrupts-restaged old new other in_stage extent ends is known out =
     let there = ends known (out-restaged known old other in_stage (subst (λ (g : Stage). IsReadOut known old g) is out)) in
     record {
-      same = record { schema = there.same.schema; limits = there.same.limits; most = there.same.most };
+      same = record { rules = there.same.rules; limits = there.same.limits; most = there.same.most };
       within = there.within;
       surveys = there.surveys;
     }
@@ -494,10 +491,10 @@ pub record InLoop (first now : Survey) : Type 0 where
   pub along : (known : Known) → IsReadOut known first first.stage → IsReadOut known now now.stage × AsksTheSame first now
 
 pub loop-begins : (survey : Survey) → SomeIsReadOut survey survey.stage → InLoop survey survey
-loop-begins survey some = record { some = some; along = λ known out. (out, record { schema = refl; limits = refl; most = refl }) }
+loop-begins survey some = record { some = some; along = λ known out. (out, record { rules = refl; limits = refl; most = refl }) }
 
 both-same : (first now new : Survey) → AsksTheSame first now → AsksTheSame now new → AsksTheSame first new
-both-same first now new one two = record { schema = two.schema ∙ one.schema; limits = two.limits ∙ one.limits; most = two.most ∙ one.most }
+both-same first now new one two = record { rules = two.rules ∙ one.rules; limits = two.limits ∙ one.limits; most = two.most ∙ one.most }
 
 again-course : (known : Known) (now middle : Survey) (bytes : List ℕ) → ReadsAgain known now middle bytes → middle.stage ≡ stage.Reading
     → Course known middle bytes
@@ -555,5 +552,5 @@ pub finds-behind : (old new : Survey) (in_stage : Stage) (found : Found)
 finds-behind old new in_stage found goes finds known out =
     let there = goes known out in
     let own = finds known (record { all = out.all; in_stage = there.in_stage }) in
-    subst (λ (s : Schema). IsFoundIn s old.limits known found) there.same.schema
-    (subst (λ (l : Limits). IsFoundIn new.schema.now l known found) there.same.limits own)
+    subst (λ (s : Rules). IsFoundIn s old.limits known found) there.same.rules
+    (subst (λ (l : Limits). IsFoundIn (rules_by new) l known found) there.same.limits own)

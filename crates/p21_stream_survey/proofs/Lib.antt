@@ -2,6 +2,7 @@ pub mod Rightness
 pub mod Judged
 pub mod Numbers
 pub mod Readings
+pub mod Alone
 pub mod Followed
 pub mod Broke
 pub mod PassedOn
@@ -9,6 +10,7 @@ pub mod Sought
 pub mod WrongOn
 pub mod Surveyed
 pub mod Told
+pub mod MissingTold
 pub mod Ahead
 pub mod Tokens
 pub mod Begun
@@ -19,8 +21,10 @@ pub mod Onward
 pub mod Refusals
 pub mod Feeding
 pub mod Taken
+pub mod Keepers
 pub mod Instances
 pub mod ReadWhole
+pub mod ReadAlone
 pub mod AtEnd
 pub mod LastStage
 pub mod OpenRemarks

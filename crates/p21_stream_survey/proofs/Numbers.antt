@@ -6,18 +6,24 @@ use Rattle.p21_spec_basics.proofs.Members.{Each-append, Each-unmapped}
 use Rattle.p21_spec_basics.specs.Limits.{Limits}
 use Rattle.p21_spec_exchange.specs.Record.{Record}
 use Rattle.p21_spec_exchange.specs.Statement.{Statement}
-use Rattle.p21_spec_laws.specs.Offending.{Offends, broken as breaks_rule, long_file, long_line, name_again as offends_again, other_schema, section_again, section_of_other_schema}
+use Rattle.p21_spec_laws.specs.Offending.{Offends, broken as breaks_rule, long_file, long_line, name_again as offends_again, other_schema}
+use Rattle.p21_spec_laws.specs.Offending.{section_again, section_of_other_schema}
 use Rattle.p21_spec_schema.specs.Schema.{Schema}
+use Rattle.p21_spec_survey.specs.Rules as rules
+use Rattle.p21_spec_survey.specs.Rules.{OffendsBy, OffendsByItself, Rules, by_itself, of_schema}
 use Rattle.p21_spec_survey.specs.Survey as survey
 use Rattle.p21_spec_survey.specs.Survey.{IsGoneOnBehind, Reading}
-use Rattle.p21_stream_sieve.specs.Sifting.{RefusesInstance, broken, name_again}
-use Rattle.p21_stream_sieve.specs.declared.sieve.Sieve.{Sieve}
+use Rattle.p21_stream_sieve.specs.Sifting.{broken, name_again}
+use Rattle.p21_stream_survey.specs.Sifted.{Sifted}
 use Rattle.p21_stream_statements.specs.Fault.{fault_number}
 use Rattle.p21_stream_statements.specs.Source.{IsOfBytes}
 use Rattle.p21_stream_statements.specs.declared.fault.Fault.{Fault}
-use Rattle.p21_stream_statements.specs.declared.fault.Fault.TheVariants.{CanonicalTooLong, Check, Dangling, DuplicateName, Grammar, NoMemory, Read, SchemaName, SectionTwice, Token, Write, WrongTarget}
+use Rattle.p21_stream_statements.specs.declared.fault.Fault.TheVariants.{CanonicalTooLong, Check, Dangling, DuplicateName, Grammar}
+use Rattle.p21_stream_statements.specs.declared.fault.Fault.TheVariants.{NoMemory, Read, SchemaName, SectionTwice, Token, Write}
+use Rattle.p21_stream_statements.specs.declared.fault.Fault.TheVariants.{WrongTarget}
 use Rattle.p21_stream_survey.proofs.Judged.{IsRule, rule-of}
 use Rattle.p21_stream_survey.specs.Finishing.{end_fault}
+use Rattle.p21_stream_survey.specs.Judging.{RefusesBy}
 use Rattle.p21_stream_survey.specs.Kinds.{AreOfFile, IsOfFile, ListsOfFile}
 use Rattle.p21_stream_survey.specs.Reading.{HasRead, listed_as}
 use Rattle.p21_stream_survey.specs.declared.listed.Listed as code
@@ -31,22 +37,36 @@ rule-number number (inl is) = (λ other. omega (arith, is, other), omega (arith,
 rule-number number (inr (inl (above, below))) = (λ other. omega (arith, above, other), omega (arith, below))
 rule-number number (inr (inr is)) = (λ other. omega (arith, is, other), omega (arith, is))
 
-pub offends-number : (s : Schema) (limits : Limits) (given : List Statement) (size : ℕ) (statement : Statement) (number : ℕ)
+schema-number : (s : Schema) (limits : Limits) (given : List Statement) (size : ℕ) (statement : Statement) (number : ℕ)
     → Offends s limits given size statement number → IsOfFile number
-offends-number s limits given size st number (other_schema _ _ _ _) = ((λ is. omega (arith, is)), omega arith)
-offends-number s limits given size st number (section_of_other_schema _ _) = ((λ is. omega (arith, is)), omega arith)
-offends-number s limits given size st number (section_again _ _ _) = ((λ is. omega (arith, is)), omega arith)
-offends-number s limits given size st number (offends_again _ _ _) = ((λ is. omega (arith, is)), omega arith)
-offends-number s limits given size st number (breaks_rule n record_ _ breaks) = rule-number number (rule-of s record_ number breaks)
-offends-number s limits given size st number (long_line _ _ _ _) = ((λ is. omega (arith, is)), omega arith)
-offends-number s limits given size st number (long_file _ _ _ _) = ((λ is. omega (arith, is)), omega arith)
+schema-number s limits given size st number (other_schema _ _ _ _) = ((λ is. omega (arith, is)), omega arith)
+schema-number s limits given size st number (section_of_other_schema _ _) = ((λ is. omega (arith, is)), omega arith)
+schema-number s limits given size st number (section_again _ _ _) = ((λ is. omega (arith, is)), omega arith)
+schema-number s limits given size st number (offends_again _ _ _) = ((λ is. omega (arith, is)), omega arith)
+schema-number s limits given size st number (breaks_rule n record_ _ breaks) = rule-number number (rule-of s record_ number breaks)
+schema-number s limits given size st number (long_line _ _ _ _) = ((λ is. omega (arith, is)), omega arith)
+schema-number s limits given size st number (long_file _ _ _ _) = ((λ is. omega (arith, is)), omega arith)
+
+own-number : (given : List Statement) (statement : Statement) (number : ℕ) → OffendsByItself given statement number → IsOfFile number
+own-number given st number (rules.no_name _ _ _ _) = ((λ is. omega (arith, is)), omega arith)
+own-number given st number (rules.other_schema _ _ _ _ _ _) = ((λ is. omega (arith, is)), omega arith)
+own-number given st number (rules.section_of_other_schema _ _ _ _) = ((λ is. omega (arith, is)), omega arith)
+own-number given st number (rules.early_section _ _) = ((λ is. omega (arith, is)), omega arith)
+own-number given st number (rules.section_again _ _ _) = ((λ is. omega (arith, is)), omega arith)
+
+pub offends-number : (s : Rules) (limits : Limits) (given : List Statement) (size : ℕ) (statement : Statement) (number : ℕ)
+    → OffendsBy s limits given size statement number → IsOfFile number
+offends-number (of_schema s) limits given size statement number is = schema-number s limits given size statement number is
+offends-number by_itself limits given size statement number is = own-number given statement number is
 
 -- of an instance that is refused
-pub refuses-number : (s : Schema) (given : List Statement) (n : ℕ) (record_ : Record) (fault : Fault)
-    → RefusesInstance s given n record_ fault → IsOfFile (fault_number fault)
-refuses-number s given n record_ fault (broken _ of nothing breaks) =
+pub refuses-number : (s : Rules) (given : List Statement) (n : ℕ) (record_ : Record) (fault : Fault)
+    → RefusesBy s given n record_ fault → IsOfFile (fault_number fault)
+refuses-number (of_schema s) given n record_ fault (broken _ of nothing breaks) =
     rule-number (fault_number fault) (rule-of s record_ (fault_number fault) breaks)
-refuses-number s given n record_ fault (name_again among) = ((λ is. omega (arith, is)), omega arith)
+refuses-number (of_schema s) given n record_ fault (name_again among) = ((λ is. omega (arith, is)), omega arith)
+refuses-number by_itself given n record_ fault (is, among) =
+    subst (λ (f : Fault). IsOfFile (fault_number f)) (sym is) ((λ other. omega (arith, other)), omega arith)
 
 -- of a statement that is passed over
 pub gone-on-number : (number : ℕ) → IsGoneOnBehind number → IsOfFile number
@@ -138,7 +158,7 @@ pub are-listed : (list : List code.Listed) (listed : List survey.Listed) → map
 are-listed list listed is are = Each-unmapped (λ (refusal : survey.Listed). IsOfFile refusal.number) listed_as list
     (subst ListsOfFile (sym is) are)
 
-module _ (s : Schema) (limits : Limits) (read : Reading) (sieve : Sieve) (listing : Listing)
+module _ (s : Rules) (limits : Limits) (read : Reading) (sieve : Sifted) (listing : Listing)
     (has : HasRead s limits read sieve listing) where
   pub reads-of_file : AreOfFile listing.list.items
   reads-of_file = are-listed listing.list.items read.listed has.listed has.of_file

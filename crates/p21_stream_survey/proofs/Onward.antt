@@ -1,6 +1,7 @@
 -- The walk where a statement is passed over.
-use Rattle.std.proofs.Common.{◌≡◌, ◌≤◌, ◌<◌, ◌+◌, ℕ, suc, List, [], ◌∷◌, ◌++◌, length, length-append, take, drop, Option, Some, None, Result, Ok, Err, IfOk, OnOk, inl, inr, refl, sym, ap, subst, ◌∙◌, append_assoc, arith}
-use Rattle.p21_spec_schema.specs.Schema.{Schema}
+use Rattle.std.proofs.Common.{◌≡◌, ◌≤◌, ◌<◌, ◌+◌, ℕ, suc, List, [], ◌∷◌, ◌++◌, length, length-append, take, drop, Option, Some, None}
+use Rattle.std.proofs.Common.{Result, Ok, Err, IfOk, OnOk, inl, inr, refl, sym, ap, subst, ◌∙◌, append_assoc, arith}
+use Rattle.p21_spec_survey.specs.Rules.{Rules}
 use Rattle.p21_spec_survey.specs.Survey as survey
 use Rattle.p21_spec_survey.specs.Survey.{EndsReading, at_statement}
 use Rattle.p21_stream_log.specs.Going.{behind_stretch}
@@ -25,7 +26,8 @@ use Rattle.p21_stream_survey.specs.Following.{Stands}
 use Rattle.p21_stream_survey.specs.Kinds.{IsOfFile}
 use Rattle.p21_stream_survey.specs.Reading.{HasRead}
 use Rattle.p21_stream_survey.specs.Seeking.{IsSought, SeeksFurther}
-use Rattle.p21_stream_survey.specs.Walking.{EndsAt, EndsList, EndsSo, EndsWithin, Goes, GoesByPassage, HasSought, PassesBy, ReadsBehind, SeeksOn, refusal_of, too_long}
+use Rattle.p21_stream_survey.specs.Walking.{EndsAt, EndsList, EndsSo, EndsWithin, Goes, GoesByPassage, HasSought, PassesBy, ReadsBehind}
+use Rattle.p21_stream_survey.specs.Walking.{SeeksOn, refusal_of, too_long}
 use Rattle.p21_stream_survey.specs.declared.listed.Listed as code
 use Rattle.p21_stream_survey.specs.declared.listing.Listing.{Listing}
 use Rattle.p21_stream_survey.specs.declared.seeking.Sought as sought
@@ -36,6 +38,7 @@ use Rattle.p21_stream_survey.specs.declared.stage.Unlisted.{Unlisted}
 use Rattle.p21_stream_survey.specs.declared.survey.Next.{Next}
 use Rattle.p21_stream_survey.specs.declared.survey.Survey.{Survey}
 use Rattle.p21_tokens.specs.declared.fault.TokenFault.TheVariants.{FileTooLong}
+use Rattle.p21_stream_survey.specs.Keeping.{rules_by, kept_by}
 
 -- ---- by a passage
 
@@ -48,7 +51,7 @@ goes-on_by old refusal bytes count passed passage next is reads known fewer fron
     record {
       goes = record {
         course = subst (λ (l : List ℕ). Course known old l) ahead (still-reading known old (drop passed bytes ++ more) reading at);
-        same = record { schema = refl; limits = refl; most = refl };
+        same = record { rules = refl; limits = refl; most = refl };
         no_fewer = omega arith;
       };
       once = inr more_listed;
@@ -106,14 +109,12 @@ by-seeker old refusal bytes count taken seeker passage next is taken_is none sam
               sound = record {
                 few = at.sound.few;
                 limited = at.sound.limited;
-                same_schema = at.sound.same_schema;
-                taker =
-                    at.sound.taker;
+                keeper = at.sound.keeper;
               };
               within = at.within;
               is_at = at.is_at;
             };
-            same = record { schema = refl; limits = refl; most = refl };
+            same = record { rules = refl; limits = refl; most = refl };
             no_fewer = omega arith;
           });
       once = inl (none, whole);
@@ -137,17 +138,17 @@ all-read known old new rest more next some none whole goes =
 pub passed-over : (known : Known) (old : Survey) (held : log.Held) (listing : Listing) (point : Point) (all more ahead : List ℕ)
     (passed number begins : ℕ) (subject : survey.Subject) → IsSound known old → suc (listed_of old) < old.most
     → old.log.start ≡ length point.read.bytes
-    → HasRead old.schema.now old.limits point.read old.judge.sieve old.listing → held.buffer ≡ []
-    → Stands old.schema.now old.limits known held old.judge.sieve listing
+    → HasRead (rules_by old) old.limits point.read (kept_by old) old.listing → held.buffer ≡ []
+    → Stands (rules_by old) old.limits known held (kept_by old) listing
     (behind_stretch point (take passed all) number subject begins ahead) → ahead ≡ drop passed all ++ more
     → old.log.start + (length all + length more) ≡ length known.bytes
     → (length listing.list.items ≡ suc (length old.listing.list.items))
     × IsInStage known (record old { log = held; listing = listing }) stage.Reading ahead
 passed-over known old held listing point all more ahead passed number begins subject sound room start has anew stands ahead_is counted =
-    let s : Schema = old.schema.now in
+    let s : Rules = rules_by old in
     let next : Point = behind_stretch point (take passed all) number subject begins ahead in
-    let before = listed-length s old.limits point.read old.judge.sieve old.listing has in
-    let behind = listed-length s old.limits next.read old.judge.sieve listing stands.has in
+    let before = listed-length s old.limits point.read (kept_by old) old.listing has in
+    let behind = listed-length s old.limits next.read (kept_by old) listing stands.has in
     let refusal : List survey.Listed = record { number = number; subject = subject; begins = begins } ∷ [] in
     let one = length-append point.read.listed refusal in
     let listed : length listing.list.items ≡ suc (length old.listing.list.items) = omega (arith, before, behind, one) in
@@ -155,7 +156,7 @@ passed-over known old held listing point all more ahead passed number begins sub
     stands.logs.start_is anew counted in (
       listed,
       record {
-        sound = record { few = sound.few; limited = sound.limited; same_schema = sound.same_schema; taker = sound.taker };
+        sound = record { few = sound.few; limited = sound.limited; keeper = sound.keeper };
         within = omega (arith, listed, room);
         is_at = record {
           point = next;
@@ -172,8 +173,8 @@ passed-over known old held listing point all more ahead passed number begins sub
 
 module _ (known : Known) (old : Survey) (found : sought.Sought) (rest more : List ℕ)
     (at : IsInStage known old (stage.Seeking found) (rest ++ more)) where
-  abbrev s : Schema
-  s = old.schema.now
+  abbrev s : Rules
+  s = (rules_by old)
 
   -- nothing is found yet
   pub seeks-more : (held : log.Held) (seeker : seeking.Held) → held ≡ old.log
@@ -187,14 +188,14 @@ module _ (known : Known) (old : Survey) (found : sought.Sought) (rest more : Lis
       let sum = length-append rest more in
       let start : held.start ≡ old.log.start = ap (λ (h : log.Held). h.start) same in
       record {
-        sound = record { few = at.sound.few; limited = at.sound.limited; same_schema = at.sound.same_schema; taker = at.sound.taker };
+        sound = record { few = at.sound.few; limited = at.sound.limited; keeper = at.sound.keeper };
         within = subst (λ (l : Listing). suc (length l.list.items) < old.most) (sym listed) at.within;
         is_at = record {
           point = r.point;
           statement = r.statement;
           behind = r.behind ++ rest;
           is_sought = is_sought;
-          has = subst (λ (l : Listing). HasRead s old.limits r.point.read old.judge.sieve l) (sym listed) r.has;
+          has = subst (λ (l : Listing). HasRead s old.limits r.point.read (kept_by old) l) (sym listed) r.has;
           counted = omega (arith, counted, sum, start);
         };
       }
@@ -207,15 +208,15 @@ module _ (known : Known) (old : Survey) (found : sought.Sought) (rest more : Lis
       (record { fault = fault; at = Statement listing.statement; begins = found.stretch.begins })
   seeks-end held listing fault of listed ends =
       let r = at.is_at in
-      let has : HasRead s old.limits r.point.read old.judge.sieve listing =
-      subst (λ (l : Listing). HasRead s old.limits r.point.read old.judge.sieve l) (sym listed) r.has in
+      let has : HasRead s old.limits r.point.read (kept_by old) listing =
+      subst (λ (l : Listing). HasRead s old.limits r.point.read (kept_by old) l) (sym listed) r.has in
       let within = at.within in
       let size = ap (λ (l : Listing). length l.list.items) listed in
       record {
-        sound = record { few = at.sound.few; limited = at.sound.limited; same_schema = at.sound.same_schema; taker = at.sound.taker };
+        sound = record { few = at.sound.few; limited = at.sound.limited; keeper = at.sound.keeper };
         fewer = omega (arith, within, size);
         read = r.point.read;
-        sieve = old.judge.sieve;
+        sieve = (kept_by old);
         so = λ file of_. record {
           is_read = r.is_sought.broken.stood.logs.is_read file of_;
           has = has;
@@ -224,13 +225,13 @@ module _ (known : Known) (old : Survey) (found : sought.Sought) (rest more : Lis
         };
         ends = λ file of_. subst (λ (k : ℕ). EndsReading s old.limits file r.point.read (fault_number fault) (at_statement k))
             (sym has.counted) (ends file of_);
-        of_file = reads-with s old.limits r.point.read old.judge.sieve listing has
+        of_file = reads-with s old.limits r.point.read (kept_by old) listing has
             (record { fault = fault; at = Statement listing.statement; begins = found.stretch.begins }) of;
       }
 
   -- it is passed over
   pub seeks-over : (held : log.Held) (listing : Listing) (begun : List ℕ) (count passed : ℕ) → held.buffer ≡ [] → old.stage ≡ stage.Reading
-      → Stands s old.limits known held old.judge.sieve listing
+      → Stands s old.limits known held (kept_by old) listing
       (behind_stretch at.is_at.point (take passed (at.is_at.statement ++ (at.is_at.behind ++ rest))) (fault_number found.stretch.fault)
       (at_statement (suc at.is_at.point.read.count)) found.stretch.begins (begun ++ (drop count rest ++ more)))
       → drop passed (at.is_at.statement ++ (at.is_at.behind ++ rest)) ≡ begun ++ drop count rest
@@ -255,7 +256,7 @@ module _ (known : Known) (old : Survey) (found : sought.Sought) (rest more : Lis
       r.is_sought.broken.stood.logs.start_is r.has anew stands ahead counted_all in (
         record {
           course = still-reading known new (begun ++ (drop count rest ++ more)) reading reads;
-          same = record { schema = refl; limits = refl; most = refl };
+          same = record { rules = refl; limits = refl; most = refl };
           no_fewer = omega (arith, listed);
         },
         omega (arith, listed),
@@ -264,14 +265,14 @@ module _ (known : Known) (old : Survey) (found : sought.Sought) (rest more : Lis
 -- ---- the same by what is found
 
 -- a survey that goes to the same lists
-pub goes-through : (known : Known) (old middle new : Survey) (ahead : List ℕ) → middle.schema.now ≡ old.schema.now
+pub goes-through : (known : Known) (old middle new : Survey) (ahead : List ℕ) → rules_by middle ≡ rules_by old
     → middle.limits ≡ old.limits → middle.most ≡ old.most → listed_of old ≤ listed_of middle → GoesTo known middle new ahead
     → GoesTo known old new ahead
 goes-through known old middle new ahead schema limits most fewer goes =
     let grown = goes.no_fewer in
     record {
       course = goes.course;
-      same = record { schema = goes.same.schema ∙ schema; limits = goes.same.limits ∙ limits; most = goes.same.most ∙ most };
+      same = record { rules = goes.same.rules ∙ schema; limits = goes.same.limits ∙ limits; most = goes.same.most ∙ most };
       no_fewer = omega (arith, fewer, grown);
     }
 
@@ -290,7 +291,7 @@ module _ (old : Survey) (found : sought.Sought) (rest : List ℕ) (held : log.He
   sought-none seeks same known more at =
       let r = at.is_at in
       seeks-more known old found rest more at held after same
-      (seeks.1 old.schema.now old.limits known r.point r.statement r.behind more r.is_sought) listing seeks.0
+      (seeks.1 (rules_by old) old.limits known r.point r.statement r.behind more r.is_sought) listing seeks.0
 
   -- or another one has, though no log says so
   pub sought-other : (count : ℕ) (other : seeking.Held) → Seeks-so (Some (count, Sought other)) → held ≡ old.log
@@ -298,7 +299,7 @@ module _ (old : Survey) (found : sought.Sought) (rest : List ℕ) (held : log.He
       → HasSought known middle other found.stretch (length rest) more
   sought-other count other seeks same known more at =
       let r = at.is_at in
-      let s : Schema = old.schema.now in
+      let s : Rules = rules_by old in
       let by = seeks.1 s old.limits known r.point r.statement r.behind more r.is_sought in
       let broken = broken-further s old.limits known r.point old.log r.statement r.behind rest more (fault_number found.stretch.fault)
       (at_statement (suc r.point.read.count)) found.stretch.begins r.is_sought.broken in
@@ -330,7 +331,7 @@ module _ (old : Survey) (found : sought.Sought) (rest : List ℕ) (held : log.He
       → old.stage ≡ stage.Reading → next.count ≡ count → next.again.items ≡ after.begun → Goes old (stage.Seeking found) rest next middle
   seeks-landmark count passed next seeks anew reading count_is again_is known more at =
       let r = at.is_at in
-      let (stands, left) = seeks old.schema.now old.limits known r.point r.statement r.behind more old.judge.sieve r.is_sought r.has in
+      let (stands, left) = seeks (rules_by old) old.limits known r.point r.statement r.behind more (kept_by old) r.is_sought r.has in
       let (goes, more_listed) = seeks-over known old found rest more at held listing after.begun count passed anew reading stands left in
       let ahead : after.begun ++ (drop count rest ++ more) ≡ next.again.items ++ (drop next.count rest ++ more) =
       ap (λ (l : List ℕ). l ++ (drop count rest ++ more)) (sym again_is)
@@ -346,7 +347,7 @@ module _ (old : Survey) (found : sought.Sought) (rest : List ℕ) (held : log.He
   seeks-mark count next new seeks ends known more at =
       let r = at.is_at in
       let so = seeks-end known old found rest more at held listing found.stretch.fault r.is_sought.of_file seeks.0
-      (seeks.1 old.schema.now old.limits known r.point r.statement r.behind more r.is_sought) in
+      (seeks.1 (rules_by old) old.limits known r.point r.statement r.behind more r.is_sought) in
       let (goes, over) = ends known (next.again.items ++ (drop next.count rest ++ more)) so in
       let size = ap (λ (l : Listing). length l.list.items) seeks.0 in
       record {
@@ -359,7 +360,7 @@ module _ (old : Survey) (found : sought.Sought) (rest : List ℕ) (held : log.He
       → EndsThere new (too_long middle found.stretch.begins) → Goes old (stage.Seeking found) rest next new
   seeks-far too_far count next new seeks ends known more at =
       let r = at.is_at in
-      let s : Schema = old.schema.now in
+      let s : Rules = rules_by old in
       let number : ℕ = fault_number found.stretch.fault in
       let so = seeks-end known old found rest more at held listing (Token FileTooLong) far-number seeks.0
       (λ file of. too_far s old.limits file r.point.read number (at_statement (suc r.point.read.count)) at.sound.limited
@@ -412,17 +413,17 @@ pub sought-long : (known : Known) (old : Survey) (seeker : seeking.Held) (stretc
     → EndsSo known old (too_long old stretch.begins)
 sought-long known old seeker stretch count ahead has long =
     let r = has.is_at in
-    let s : Schema = old.schema.now in
+    let s : Rules = rules_by old in
     let within = has.within in
     let logs = r.is_sought.broken.stood.logs in
     let taken_is = r.is_sought.taken_is in
     let start = logs.start_is in
     let sum = length-append r.point.read.bytes (r.statement ++ r.behind) in
     record {
-      sound = record { few = has.sound.few; limited = has.sound.limited; same_schema = has.sound.same_schema; taker = has.sound.taker };
+      sound = record { few = has.sound.few; limited = has.sound.limited; keeper = has.sound.keeper };
       fewer = omega (arith, within);
       read = r.point.read;
-      sieve = old.judge.sieve;
+      sieve = (kept_by old);
       so = λ file of. record { is_read = logs.is_read file of; has = r.has; begins_at = (r.is_sought.broken.next_in file of).begins_at };
       ends = λ file of.
           let next = r.is_sought.broken.next_in file of in
@@ -432,7 +433,7 @@ sought-long known old seeker stretch count ahead has long =
           ∙ ap (λ (l : List ℕ). r.point.read.bytes ++ l) (sym (append_assoc r.statement r.behind (ahead ++ next.rest))) in
           subst (λ (k : ℕ). EndsReading s old.limits file r.point.read 23 (at_statement k)) (sym r.has.counted)
           (survey.too_long (r.statement ++ r.behind) (ahead ++ next.rest) whole (omega (arith, sum, start, taken_is, long)));
-      of_file = reads-with s old.limits r.point.read old.judge.sieve old.listing r.has (too_long old stretch.begins) far-number;
+      of_file = reads-with s old.limits r.point.read (kept_by old) old.listing r.has (too_long old stretch.begins) far-number;
     }
 
 pub sought-ends : {E : Type 0} (old new : Survey) (seeker : seeking.Held) (stretch : Stretch) (count : ℕ) (longer : code.Listed)
@@ -456,14 +457,12 @@ sought-more old seeker stretch count taken is known ahead has =
         sound = record {
           few = at.sound.few;
           limited = at.sound.limited;
-          same_schema = at.sound.same_schema;
-          taker =
-              at.sound.taker;
+          keeper = at.sound.keeper;
         };
         within = at.within;
         is_at = at.is_at;
       };
-      same = record { schema = refl; limits = refl; most = refl };
+      same = record { rules = refl; limits = refl; most = refl };
       no_fewer = omega arith;
     }
 
@@ -515,9 +514,7 @@ as-stage old new stage_ put rest (Ok next) is goes = λ known more at.
       sound = record {
         few = there.sound.few;
         limited = there.sound.limited;
-        same_schema =
-            there.sound.same_schema;
-        taker = there.sound.taker;
+        keeper = there.sound.keeper;
       };
       within = there.within;
       is_at = there.is_at;
@@ -526,7 +523,7 @@ as-stage old new stage_ put rest (Ok next) is goes = λ known more at.
       goes = record {
         course = moved.goes.course;
         same =
-            record { schema = moved.goes.same.schema; limits = moved.goes.same.limits; most = moved.goes.same.most };
+            record { rules = moved.goes.same.rules; limits = moved.goes.same.limits; most = moved.goes.same.most };
         no_fewer =
             moved.goes.no_fewer;
       };

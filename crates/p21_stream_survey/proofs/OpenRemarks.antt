@@ -1,9 +1,10 @@
 -- Statements with which a file ends in a remark that nothing ends.
-use Rattle.std.proofs.Common.{Result, Ok, Err, IfOk, true, ◌≡◌, ◌≤◌, ◌<◌, ◌^◌, ℕ, suc, List, [], ◌++◌, length, take, drop, inl, refl, sym, ap, subst, ◌∙◌, append-nil, length-append, arith}
+use Rattle.std.proofs.Common.{Result, Ok, Err, IfOk, true, ◌≡◌, ◌≤◌, ◌<◌, ◌^◌, ℕ, suc, List, [], ◌++◌, length, take, drop, inl, refl, sym}
+use Rattle.std.proofs.Common.{ap, subst, ◌∙◌, append-nil, length-append, arith}
 use Rattle.std.proofs.lemmas.List.{take-append-drop}
 use Rattle.std.proofs.lemmas.Result.{IfOk-weaker}
 use Rattle.p21_spec_basics.specs.Limits.{Limits}
-use Rattle.p21_spec_schema.specs.Schema.{Schema}
+use Rattle.p21_spec_survey.specs.Rules.{Rules}
 use Rattle.p21_spec_survey.specs.Resuming.{EndsInRemark}
 use Rattle.p21_spec_survey.specs.Survey.{BeginsWithEnd, EndsReading, IsGoneOnBehind, IsToBePassed, at_statement}
 use Rattle.p21_stream_log.proofs.Bounds.{read-within}
@@ -17,7 +18,7 @@ use Rattle.p21_stream_log.specs.declared.passage.Passage.{Passage}
 use Rattle.p21_stream_log.specs.declared.passage.Passage.TheVariants.{AtFileMark, GoesOn, Sought, TooLong}
 use Rattle.p21_stream_resume.specs.Seeking as seeking
 use Rattle.p21_stream_resume.specs.Standing.{EndsNoRemark}
-use Rattle.p21_stream_sieve.specs.declared.sieve.Sieve.{Sieve}
+use Rattle.p21_stream_survey.specs.Sifted.{Sifted}
 use Rattle.p21_stream_statements.specs.Fault.{fault_number}
 use Rattle.p21_stream_statements.specs.declared.fault.Fault.{Fault}
 use Rattle.p21_stream_statements.specs.declared.fault.Fault.TheVariants.{Token}
@@ -45,7 +46,7 @@ remark-number number three = (λ is. omega (arith, three, is), omega (arith, thr
 module _ (limits : Limits) (held : Held) (front statement : List ℕ) (fault : Fault) (begins : ℕ) where
   -- where that is so at each point
   abbrev pub UnendedAt : Type 0
-  UnendedAt = (s : Schema) (known : Known) (point : Point) (sieve : Sieve) (listing : Listing) → front ≡ held.buffer
+  UnendedAt = (s : Rules) (known : Known) (point : Point) (sieve : Sifted) (listing : Listing) → front ≡ held.buffer
       → IsAtLast s limits known held sieve listing point statement → IsUnendedAt s limits known point held statement fault begins
 
   pub unended-at : UnendedIsBroken → UnendedGoesOn → UnendedIsNoEnd → limits.file_source < 2 ^ 64 → TellsData held true
@@ -88,7 +89,7 @@ stretch-ends limits old new before behind front statement fault begins extent at
 -- ---- it is passed over
 
 says : (old new : Held) (fault : Fault) (begins : ℕ) (statement : List ℕ) (passage : Passage) → PassageGives old statement [] passage new
-    → (s : Schema) (limits : Limits) (known : Known) (point : Point) → IsUnendedAt s limits known point old statement fault begins
+    → (s : Rules) (limits : Limits) (known : Known) (point : Point) → IsUnendedAt s limits known point old statement fault begins
     → PassageFor s limits known point statement [] [] (fault_number fault) (at_statement (suc point.read.count)) begins passage new
 says old new fault begins statement passage gives s limits known point at =
     gives.1 s limits known point [] (fault_number fault) (at_statement (suc point.read.count)) begins at.broken
@@ -163,7 +164,7 @@ passes-on limits old new before behind front statement fault begins count at pas
 with-refusal : (limits : Limits) (old new : Held) (before between behind : Listing) (front statement : List ℕ) (own fault : Fault)
     (begins : ℕ) (ended : Ended) → between ≡ before → UnendedAt limits old front statement own begins
     → EndsWithRefusal between fault begins ended behind
-    → ((s : Schema) (known : Known) (point : Point) → IsUnendedAt s limits known point old statement own begins
+    → ((s : Rules) (known : Known) (point : Point) → IsUnendedAt s limits known point old statement own begins
     → (file : List ℕ) → IsFileOf known file
     → EndsReading s limits file point.read (fault_number fault) (at_statement (suc point.read.count)))
     → EndsUnended limits old before front statement ended new behind

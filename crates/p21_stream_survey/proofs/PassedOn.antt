@@ -1,15 +1,16 @@
 -- A broken statement is passed over and listed.
-use Rattle.std.proofs.Common.{◌≡◌, ◌<◌, ◌↔◌, ◌⊎◌, ℕ, Bool, IsTrue, zero, suc, List, [], ◌∷◌, ◌++◌, length, take, drop, Result, Ok, Err, IfOk, OnOk, inl, inr, sym, ap, subst, ◌∙◌, arith}
+use Rattle.std.proofs.Common.{◌≡◌, ◌<◌, ◌↔◌, ◌⊎◌, ℕ, Bool, IsTrue, zero, suc, List, [], ◌∷◌, ◌++◌, length, take, drop, Result, Ok, Err}
+use Rattle.std.proofs.Common.{IfOk, OnOk, inl, inr, sym, ap, subst, ◌∙◌, arith}
 use Rattle.std.specs.BTreeSet.{BTreeSet}
 use Rattle.p21_spec_basics.specs.Limits.{Limits}
-use Rattle.p21_spec_schema.specs.Schema.{Schema}
+use Rattle.p21_spec_survey.specs.Rules.{Rules}
 use Rattle.p21_spec_survey.specs.Survey.{Reading, at_statement, in_instance, passing_over}
 use Rattle.p21_stream_log.specs.Going.{behind_stretch}
 use Rattle.p21_stream_log.specs.Log.{Held, Logs}
 use Rattle.p21_stream_log.specs.declared.passage.Passage.{Passage}
 use Rattle.p21_stream_log.specs.declared.passage.Passage.TheVariants.{GoesOn}
 use Rattle.p21_stream_sieve.specs.Sifting.{HasName}
-use Rattle.p21_stream_sieve.specs.declared.sieve.Sieve.{Sieve}
+use Rattle.p21_stream_survey.specs.Sifted.{Sifted}
 use Rattle.p21_stream_statements.specs.Fault.{fault_number}
 use Rattle.p21_stream_statements.specs.declared.fault.Fault.{Fault}
 use Rattle.p21_stream_survey.proofs.Numbers.{are-more, gone-on-number}
@@ -41,7 +42,7 @@ no-instance : (number m : ℕ) → at_statement number ≡ in_instance m → ⊥
 no-instance number m is = cc
 
 -- what is read with a statement that is passed over by the first of some bytes
-pub passed-reads : (s : Schema) (limits : Limits) (read : Reading) (all : List ℕ) (begins count size : ℕ) (fault : Fault) (sieve : Sieve)
+pub passed-reads : (s : Rules) (limits : Limits) (read : Reading) (all : List ℕ) (begins count size : ℕ) (fault : Fault) (sieve : Sifted)
     (before behind : Listing) → HasRead s limits read sieve before → ListsPassed before fault begins count size (GoesOn count) behind
     → IsOfFile (fault_number fault) → (0 < size) ↔ (0 < length all)
     → HasRead s limits (passing_over read (take count all) (fault_number fault) (at_statement (suc read.count)) begins) sieve behind

@@ -1,31 +1,54 @@
 -- What a survey knows of a reading, with a statement more.
-use Rattle.std.proofs.Common.{false, ◌≡◌, ◌≢◌, ◌⊎◌, ◌↔◌, ◌≤◌, ◌<◌, ℕ, Bool, IsTrue, suc, true, List, [], ◌∷◌, ◌++◌, map, length, inl, inr, refl, sym, ap, subst, ◌∙◌, length-append, arith}
+use Rattle.std.proofs.Common.{false, ◌≡◌, ◌≢◌, ◌⊎◌, ◌↔◌, ◌≤◌, ◌<◌, ℕ, Bool, IsTrue, suc, true, List, [], ◌∷◌, ◌++◌, map, length, inl, inr}
+use Rattle.std.proofs.Common.{refl, sym, ap, subst, ◌∙◌, length-append, arith}
 use Rattle.std.proofs.lemmas.List.{append-nil, map-append, nil_from_length}
 use Rattle.std.proofs.lemmas.List.Elements.{Contains-append_cases, Contains-append_left, Contains-append_right}
-use Rattle.std.specs.BTreeSet.{BTreeSet}
+use Rattle.std.proofs.lemmas.Map.Lookups.{exact_unsigned}
+use Rattle.std.proofs.lemmas.Map.Views.{tells_apart}
+use Rattle.std.specs.BTreeSet.{BTreeSet, Updates, contains}
+use Rattle.std.specs.Ordering.{eq_by_cmp, nat_cmp}
+use Rattle.std.specs.Prelude.{Contains, cond}
 use Rattle.p21_spec_basics.proofs.Members.{Contains-cases, Contains-first, Contains-none}
 use Rattle.p21_spec_basics.specs.Limits.{Limits}
 use Rattle.p21_spec_exchange.specs.Record.{Record}
-use Rattle.p21_spec_exchange.specs.Statement.{Statement, instance}
-use Rattle.p21_spec_schema.specs.Schema.{Schema}
+use Rattle.p21_spec_exchange.specs.Statement.{Statement, instance, section, data_start}
+use Rattle.p21_spec_survey.specs.Rules.{Rules, by_itself, of_schema}
 use Rattle.p21_spec_survey.specs.Survey as survey
 use Rattle.p21_spec_survey.specs.Survey.{Listed, Reading, Subject, in_instance, leaving_out, nothing_read, passing_over, taking}
+use Rattle.p21_spec_laws.proofs.Among.{parts-append}
 use Rattle.p21_spec_laws.proofs.Keeps.{keeps-at_start}
-use Rattle.p21_spec_laws.specs.Keeping.{Keeps, Kept, nothing_kept}
+use Rattle.p21_spec_laws.proofs.Statements.{instances-append}
+use Rattle.p21_spec_laws.specs.Among.{parts_among}
+use Rattle.p21_spec_laws.specs.Keeping.{Keeps, Kept}
 use Rattle.p21_spec_laws.specs.Stored.{with_lines}
+use Rattle.p21_spec_laws.specs.Taken.{headings_among, instances_among, names_among}
 use Rattle.p21_stream_sieve.proofs.RefusedNames.{has-none, same-instance}
-use Rattle.p21_stream_sieve.specs.Sifting.{AreSifted, HasName, HaveNames, HasRefusal, RefusesInstance, at_instance, none, refuses}
+use Rattle.p21_stream_sieve.specs.Sifting.{AreSifted, HasName, HaveNames, HasRefusal, at_instance, none, refuses}
 use Rattle.p21_stream_sieve.specs.SieveSteps.{Lists}
 use Rattle.p21_stream_sieve.specs.declared.sieve.Sieve.{Sieve}
 use Rattle.p21_stream_statements.specs.Fault.{fault_number}
 use Rattle.p21_stream_statements.specs.declared.fault.Fault.{Fault}
 use Rattle.p21_stream_statements.specs.declared.refusal.Refusal.{Refusal}
 use Rattle.p21_stream_survey.proofs.Numbers.{lists-more, refuses-number}
-use Rattle.p21_stream_survey.specs.Judging.{Takes}
+use Rattle.p21_stream_survey.specs.Judging.{LeavesName, RefusesBy, SiftsAlone, SiftsTo, Takes}
+use Rattle.p21_stream_survey.specs.Keeping.{IsSoundKeeper, KeepsNothing, rules_of, sifted_of}
 use Rattle.p21_stream_survey.specs.Kinds.{IsOfFile}
 use Rattle.p21_stream_survey.specs.Reading.{HasRead, listed_as}
+use Rattle.p21_stream_survey.specs.Sifted.{Sifted, alone, names_left, sieved}
+use Rattle.p21_stream_survey.specs.declared.keeper.Keeper.{Keeper}
+use Rattle.p21_stream_survey.specs.declared.keeper.Keeper.TheVariants.{ByItself, OfSchema}
 use Rattle.p21_stream_survey.specs.declared.listed.Listed as code
 use Rattle.p21_stream_survey.specs.declared.listing.Listing.{Listing}
+use Rattle.p21_stream_syntax.proofs.Taking.{keeps-nothing}
+use Rattle.p21_stream_syntax.specs.Given as own
+use Rattle.p21_spec_exchange.specs.DataSection.{Heading}
+
+-- ---- the section lines of more statements
+
+pub headings-append : (xs ys : List Statement) → headings_among (xs ++ ys) ≡ headings_among xs ++ headings_among ys
+headings-append [] ys = refl
+headings-append (section (data_start h) ∷ xs) ys = ap (λ (hs : List Heading). h ∷ hs) (headings-append xs ys)
+headings-append (other ∷ xs) ys = headings-append xs ys
 
 -- ---- bytes that are kept, and those that are read
 
@@ -78,7 +101,7 @@ listed-more list one listed is = map-append listed_as list (one ∷ []) ∙ ap (
 
 -- ---- a statement that is taken
 
-pub reads-taken : (s : Schema) (limits : Limits) (read : Reading) (bytes : List ℕ) (statement : Statement) (old new : Sieve)
+pub reads-taken : (s : Rules) (limits : Limits) (read : Reading) (bytes : List ℕ) (statement : Statement) (old new : Sifted)
     (before behind : Listing) → HasRead s limits read old before → Takes s limits read.given read.taken old statement new
     → behind.list.items ≡ before.list.items → behind.passed ≡ before.passed → behind.is_broken ≡ before.is_broken
     → behind.statement ≡ suc before.statement
@@ -143,24 +166,76 @@ named-more old new n fault lists have m =
       ]
     ]
 
-pub reads-left_out : (s : Schema) (limits : Limits) (read : Reading) (bytes : List ℕ) (n begins : ℕ) (r : Record) (fault : Fault)
-    (old new : Sieve) (before behind : Listing) (one : code.Listed) → HasRead s limits read old before → Lists old n fault new
-    → RefusesInstance s read.given n r fault → listed_as
+-- a set of names has one more
+name-put : (names added : BTreeSet ℕ) (n q : ℕ) → Updates nat_cmp names added n true → HasName added q ↔ (HasName names q ⊎ (n ≡ q))
+name-put names added n q updates = by (eq_by_cmp nat_cmp n q) refl (updates.0 q)
+  where
+    by : (same : Bool) → eq_by_cmp nat_cmp n q ≡ same → contains nat_cmp added q ≡ cond same true (contains nat_cmp names q)
+        → HasName added q ↔ (HasName names q ⊎ (n ≡ q))
+    by true is now = (λ had. inr (tells_apart exact_unsigned n q is), λ which. now)
+    by false is now = (
+      λ had. inl (sym now ∙ had),
+      λ which. elim which [ inl before ↦ now ∙ before | inr same ↦ subst (λ (m : ℕ). HasName added m) same updates.1 ],
+    )
+
+-- the names with that of one instance more
+pub names-behind : (given : List Statement) (n : ℕ) (r : Record) → names_among (given ++ instance n r ∷ []) ≡ names_among given ++ n ∷ []
+names-behind given n r =
+    ap (λ (is : List (ℕ × Record)). map (λ (i : ℕ × Record). i.0) is) (instances-append given (instance n r ∷ []))
+    ∙ map-append (λ (i : ℕ × Record). i.0) (instances_among given) ((n, r) ∷ [])
+
+-- what is kept of the statements, and whose names are left out, with an instance that is
+sifts-left : (s : Rules) (limits : Limits) (given taken : List Statement) (n : ℕ) (r : Record) (fault : Fault) (old new : Sifted)
+    → SiftsTo s limits given taken old → LeavesName old n fault new → RefusesBy s given n r fault
+    → SiftsTo s limits (given ++ instance n r ∷ []) taken new
+    × ((m : ℕ) → HasName (names_left new) m ↔ (HasName (names_left old) m ⊎ (n ≡ m)))
+sifts-left (of_schema s) limits given taken n r fault (sieved old) (sieved new) sifts lists refused = (
+  record {
+    sifted = subst (λ (rs : List Refusal). AreSifted s (given ++ instance n r ∷ []) taken rs) (sym lists.refusals_are)
+        (refuses given taken old.refusals.items n r fault sifts.sifted refused);
+    keeps = subst (λ (k : Kept). Keeps s limits taken k) (sym lists.kept_is) sifts.keeps;
+    lines = ap (λ (k : Kept). k.lines) lists.kept_is ∙ sifts.lines;
+    names = lists.names sifts.names;
+  },
+  λ m. named-more old new n fault lists sifts.names m,
+)
+sifts-left by_itself limits given taken n r fault (alone kept names) (alone after more) sifts (same, updates) (is, among) = (
+  subst (λ (k : own.Kept). SiftsAlone (given ++ instance n r ∷ []) taken k) (sym same) (record {
+    keeps = sifts.keeps;
+    parts_are = parts-append given (instance n r ∷ []) ∙ (append-nil (parts_among given) ∙ sifts.parts_are);
+    headings_are = headings-append given (instance n r ∷ []) ∙ (append-nil (headings_among given) ∙ sifts.headings_are);
+    named = λ m. (
+      λ at. (sifts.named m).0 (elim (Contains-append_cases (names_among given) (n ∷ []) m
+          (subst (λ (ns : List ℕ). Contains ns m) (names-behind given n r) at)) [
+            | inl before ↦ before
+            | inr last ↦ elim (Contains-cases n [] m last) [
+              | inl own ↦ subst (λ (k : ℕ). Contains (names_among given) k) own among
+              | inr nothing ↦ absurd (Contains-none m nothing)
+            ]
+          ]),
+      λ at. subst (λ (ns : List ℕ). Contains ns m) (sym (names-behind given n r))
+          (Contains-append_left (names_among given) (n ∷ []) m ((sifts.named m).1 at)),
+    );
+  }),
+  λ m. name-put names more n m updates,
+)
+sifts-left (of_schema s) limits given taken n r fault (alone kept names) new sifts lists refused = absurd sifts
+sifts-left (of_schema s) limits given taken n r fault (sieved old) (alone after more) sifts lists refused = absurd lists
+sifts-left by_itself limits given taken n r fault (sieved old) new sifts lists refused = absurd sifts
+sifts-left by_itself limits given taken n r fault (alone kept names) (sieved new) sifts lists refused = absurd lists
+
+pub reads-left_out : (s : Rules) (limits : Limits) (read : Reading) (bytes : List ℕ) (n begins : ℕ) (r : Record) (fault : Fault)
+    (old new : Sifted) (before behind : Listing) (one : code.Listed) → HasRead s limits read old before → LeavesName old n fault new
+    → RefusesBy s read.given n r fault → listed_as
     one ≡ record { number = fault_number fault; subject = in_instance n; begins = begins }
     → behind.list.items ≡ before.list.items ++ one ∷ [] → behind.passed ≡ before.passed
     → behind.is_broken ≡ before.is_broken → behind.statement ≡ suc before.statement
     → HasRead s limits (leaving_out read bytes n r (fault_number fault) begins) new behind
 reads-left_out s limits read bytes n begins r fault old new before behind one has lists refused is list passed broken statement =
     let told : Listed = record { number = fault_number fault; subject = in_instance n; begins = begins } in
-    let more = named-more old new n fault lists has.sifts.names in
+    let (sifts, more) = sifts-left s limits read.given read.taken n r fault old new has.sifts lists refused in
     record {
-      sifts = record {
-        sifted = subst (λ (rs : List Refusal). AreSifted s (read.given ++ instance n r ∷ []) read.taken rs) (sym lists.refusals_are)
-            (refuses read.given read.taken old.refusals.items n r fault has.sifts.sifted refused);
-        keeps = subst (λ (k : Kept). Keeps s limits read.taken k) (sym lists.kept_is) has.sifts.keeps;
-        lines = ap (λ (k : Kept). k.lines) lists.kept_is ∙ has.sifts.lines;
-        names = lists.names has.sifts.names;
-      };
+      sifts = sifts;
       listed = ap (λ (l : List code.Listed). map listed_as l) list ∙ listed-more before.list.items one read.listed has.listed
           ∙ ap (λ (l : Listed). read.listed ++ l ∷ []) is;
       named = λ m. (
@@ -188,7 +263,7 @@ reads-left_out s limits read bytes n begins r fault old new before behind one ha
 
 -- ---- a statement that is passed over
 
-pub reads-passed : (s : Schema) (limits : Limits) (read : Reading) (bytes : List ℕ) (number begins : ℕ) (subject : Subject) (sieve : Sieve)
+pub reads-passed : (s : Rules) (limits : Limits) (read : Reading) (bytes : List ℕ) (number begins : ℕ) (subject : Subject) (sieve : Sifted)
     (before behind : Listing) (one : code.Listed) → HasRead s limits read sieve before
     → IsOfFile number
     → listed_as one ≡ record { number = number; subject = subject; begins = begins } → behind.list.items ≡ before.list.items ++ one ∷ []
@@ -249,23 +324,39 @@ not-broken : (broken : Bool) → broken ≡ false → IsTrue broken ↔ (nothing
 not-broken true is = absurd (false-is (sym is))
 not-broken false is = (λ yes. absurd (false-is yes), λ differ. absurd (differ refl))
 
--- nothing is read, kept and listed
-pub reads-nothing : (s : Schema) (limits : Limits) (sieve : Sieve) (listing : Listing) → sieve.kept ≡ nothing_kept
-    → sieve.refusals.items ≡ [] → HaveNames sieve.names [] → listing.list.items ≡ [] → listing.passed.keys ≡ [] → listing.statement ≡ 1
-    → listing.is_broken ≡ false
-    → HasRead s limits nothing_read sieve listing
-reads-nothing s limits sieve listing kept refusals names list passed statement whole = record {
-  sifts = record {
-    sifted = subst (λ (rs : List Refusal). AreSifted s [] [] rs) (sym refusals) none;
-    keeps = subst (λ (k : Kept). Keeps s limits [] k) (sym kept) (keeps-at_start s limits with_lines);
+-- nothing is kept, and no name is left out
+sifts-nothing : (limits : Limits) (keeper : Keeper) → KeepsNothing keeper
+    → SiftsTo (rules_of keeper) limits [] [] (sifted_of keeper) × ((n : ℕ) → ¬ HasName (names_left (sifted_of keeper)) n)
+sifts-nothing limits (OfSchema keeper) (kept, refusals, names, sound) = (
+  record {
+    sifted = subst (λ (rs : List Refusal). AreSifted keeper.schema.now [] [] rs) (sym refusals) none;
+    keeps = subst (λ (k : Kept). Keeps keeper.schema.now limits [] k) (sym kept) (keeps-at_start keeper.schema.now limits with_lines);
     lines = ap (λ (k : Kept). k.lines) kept;
-    names = subst (λ (rs : List Refusal). HaveNames sieve.names rs) (sym refusals) names;
-  };
+    names = subst (λ (rs : List Refusal). HaveNames keeper.judge.sieve.names rs) (sym refusals) names;
+  },
+  λ n out. none-refused n ((names n).0 out),
+)
+sifts-nothing limits (ByItself keeper) (kept, names) = (
+  subst (λ (k : own.Kept). SiftsAlone [] [] k) (sym kept)
+      (record { keeps = keeps-nothing; parts_are = refl; headings_are = refl; named = λ n. (λ among. among, λ among. among) }),
+  λ n out. none-refused n ((has-none keeper.names names n).0 out),
+)
+
+pub nothing-sound : (keeper : Keeper) → KeepsNothing keeper → IsSoundKeeper keeper
+nothing-sound (OfSchema keeper) (kept, refusals, names, sound) = sound
+nothing-sound (ByItself keeper) nothing = tt
+
+-- nothing is read, kept and listed
+pub reads-nothing : (limits : Limits) (keeper : Keeper) (listing : Listing) → KeepsNothing keeper → listing.list.items ≡ []
+    → listing.passed.keys ≡ [] → listing.statement ≡ 1 → listing.is_broken ≡ false
+    → HasRead (rules_of keeper) limits nothing_read (sifted_of keeper) listing
+reads-nothing limits keeper listing nothing list passed statement whole = record {
+  sifts = (sifts-nothing limits keeper nothing).0;
   listed = ap (λ (l : List code.Listed). map listed_as l) list;
   named = λ n. (
     λ was. absurd (none-listed n was),
     λ known. elim known [
-      | inl out ↦ absurd (none-refused n ((names n).0 out))
+      | inl out ↦ absurd ((sifts-nothing limits keeper nothing).1 n out)
       | inr over ↦ absurd
           (none-refused n ((has-none listing.passed passed n).0 over))
     ],

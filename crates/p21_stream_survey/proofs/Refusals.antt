@@ -1,17 +1,19 @@
 -- The walk where a statement is refused that may be passed over.
-use Rattle.std.proofs.Common.{◌≡◌, ◌≤◌, ◌<◌, ◌+◌, ℕ, suc, Bool, true, false, List, [], ◌++◌, length, length-append, take, drop, Result, Ok, Err, IfOk, OnOk, inl, inr, refl, sym, ap, subst, ◌∙◌, append_assoc, append-nil, arith}
+use Rattle.std.proofs.Common.{◌≡◌, ◌≤◌, ◌<◌, ◌+◌, ℕ, suc, Bool, true, false, List, [], ◌++◌, length, length-append, take, drop, Result, Ok}
+use Rattle.std.proofs.Common.{Err, IfOk, OnOk, inl, inr, refl, sym, ap, subst, ◌∙◌, append_assoc, append-nil, arith}
 use Rattle.std.proofs.lemmas.List.{drop_all}
 use Rattle.p21_spec_basics.specs.Limits.{Limits}
 use Rattle.p21_spec_exchange.specs.Record.{Record}
 use Rattle.p21_spec_exchange.specs.Statement.{Statement, instance}
-use Rattle.p21_spec_schema.specs.Schema.{Schema}
 use Rattle.p21_spec_survey.specs.Resuming.{HasNoneInside}
+use Rattle.p21_spec_survey.specs.Rules.{Rules}
 use Rattle.p21_spec_survey.specs.Survey.{BeginsAt, EndsReading, IsGoneOnBehind, IsInData, IsToBePassed, at_statement, in_instance}
 use Rattle.p21_stream_log.proofs.Breaking.{empty-front}
 use Rattle.p21_stream_log.proofs.Taking.{has-ended}
 use Rattle.p21_stream_log.specs.Broken.{BeginsIn}
 use Rattle.p21_stream_log.specs.Going.{StoodFor, behind_stretch}
-use Rattle.p21_stream_log.specs.Laws.{BeginsInEach, InstanceIsInData, RefusedEnds, RefusedIsBroken, RefusedIsTold, TooFarEnds, WrongIsBroken}
+use Rattle.p21_stream_log.specs.Laws.{BeginsInEach, InstanceIsInData, RefusedEnds, RefusedIsBroken, RefusedIsTold, TooFarEnds}
+use Rattle.p21_stream_log.specs.Laws.{WrongIsBroken}
 use Rattle.p21_stream_log.specs.Log as log
 use Rattle.p21_stream_log.specs.Log.{IsFileOf, Known, Point}
 use Rattle.p21_stream_log.specs.Opening.{OpensAs}
@@ -19,7 +21,6 @@ use Rattle.p21_stream_log.specs.Passage.{GoesOnAt, IsBrokenBy, StaysAt}
 use Rattle.p21_stream_log.specs.declared.opening.Opening.TheVariants as opening
 use Rattle.p21_stream_log.specs.declared.passage.Passage.{Passage}
 use Rattle.p21_stream_log.specs.declared.passage.Passage.TheVariants.{AtFileMark, GoesOn, Sought, TooLong}
-use Rattle.p21_stream_sieve.specs.declared.sieve.Sieve.{Sieve}
 use Rattle.p21_stream_statements.specs.Fault.{fault_number}
 use Rattle.p21_stream_statements.specs.declared.fault.Fault.{Fault}
 use Rattle.p21_stream_statements.specs.declared.fault.Fault.TheVariants.{Token}
@@ -32,12 +33,16 @@ use Rattle.p21_stream_survey.proofs.Onward.{goes-through, passed-over}
 use Rattle.p21_stream_survey.specs.Breaking.{IsRefusedAt, MayBePassed, MayNotBePassed}
 use Rattle.p21_stream_survey.specs.Course.{GoesTo, listed_of}
 use Rattle.p21_stream_survey.specs.Following.{HasEnded, LeavesOut, Stands}
+use Rattle.p21_stream_survey.specs.Keeping.{kept_by, rules_by, sifted_of}
 use Rattle.p21_stream_survey.specs.Kinds.{IsOfFile}
 use Rattle.p21_stream_survey.specs.Passing.{GoesOnBroken}
 use Rattle.p21_stream_survey.specs.Reading.{HasRead, subject_of}
-use Rattle.p21_stream_survey.specs.Walking.{EndsAt, EndsList, EndsSo, EndsWithStretch, EndsWithin, FollowsJudged, FollowsWrong, GoesBehindRefused, GoesByPassage, HasRefused, IsJudged, PassesBy, PassesRefused, too_long}
+use Rattle.p21_stream_survey.specs.Sifted.{Sifted}
+use Rattle.p21_stream_survey.specs.Walking.{EndsAt, EndsList, EndsSo, EndsWithStretch, EndsWithin, FollowsJudged, FollowsWrong}
+use Rattle.p21_stream_survey.specs.Walking.{GoesBehindRefused, GoesByPassage, HasRefused, IsJudged, PassesBy, PassesRefused, too_long}
 use Rattle.p21_stream_survey.specs.Wrong.{IsWrongAt, PassesWrong}
 use Rattle.p21_stream_survey.specs.declared.judging.Judgement.TheVariants.{Wrong}
+use Rattle.p21_stream_survey.specs.declared.keeper.Keeper.{Keeper}
 use Rattle.p21_stream_survey.specs.declared.listed.Listed as code
 use Rattle.p21_stream_survey.specs.declared.listing.Listing.{Listing}
 use Rattle.p21_stream_survey.specs.declared.survey.Next.{Next}
@@ -47,8 +52,8 @@ use Rattle.p21_tokens.specs.declared.fault.TokenFault.TheVariants.{FileTooLong}
 -- ---- a step refused some of a piece
 
 module _ (known : Known) (old : Survey) (piece more : List ℕ) (fault : Fault) (has : HasRefused known old piece more fault) where
-  abbrev s : Schema
-  s = old.schema.now
+  abbrev s : Rules
+  s = rules_by old
 
   abbrev own_bytes : List ℕ
   own_bytes = old.log.buffer ++ piece
@@ -87,12 +92,12 @@ module _ (known : Known) (old : Survey) (piece more : List ℕ) (fault : Fault) 
   -- the reading ends, where it may not be passed over
   pub refused-end : RefusedEnds → RefusedIsTold → MayNotBePassed old.log fault own_bytes → EndsWithin known old fault own_bytes more
   refused-end ends told not = record {
-    sound = record { few = has.sound.few; limited = has.sound.limited; same_schema = has.sound.same_schema; taker = has.sound.taker };
+    sound = record { few = has.sound.few; limited = has.sound.limited; keeper = has.sound.keeper };
     fewer = has.fewer;
     waits = record {
       read = has.point.read;
       is_read = has.refused.logs.is_read;
-      sieve = old.judge.sieve;
+      sieve = (kept_by old);
       has = has.has;
       start_is = start-is;
       file_is = file-is;
@@ -134,14 +139,14 @@ module _ (known : Known) (old : Survey) (piece more : List ℕ) (fault : Fault) 
         passes.gone_on in_data refl (empty-front own_bytes) passes.opens each in
         let fewer = has.fewer in
         record {
-          sound = record { few = has.sound.few; limited = has.sound.limited; same_schema = has.sound.same_schema; taker = has.sound.taker };
+          sound = record { few = has.sound.few; limited = has.sound.limited; keeper = has.sound.keeper };
           last = omega (arith, full, fewer);
           read = has.point.read;
-          sieve = old.judge.sieve;
+          sieve = (kept_by old);
           so = λ file of. record { is_read = has.refused.logs.is_read file of; has = has.has; begins_at = each file of };
           passes = λ file of. subst (λ (k : ℕ). IsToBePassed s old.limits file has.point.read number (at_statement k)) (sym has.has.counted)
               (by.next_in file of).to_pass;
-          of_file = reads-with s old.limits has.point.read old.judge.sieve old.listing has.has
+          of_file = reads-with s old.limits has.point.read (kept_by old) old.listing has.has
               (record { fault = fault; at = at.Statement old.listing.statement; begins = begins }) has.of_file;
         }
 
@@ -160,24 +165,22 @@ module _ (known : Known) (old : Survey) (piece more : List ℕ) (fault : Fault) 
             sound = record {
               few = has.sound.few;
               limited = has.sound.limited;
-              same_schema = has.sound.same_schema;
-              taker =
-                  has.sound.taker;
+              keeper = has.sound.keeper;
             };
             fewer = omega (arith, size, fewer);
             read = has.point.read;
-            sieve = old.judge.sieve;
+            sieve = (kept_by old);
             so = λ file of. record {
               is_read = has.refused.logs.is_read file of;
               has =
-                  subst (λ (l : Listing). HasRead s old.limits has.point.read old.judge.sieve l) (sym same) has.has;
+                  subst (λ (l : Listing). HasRead s old.limits has.point.read (kept_by old) l) (sym same) has.has;
               begins_at =
                   begins-here begins in_ passes.opens file of;
             };
             ends = λ file of. subst (λ (n : ℕ). EndsReading s old.limits file has.point.read (fault_number other) (at_statement n))
                 (sym counted) (ends file of);
-            of_file = reads-with s old.limits has.point.read old.judge.sieve listing
-                (subst (λ (l : Listing). HasRead s old.limits has.point.read old.judge.sieve l) (sym same) has.has)
+            of_file = reads-with s old.limits has.point.read (kept_by old) listing
+                (subst (λ (l : Listing). HasRead s old.limits has.point.read (kept_by old) l) (sym same) has.has)
                 (record { fault = other; at = at.Statement k; begins = begins }) of_file;
           }
 
@@ -186,7 +189,7 @@ module _ (known : Known) (old : Survey) (piece more : List ℕ) (fault : Fault) 
           → PassesBy known middle (listed_of old) (record { fault = fault; at = at.Statement old.listing.statement; begins = begins })
           own_bytes more passage × (listed_of old ≤ listed_of middle)
       refused-passage far (GoesOn count) goes stays anew =
-          let stands = goes s old.limits known has.point piece more old.judge.sieve refl refused-at has.has in
+          let stands = goes s old.limits known has.point piece more (kept_by old) refl refused-at has.has in
           let (listed, reads) = passed-over known old held listing has.point own_bytes more (drop count own_bytes ++ more) count
           (fault_number fault) begins (at_statement (suc has.point.read.count)) has.sound room start-is has.has anew.buffer stands refl
           counted-all in
@@ -214,9 +217,7 @@ module _ (known : Known) (old : Survey) (piece more : List ℕ) (fault : Fault) 
               sound = record {
                 few = has.sound.few;
                 limited = has.sound.limited;
-                same_schema = has.sound.same_schema;
-                taker =
-                    has.sound.taker;
+                keeper = has.sound.keeper;
               };
               within = omega (arith, size, room);
               is_at = record {
@@ -230,7 +231,7 @@ module _ (known : Known) (old : Survey) (piece more : List ℕ) (fault : Fault) 
                   taken_is = ap length by.apart;
                   of_file = has.of_file;
                 };
-                has = subst (λ (l : Listing). HasRead s old.limits has.point.read old.judge.sieve l) (sym same) has.has;
+                has = subst (λ (l : Listing). HasRead s old.limits has.point.read (kept_by old) l) (sym same) has.has;
                 counted = omega (arith, start, counted);
               };
             },
@@ -301,22 +302,22 @@ module _ (known : Known) (old : Survey) (n : ℕ) (fault : Fault) (ahead : List 
   abbrev record_ : Record
   record_ = j.gives.record_
 
-  own : Stands old.schema.now old.limits known old.log old.judge.sieve old.listing point
-  own = subst (λ (k : Sieve). Stands old.schema.now old.limits known old.log k old.listing point) (sym j.gives.same) j.has.stands
+  own : Stands (rules_by old) old.limits known old.log (kept_by old) old.listing point
+  own = subst (λ (k : Sifted). Stands (rules_by old) old.limits known old.log k old.listing point) (sym j.gives.same) j.has.stands
 
   ended : HasEnded old.log point (instance n record_)
   ended = subst (λ (st : Statement). HasEnded old.log point st) j.gives.statement_is j.has.ended
 
   -- where no signpost stands so
-  pub not-inside : ((st : Schema) (limits : Limits) (k : Known) (p : Point) (statement : Statement) (behind : List ℕ)
-      → Stands st limits k old.log old.judge.sieve old.listing p → HasEnded old.log p statement → ¬ HasNoneInside old.log.buffer behind)
+  pub not-inside : ((st : Rules) (limits : Limits) (k : Known) (p : Point) (statement : Statement) (behind : List ℕ)
+      → Stands st limits k old.log (kept_by old) old.listing p → HasEnded old.log p statement → ¬ HasNoneInside old.log.buffer behind)
       → (behind : List ℕ) → ¬ HasNoneInside old.log.buffer behind
-  not-inside none behind = none old.schema.now old.limits known point (instance n record_) behind own ended
+  not-inside none behind = none (rules_by old) old.limits known point (instance n record_) behind own ended
 
   module _ (inside : (behind : List ℕ) → ¬ HasNoneInside old.log.buffer behind) (laws : InstanceIsInData) (begins : ℕ)
       (in_ : BeginsIn old.log old.log.buffer begins) where
     opens : OpensAs old.log.buffer opening.Statement
-    opens = instance-opens old.log.buffer n record_ (has-ended old.schema.now old.limits known old.log point (instance n record_) own.logs
+    opens = instance-opens old.log.buffer n record_ (has-ended (rules_by old) old.limits known old.log point (instance n record_) own.logs
         ended.ended ended.ends).statement_is
 
     each : BeginsInEach known point begins
@@ -326,40 +327,38 @@ module _ (known : Known) (old : Survey) (n : ℕ) (fault : Fault) (ahead : List 
         begins-each known old.log point.read old.log.buffer begins in_ own.logs.start_is (omega (arith, counted, few))
         (λ file of. (let (rest, is) = own.logs.file_is file of in (point.ahead ++ rest, is))) opens.0
 
-    wrong-at : IsWrongAt old.schema.now old.limits known point old.log n record_ fault begins
+    wrong-at : IsWrongAt (rules_by old) old.limits known point old.log n record_ fault begins
     wrong-at = record {
       logs = own.logs;
       ended = ended;
       refused = j.gives.refused point.read.given point.read.taken j.has.stands.has.sifts;
       inside = inside;
-      in_data = laws old.schema.now old.limits known point old.log n record_ own.logs ended.ended;
+      in_data = laws (rules_by old) old.limits known point old.log n record_ own.logs ended.ended;
       opens = opens;
       begins_in = each;
     }
 
     wrong-number : IsOfFile (fault_number fault)
-    wrong-number = refuses-number old.schema.now point.read.given n record_ fault wrong-at.refused
+    wrong-number = refuses-number (rules_by old) point.read.given n record_ fault wrong-at.refused
 
     pub wrong-last : WrongIsBroken → old.most ≤ suc (listed_of old)
         → EndsWithStretch known old (record { fault = fault; at = at.Instance n; begins = begins })
     wrong-last broken full =
         let fewer = j.has.fewer in
-        let by = broken old.schema.now old.limits known point old.log n record_ (fault_number fault) begins own.logs ended.ended ended.ends
-        (refused-number old.schema.now point.read.given n record_ fault wrong-at.refused) inside wrong-at.in_data opens each in
+        let by = broken (rules_by old) old.limits known point old.log n record_ (fault_number fault) begins own.logs ended.ended ended.ends
+        (refused-number (rules_by old) point.read.given n record_ fault wrong-at.refused) inside wrong-at.in_data opens each in
         record {
           sound = record {
             few = j.has.sound.few;
             limited = j.has.sound.limited;
-            same_schema = j.has.sound.same_schema;
-            taker =
-                j.has.sound.taker;
+            keeper = j.has.sound.keeper;
           };
           last = omega (arith, full, fewer);
           read = point.read;
-          sieve = old.judge.sieve;
+          sieve = (kept_by old);
           so = λ file of. record { is_read = own.logs.is_read file of; has = own.has; begins_at = each file of };
           passes = λ file of. (by.next_in file of).to_pass;
-          of_file = reads-with old.schema.now old.limits point.read old.judge.sieve old.listing own.has
+          of_file = reads-with (rules_by old) old.limits point.read (kept_by old) old.listing own.has
               (record { fault = fault; at = at.Instance n; begins = begins }) wrong-number;
         }
 
@@ -368,7 +367,7 @@ module _ (known : Known) (old : Survey) (n : ℕ) (fault : Fault) (ahead : List 
       middle_ = record old { log = held; listing = listing }
 
       ends-wrong : (refusal : code.Listed) → IsOfFile (fault_number refusal.fault) → refusal.begins ≡ begins → listing ≡ old.listing
-          → ((file : List ℕ) → IsFileOf known file → EndsReading old.schema.now old.limits file point.read (fault_number refusal.fault)
+          → ((file : List ℕ) → IsFileOf known file → EndsReading (rules_by old) old.limits file point.read (fault_number refusal.fault)
           (subject_of refusal.at)) → EndsSo known middle_ refusal
       ends-wrong refusal of_file begins_is same ends =
           let size = ap (λ (l : Listing). length l.list.items) same in
@@ -377,21 +376,19 @@ module _ (known : Known) (old : Survey) (n : ℕ) (fault : Fault) (ahead : List 
             sound = record {
               few = j.has.sound.few;
               limited = j.has.sound.limited;
-              same_schema = j.has.sound.same_schema;
-              taker =
-                  j.has.sound.taker;
+              keeper = j.has.sound.keeper;
             };
             fewer = omega (arith, size, fewer);
             read = point.read;
-            sieve = old.judge.sieve;
+            sieve = (kept_by old);
             so = λ file of. record {
               is_read = own.logs.is_read file of;
-              has = subst (λ (l : Listing). HasRead old.schema.now old.limits point.read old.judge.sieve l) (sym same) own.has;
+              has = subst (λ (l : Listing). HasRead (rules_by old) old.limits point.read (kept_by old) l) (sym same) own.has;
               begins_at = subst (λ (b : ℕ). BeginsAt file point.read b) (sym begins_is) (each file of);
             };
             ends = ends;
-            of_file = reads-with old.schema.now old.limits point.read old.judge.sieve listing
-                (subst (λ (l : Listing). HasRead old.schema.now old.limits point.read old.judge.sieve l) (sym same) own.has) refusal
+            of_file = reads-with (rules_by old) old.limits point.read (kept_by old) listing
+                (subst (λ (l : Listing). HasRead (rules_by old) old.limits point.read (kept_by old) l) (sym same) own.has) refusal
                 of_file;
           }
 
@@ -402,38 +399,36 @@ module _ (known : Known) (old : Survey) (n : ℕ) (fault : Fault) (ahead : List 
       wrong-passage far (GoesOn count) goes anew =
           let bytes : List ℕ = old.log.buffer in
           let number : ℕ = fault_number fault in
-          let stands = goes old.schema.now old.limits known point record_ old.judge.sieve refl wrong-at own.has in
-          let there : Stands old.schema.now old.limits known held old.judge.sieve listing
+          let stands = goes (rules_by old) old.limits known point record_ (kept_by old) refl wrong-at own.has in
+          let there : Stands (rules_by old) old.limits known held (kept_by old) listing
           (behind_stretch point (take count bytes) number (in_instance n) begins (drop count bytes ++ ahead)) =
-          subst (λ (l : List ℕ). Stands old.schema.now old.limits known held old.judge.sieve listing
+          subst (λ (l : List ℕ). Stands (rules_by old) old.limits known held (kept_by old) listing
           (behind_stretch point (take count bytes) number (in_instance n) begins (drop count bytes ++ l))) j.has.ahead_are stands in
           let (listed, reads) = passed-over known old held listing point bytes ahead (drop count bytes ++ ahead) count number begins
           (in_instance n) (record {
             few = j.has.sound.few;
             limited = j.has.sound.limited;
-            same_schema = j.has.sound.same_schema;
-            taker =
-                j.has.sound.taker;
+            keeper = j.has.sound.keeper;
           }) room own.logs.start_is own.has anew.buffer there refl j.has.counted in
           ((omega (arith, listed), j.has.reading, reads), omega (arith, listed))
       wrong-passage far AtFileMark (same, goes) anew =
           let size = ap (λ (l : Listing). length l.list.items) same in (
             ends-wrong (record { fault = fault; at = at.Instance n; begins = begins }) wrong-number refl same
-                (goes old.schema.now old.limits known point record_ refl wrong-at),
+                (goes (rules_by old) old.limits known point record_ refl wrong-at),
             omega (arith, size),
           )
       wrong-passage far TooLong (same, goes) anew =
           let size = ap (λ (l : Listing). length l.list.items) same in
           let number : ℕ = fault_number fault in
           let counted : listing.statement ≡ suc point.read.count = ap (λ (l : Listing). l.statement) same ∙ own.has.counted in
-          let passed = goes old.schema.now old.limits known point record_ refl wrong-at in (
+          let passed = goes (rules_by old) old.limits known point record_ refl wrong-at in (
             ends-wrong (too_long middle_ begins) far-number refl same
-                (λ file of. subst (λ (k : ℕ). EndsReading old.schema.now old.limits file point.read 23 (at_statement k)) (sym counted)
-                (far old.schema.now old.limits file point.read number (in_instance n) j.has.sound.limited (passed file of))),
+                (λ file of. subst (λ (k : ℕ). EndsReading (rules_by old) old.limits file point.read 23 (at_statement k)) (sym counted)
+                (far (rules_by old) old.limits file point.read number (in_instance n) j.has.sound.limited (passed file of))),
             omega (arith, size),
           )
       wrong-passage far (Sought seeker) (same, goes) anew =
-          absurd (inside [] ((goes old.schema.now old.limits known point record_ refl wrong-at).1 []))
+          absurd (inside [] ((goes (rules_by old) old.limits known point record_ refl wrong-at).1 []))
 
 -- ---- the same by what is called
 
@@ -482,19 +477,19 @@ wrong-by far laws old held listing new n fault bytes begins passage next are in_
     }
 
 -- nothing has changed where it isn't left out
-pub not-left : {V E : Type 0} (items : V → List ℕ) (old : Survey) (held : log.Held) (sieve : Sieve) (listing : Listing) (n : ℕ)
+pub not-left : {V E : Type 0} (items : V → List ℕ) (old : Survey) (held : log.Held) (keeper : Keeper) (listing : Listing) (n : ℕ)
     (fault : Fault) (new : Survey) (left : Bool) (result : Result V E) → left ≡ false
-    → LeavesOut old.log old.judge.sieve old.listing n fault left held sieve listing
-    → IfOk result (λ again. FollowsWrong (record old { log = held; judge = record old.judge { sieve = sieve }; listing = listing }) n fault
+    → LeavesOut old.log (kept_by old) old.listing n fault left held (sifted_of keeper) listing → keeper ≡ old.keeper
+    → IfOk result (λ again. FollowsWrong (record old { log = held; keeper = keeper; listing = listing }) n fault
     (items again) new) → IfOk result (λ again. FollowsJudged old (Ok (Wrong n fault)) (items again) new)
-not-left items old held sieve listing n fault new left (Err none) is leaves follows = tt
-not-left items old held sieve listing n fault new left (Ok again) is leaves follows = λ known ahead j.
+not-left items old held keeper listing n fault new left (Err none) is leaves same follows = tt
+not-left items old held keeper listing n fault new left (Ok again) is leaves same follows = λ known ahead j.
     let (same_log, same_sieve, same_listing, none) = subst
-    (λ (b : Bool). LeavesOut old.log old.judge.sieve old.listing n fault b held sieve listing) is leaves in
-    let one = subst (λ (h : log.Held). FollowsWrong (record old { log = h; judge = record old.judge { sieve = sieve }; listing = listing })
+    (λ (b : Bool). LeavesOut old.log (kept_by old) old.listing n fault b held (sifted_of keeper) listing) is leaves in
+    let one = subst (λ (h : log.Held). FollowsWrong (record old { log = h; keeper = keeper; listing = listing })
     n fault (items again) new) same_log follows in
-    let two = subst (λ (k : Sieve). FollowsWrong (record old { judge = record old.judge { sieve = k }; listing = listing }) n fault
-    (items again) new) same_sieve one in
+    let two = subst (λ (k : Keeper). FollowsWrong (record old { keeper = k; listing = listing }) n fault
+    (items again) new) same one in
     let three : FollowsWrong old n fault (items again) new =
     subst (λ (l : Listing). FollowsWrong (record old { listing = l }) n fault (items again) new) same_listing two in
     three known ahead j (not-inside known old n fault ahead j

@@ -19,16 +19,17 @@ use Rattle.p21_spec_laws.specs.Keeping.{Keeps, Kept}
 use Rattle.p21_spec_laws.specs.Taken.{instances_among, names_among, section_names_among}
 use Rattle.p21_spec_laws.specs.UnrefusedStatements.{IsFitting, IsFound}
 use Rattle.p21_spec_schema.specs.Schema.{Schema}
+use Rattle.p21_spec_survey.specs.Rules.{of_schema}
 use Rattle.p21_spec_survey.specs.Survey.{IsRight}
 use Rattle.p21_stream_sieve.proofs.Sifted.{each-answered}
 use Rattle.p21_stream_sieve.specs.Sifting.{AreSifted, HasName, none, passes, refuses}
 use Rattle.p21_stream_sieve.specs.declared.sieve.Sieve.{Sieve}
 use Rattle.p21_stream_statements.specs.declared.refusal.Refusal.{Refusal}
-use Rattle.p21_stream_survey.specs.Judging.{SiftsTo}
+use Rattle.p21_stream_survey.specs.Judging.{SiftsOfSchema}
 
 -- ---- the last of some that differ
 
-last-differs : {X : Type 0} (xs : List X) (y : X) → NoneTwice (xs ++ y ∷ []) → ¬ Contains xs y
+pub last-differs : {X : Type 0} (xs : List X) (y : X) → NoneTwice (xs ++ y ∷ []) → ¬ Contains xs y
 last-differs [] y differ among = Contains-none y among
 last-differs {X} (x ∷ xs) y differ among = elim (Contains-cases x xs y among) [
   | inl same ↦ differ.0 (subst (λ (z : X). Contains (xs ++ y ∷ []) z) (sym same)
@@ -95,7 +96,7 @@ means-last s limits taken kept n r keeps =
 
 -- no instance has its name, of those that are taken and of those that are refused
 name-first : (s : Schema) (limits : Limits) (given taken : List Statement) (sieve : Sieve) (kept : Kept) (n : ℕ) (r : Record)
-    → SiftsTo s limits given taken sieve → Keeps s limits (taken ++ instance n r ∷ []) kept → ¬ HasName sieve.names n
+    → SiftsOfSchema s limits given taken sieve → Keeps s limits (taken ++ instance n r ∷ []) kept → ¬ HasName sieve.names n
     → ¬ Contains (names_among given) n
 name-first s limits given taken sieve kept n r sifts keeps fresh among =
     let (i, at, is) = Contains-unmapped (λ (j : Instance). j.0) (instances_among given) n among in
@@ -108,8 +109,8 @@ name-first s limits given taken sieve kept n r sifts keeps fresh among =
 
 -- what is kept is right, where none that was refused has its name
 pub right-behind : (s : Schema) (limits : Limits) (given taken : List Statement) (sieve : Sieve) (statement : Statement) (kept : Kept)
-    → SiftsTo s limits given taken sieve → Keeps s limits (taken ++ statement ∷ []) kept
-    → ((n : ℕ) (r : Record) → statement ≡ instance n r → ¬ HasName sieve.names n) → IsRight s given statement
+    → SiftsOfSchema s limits given taken sieve → Keeps s limits (taken ++ statement ∷ []) kept
+    → ((n : ℕ) (r : Record) → statement ≡ instance n r → ¬ HasName sieve.names n) → IsRight (of_schema s) given statement
 right-behind s limits given taken sieve (instance n r) kept sifts keeps fresh =
     (means-last s limits taken kept n r keeps, name-first s limits given taken sieve kept n r sifts keeps (fresh n r refl))
 right-behind s limits given taken sieve (header part) kept sifts keeps fresh = (fitting-last s limits taken (header part) kept keeps).1

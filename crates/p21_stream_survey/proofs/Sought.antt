@@ -1,7 +1,8 @@
 -- Where the reading goes on behind a broken statement, looked for piece by piece.
-use Rattle.std.proofs.Common.{◌<◌, ◌↔◌, ◌≡◌, ◌+◌, ℕ, suc, List, [], ◌∷◌, ◌++◌, length, take, drop, Some, None, refl, sym, ap, subst, ◌∙◌, append_assoc, length-append, arith}
+use Rattle.std.proofs.Common.{◌<◌, ◌↔◌, ◌≡◌, ◌+◌, ℕ, suc, List, [], ◌∷◌, ◌++◌, length, take, drop, Some, None, refl, sym, ap, subst, ◌∙◌}
+use Rattle.std.proofs.Common.{append_assoc, length-append, arith}
 use Rattle.p21_spec_basics.specs.Limits.{Limits}
-use Rattle.p21_spec_schema.specs.Schema.{Schema}
+use Rattle.p21_spec_survey.specs.Rules.{Rules}
 use Rattle.p21_spec_survey.specs.Survey.{Subject, at_statement}
 use Rattle.p21_stream_log.specs.Going.{behind_stretch}
 use Rattle.p21_stream_log.specs.Log.{Held, Known, Logs, Point}
@@ -22,7 +23,7 @@ nothing-in_front : (front piece : List ℕ) → front ++ piece ≡ [] → front 
 nothing-in_front [] piece is = refl
 nothing-in_front (x ∷ xs) piece is = absurd cc
 
-next-further : (s : Schema) (limits : Limits) (file : List ℕ) (point : Point) (statement front piece more : List ℕ) (number : ℕ)
+next-further : (s : Rules) (limits : Limits) (file : List ℕ) (point : Point) (statement front piece more : List ℕ) (number : ℕ)
     (subject : Subject) (begins : ℕ) → IsNextIn s limits file point.read statement front (piece ++ more) number subject begins
     → IsNextIn s limits file point.read statement (front ++ piece) more number subject begins
 next-further s limits file point statement front piece more number subject begins next = record {
@@ -34,7 +35,7 @@ next-further s limits file point statement front piece more number subject begin
   begins_at = next.begins_at;
 }
 
-pub broken-further : (s : Schema) (limits : Limits) (known : Known) (point : Point) (held : Held) (statement front piece more : List ℕ)
+pub broken-further : (s : Rules) (limits : Limits) (known : Known) (point : Point) (held : Held) (statement front piece more : List ℕ)
     (number : ℕ) (subject : Subject) (begins : ℕ)
     → IsBrokenBy s limits known point held statement front (piece ++ more) number subject begins
     → IsBrokenBy s limits known point held statement (front ++ piece) more number subject begins
@@ -114,7 +115,7 @@ seeks-listed old new before behind seeker after fault begins taken count passed 
 -- what the log says where nothing is listed
 pub seeks-past : (old new : Held) (seeker after : seeking.Held) (fault : Fault) (begins taken count : ℕ) (piece : List ℕ)
     (found passage : Passage) → found ≡ passage → FurtherGives old seeker taken piece (Some (count, found)) new after
-    → (s : Schema) (limits : Limits) (known : Known) (point : Point) (statement front more : List ℕ)
+    → (s : Rules) (limits : Limits) (known : Known) (point : Point) (statement front more : List ℕ)
     → IsSought s limits known point old statement front (piece ++ more) fault begins taken seeker
     → PassageFor s limits known point statement (front ++ piece) more (fault_number fault) (at_statement (suc point.read.count)) begins
     passage new

@@ -1,5 +1,6 @@
 -- Steps of a log, one behind the other.
-use Rattle.std.proofs.Common.{◌≡◌, ◌≢◌, ◌⊎◌, ◌<◌, inl, inr, ℕ, zero, suc, List, [], ◌++◌, take, Option, None, Result, Ok, Err, refl, ap, subst, ◌∙◌, append-nil, arith}
+use Rattle.std.proofs.Common.{◌≡◌, ◌≢◌, ◌⊎◌, ◌<◌, inl, inr, ℕ, zero, suc, List, [], ◌++◌, take, Option, None, Result, Ok, Err, refl, ap}
+use Rattle.std.proofs.Common.{subst, ◌∙◌, append-nil, arith}
 use Rattle.p21_grammar.specs.Statements.{statements_of}
 use Rattle.p21_grammar.specs.declared.event.Event.{Event}
 use Rattle.p21_stream_log.specs.Log.{Held, Logs, Point, StepGives, StepKeeps, behind_token}

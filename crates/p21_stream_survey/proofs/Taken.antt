@@ -1,123 +1,112 @@
 -- Instances that are taken straight from their bytes.
-use Rattle.std.proofs.Common.{◌≡◌, ◌≤◌, ◌+◌, ℕ, List, [], ◌∷◌, ◌++◌, length, take, drop, Result, Ok, Err, IfOk, true, inl, inr, refl, sym, ap, subst, ◌∙◌, append_assoc, append-nil, arith}
+use Rattle.std.proofs.Common.{◌≡◌, ◌<◌, ◌≤◌, ◌+◌, ℕ, List, [], ◌∷◌, ◌++◌, length, take, drop, Result, Ok, Err, IfOk, true, inl, inr, refl}
+use Rattle.std.proofs.Common.{sym, ap, subst, ◌∙◌, append_assoc, arith}
 use Rattle.std.proofs.lemmas.List.{drop-drop, take-append-drop}
-use Rattle.p21_shorter_instances.proofs.InstanceBytes.{instance-some}
-use Rattle.p21_shorter_instances.specs.Taker.{IsInstance, IsTakerOf}
-use Rattle.p21_shorter_instances.specs.declared.taker.Taker.{Taker}
-use Rattle.p21_spec_exchange.specs.Laying.{Laid}
-use Rattle.p21_spec_exchange.specs.Statement.{Statement, instance, statement_tokens}
-use Rattle.p21_spec_exchange.specs.Token.{Token}
-use Rattle.p21_spec_file.specs.Reference.{Need}
-use Rattle.p21_stream_kept.specs.Found.{HasFound}
+use Rattle.p21_spec_exchange.specs.Statement.{Statement, instance}
 use Rattle.p21_stream_log.specs.Log as log
 use Rattle.p21_stream_log.specs.Log.{Keeps, Known, PassGives, behind_passed}
-use Rattle.p21_stream_statements.specs.PassingOver.{AreInstances}
 use Rattle.p21_stream_statements.specs.declared.fault.Fault.{Fault}
 use Rattle.p21_stream_survey.proofs.Ahead.{counts-on}
 use Rattle.p21_stream_survey.proofs.Feeding.{goes-on}
 use Rattle.p21_stream_survey.proofs.Onward.{goes-through}
 use Rattle.p21_stream_survey.proofs.Tokens.{behind-goes, statement-follows, statement-judged}
-use Rattle.p21_stream_survey.specs.Course.{GoesFurther, GoesTo, IsInStage, IsUnderWay, listed_of}
-use Rattle.p21_stream_survey.specs.Judging.{FollowsFound, FoundGives}
-use Rattle.p21_stream_survey.specs.Taking.{OnlyPrepares}
+use Rattle.p21_stream_survey.specs.Course.{GoesFurther, IsAt, GoesTo, IsInStage, IsUnderWay, listed_of}
+use Rattle.p21_stream_survey.specs.Judging.{Follows, JudgeGives}
+use Rattle.p21_stream_survey.specs.Taking.{OnlyPrepares, FollowsInstances, IsFirstInstance}
 use Rattle.p21_stream_survey.specs.Walking.{FollowsJudged, Goes, HasStatement, IsJudged}
-use Rattle.p21_stream_survey.specs.declared.judging.Judge.{Judge}
 use Rattle.p21_stream_survey.specs.declared.judging.Judgement.{Judgement}
 use Rattle.p21_stream_survey.specs.declared.stage.Stage.{Stage}
 use Rattle.p21_stream_survey.specs.declared.stage.Stage.TheVariants as stage
 use Rattle.p21_stream_survey.specs.declared.survey.Next.{Next}
 use Rattle.p21_stream_survey.specs.declared.survey.Survey.{Survey}
+use Rattle.p21_spec_exchange.specs.Record.{Record}
+use Rattle.p21_stream_survey.specs.declared.keeper.Keeper.{Keeper}
+use Rattle.p21_spec_survey.specs.Rules.{Rules}
+use Rattle.p21_stream_survey.specs.Keeping.{kept_by, rules_by, sifted_of, StaysBy}
+use Rattle.p21_stream_survey.specs.Sifted.{Sifted}
 
 -- ---- an instance that is taken
 
-module _ (old : Survey) (taker : Taker) (held : log.Held) (rest : List ℕ) (count n : ℕ) (entities text : List ℕ) (needs : List Need)
-    (reading : old.stage ≡ stage.Reading) (right : IsTakerOf old.schema.now taker)
-    (is : IsInstance old.schema.now n entities (take count rest) text needs)
-    (gives : PassGives old.log (take count rest) true held) (keeps : Keeps old.log (take count rest) held) where
+module _ (old : Survey) (held : log.Held) (rest : List ℕ) (count n : ℕ) (record_ : Record) (reading : old.stage ≡ stage.Reading)
+    (first : IsFirstInstance rest count n record_) (gives : PassGives old.log (take count rest) true held)
+    (keeps : Keeps old.log (take count rest) held) where
   abbrev passed : Survey
-  passed = record old { taker = taker; log = held }
+  passed = record old { log = held }
 
   abbrev one : Statement
-  one = instance n is.record_
-
-  are : AreInstances (take count rest) ((n, is.record_) ∷ [])
-  are = record {
-    laid = subst (λ (ts : List Token). Laid (take count rest) ts) (sym (append-nil (statement_tokens one))) is.laid;
-    of_data = (is.data_record, tt);
-  }
-
-  found : HasFound old.schema.now n is.record_ entities needs text
-  found = record { meaning = is.meaning; meant = is.means; entities_are = is.entities_are; printed = is.printed }
+  one = instance n record_
 
   -- it has ended behind its bytes
   instance-ended : (known : Known) (more : List ℕ) → IsInStage known old stage.Reading (rest ++ more)
-      → HasStatement known passed one (drop count rest ++ more)
+      → HasStatement known passed (kept_by old) one (drop count rest ++ more)
   instance-ended known more at =
       let r = at.is_at in
       let front : List ℕ = old.log.buffer in
       let behind : List ℕ = drop count rest ++ more in
       let whole : rest ++ more ≡ take count rest ++ behind =
       ap (λ (l : List ℕ). l ++ more) (sym (take-append-drop count rest)) ∙ append_assoc (take count rest) (drop count rest) more in
-      let logs = gives old.schema.now old.limits known r.point behind n is.record_ r.stands.logs r.between (r.ahead_are ∙ whole) are in
-      let last = ap (λ (l : List ℕ). front ++ l) is.ends ∙ sym (append_assoc front is.front (59 ∷ [])) in
+      let logs = gives (rules_by old) old.limits known r.point behind n record_ r.stands.logs r.between (r.ahead_are ∙ whole) first.are in
+      let last = ap (λ (l : List ℕ). front ++ l) first.ends ∙ sym (append_assoc front first.front (59 ∷ [])) in
       let size = length known.bytes in
       record {
-        sound = record { few = at.sound.few; limited = at.sound.limited; same_schema = at.sound.same_schema; taker = right };
+        sound = record { few = at.sound.few; limited = at.sound.limited; keeper = at.sound.keeper };
         reading = reading;
         fewer = at.within;
-        point = behind_passed r.point n is.record_ behind;
+        point = behind_passed r.point n record_ behind;
         stands = record { logs = logs; has = r.stands.has };
-        ended = record { ended = refl; ends = (front ++ is.front, keeps.buffer ∙ last) };
+        ended = record { ended = refl; ends = (front ++ first.front, keeps.buffer ∙ last) };
         ahead_are = refl;
         seen_at = tt;
         counted = counts-on old.log.start held.start size count front held.buffer rest more keeps.start keeps.buffer r.counted;
       }
 
-  pub found-follows : IsUnderWay old stage.Reading rest
-      → FollowsFound old.schema.now old.limits old.judge.sieve n entities needs text
-  found-follows (known, more, at) = record {
-    record_ = is.record_;
-    found = found;
-    follows = statement-follows known passed one (drop count rest ++ more) (instance-ended known more at);
-  }
+  instance-follows : IsUnderWay old stage.Reading rest → Follows (rules_by old) old.limits (kept_by old) one
+  instance-follows (known, more, at) = statement-follows known passed one (drop count rest ++ more) (instance-ended known more at)
 
-  module _ (judge : Judge) (judgement : Result Judgement Fault)
-      (judges : FoundGives old.schema.now old.limits old.judge.sieve n entities needs text judgement judge.sieve)
-      (same : judge.known ≡ old.judge.known) where
+  module _ (keeper : Keeper) (judgement : Result Judgement Fault)
+      (judges : JudgeGives (rules_by old) old.limits (kept_by old) one judgement (sifted_of keeper)) (stays : StaysBy old.keeper keeper) where
     abbrev judged : Survey
-    judged = record passed { judge = judge }
+    judged = record passed { keeper = keeper }
 
-    found-judged : (known : Known) (more : List ℕ) → IsInStage known old stage.Reading (rest ++ more)
+    instance-judged : (known : Known) (more : List ℕ) → IsInStage known old stage.Reading (rest ++ more)
         → IsJudged known judged judgement (drop count rest ++ more)
-    found-judged known more at =
-        let has = instance-ended known more at in
-        statement-judged known passed judge one judgement (drop count rest ++ more) has (judges is.record_ found) same
+    instance-judged known more at =
+        statement-judged known passed keeper one judgement (drop count rest ++ more) (instance-ended known more at) judges stays
 
     pub judged-follows : IsUnderWay old stage.Reading rest → (known : Known) × (ahead : List ℕ) × IsJudged known judged judgement ahead
-    judged-follows (known, more, at) = (known, drop count rest ++ more, found-judged known more at)
+    judged-follows (known, more, at) = (known, drop count rest ++ more, instance-judged known more at)
 
     -- what is done with it is done behind its bytes
-    pub taken-goes : (again : List ℕ) (next : Next) (new : Survey) → count ≤ length rest → FollowsJudged judged judgement again new
-        → next.count ≡ count → next.again.items ≡ again → Goes old stage.Reading rest next new
-    taken-goes again next new within follows count_is again_is known more at =
+    pub taken-goes : (again : List ℕ) (next : Next) (new : Survey) → 0 < count → count ≤ length rest
+        → FollowsJudged judged judgement again new → next.count ≡ count → next.again.items ≡ again → Goes old stage.Reading rest next new
+    taken-goes again next new some within follows count_is again_is known more at =
         let ahead : List ℕ = drop count rest ++ more in
-        let some = instance-some old.schema.now n count entities rest text needs is in
-        let behind = follows known ahead (found-judged known more at) in
+        let behind = follows known ahead (instance-judged known more at) in
         behind-goes known old new rest more count again next some within count_is again_is
         (record {
-          goes = goes-through known old judged new (again ++ ahead) refl refl refl (omega arith) behind.goes;
+          goes = goes-through known old judged new (again ++ ahead) stays.rules refl refl (omega arith) behind.goes;
           once = behind.once;
         })
 
+-- whichever it is
+pub instances-follow : (old : Survey) (rest : List ℕ) → old.stage ≡ stage.Reading → IsUnderWay old stage.Reading rest
+    → FollowsInstances old.keeper old.limits old.log rest
+instances-follow old rest reading way next count n record_ first gives keeps =
+    instance-follows old next rest count n record_ reading first gives keeps way
+
 -- ---- where none is taken
 
-pub prepares : (old : Survey) (taker : Taker) (held : log.Held) → held ≡ old.log → IsTakerOf old.schema.now taker
-    → OnlyPrepares old (record old { taker = taker; log = held })
-prepares old taker held same right = record { same = ap (λ (h : log.Held). record old { taker = taker; log = h }) same; taker = right }
+pub prepares : (old : Survey) (keeper : Keeper) (held : log.Held) → held ≡ old.log → StaysBy old.keeper keeper
+    → sifted_of keeper ≡ kept_by old → OnlyPrepares old (record old { keeper = keeper; log = held })
+prepares old keeper held same stays kept = record {
+  same = ap (λ (h : log.Held). record old { keeper = keeper; log = h }) same;
+  stays = stays;
+  kept = kept;
+}
 
 module _ (old new : Survey) (only : OnlyPrepares old new) where
   abbrev prepared : Survey
-  prepared = record old { taker = new.taker }
+  prepared = record old { keeper = new.keeper }
 
   pub prepared-stage : (stage_ : Stage) → old.stage ≡ stage_ → new.stage ≡ stage_
   prepared-stage stage_ is = ap (λ (survey : Survey). survey.stage) only.same ∙ is
@@ -128,9 +117,10 @@ module _ (old new : Survey) (only : OnlyPrepares old new) where
       let sound = at.sound in
       subst (λ (survey : Survey). IsInStage known survey stage_ ahead) (sym only.same)
       (record {
-        sound = record { few = sound.few; limited = sound.limited; same_schema = sound.same_schema; taker = only.taker };
+        sound = record { few = sound.few; limited = sound.limited; keeper = only.stays.sound sound.keeper };
         within = at.within;
-        is_at = at.is_at;
+        is_at = subst (λ (s : Rules). IsAt s old.limits known old.log (kept_by new) old.listing stage_ ahead) (sym only.stays.rules)
+            (subst (λ (k : Sifted). IsAt (rules_by old) old.limits known old.log k old.listing stage_ ahead) (sym only.kept) at.is_at);
       })
 
   pub prepared-way : (stage_ : Stage) (rest : List ℕ) → IsUnderWay old stage_ rest → IsUnderWay new stage_ rest
@@ -145,7 +135,7 @@ module _ (old new : Survey) (only : OnlyPrepares old new) where
       let on : GoesFurther known prepared last (rest ++ more) ahead =
       subst (λ (survey : Survey). GoesFurther known survey last (rest ++ more) ahead) only.same
       (goes known more (prepared-at known stage_ (rest ++ more) at)) in
-      record { goes = goes-through known old prepared last ahead refl refl refl (omega arith) on.goes; further = on.further }
+      record { goes = goes-through known old prepared last ahead only.stays.rules refl refl (omega arith) on.goes; further = on.further }
 
   -- so it is behind some bytes
   pub prepared-behind : (first : Survey) (rest : List ℕ) (next : Next) → Goes first stage.Reading rest next old
@@ -160,7 +150,7 @@ module _ (old new : Survey) (only : OnlyPrepares old new) where
         goes = record {
           course = subst (λ (st : Stage). IsInStage known new st ahead) (sym (prepared-stage old.stage refl)) there;
           same = record {
-            schema = ap (λ (survey : Survey). survey.schema.now) only.same ∙ on.goes.same.schema;
+            rules = only.stays.rules ∙ on.goes.same.rules;
             limits = ap (λ (survey : Survey). survey.limits) only.same ∙ on.goes.same.limits;
             most = ap (λ (survey : Survey). survey.most) only.same ∙ on.goes.same.most;
           };

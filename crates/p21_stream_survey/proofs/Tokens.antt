@@ -1,5 +1,6 @@
 -- The walk behind a token.
-use Rattle.std.proofs.Common.{◌≡◌, ◌≢◌, ◌≤◌, ◌<◌, ◌^◌, ℕ, List, [], ◌∷◌, ◌++◌, length, drop, Option, Some, None, Result, Ok, Err, IfOk, OnOk, inl, inr, refl, sym, ap, subst, ◌∙◌, append_assoc, length-append, arith}
+use Rattle.std.proofs.Common.{◌≡◌, ◌≢◌, ◌≤◌, ◌<◌, ◌^◌, ℕ, List, [], ◌∷◌, ◌++◌, length, drop, Option, Some, None, Result, Ok, Err, IfOk}
+use Rattle.std.proofs.Common.{OnOk, inl, inr, refl, sym, ap, subst, ◌∙◌, append_assoc, length-append, arith}
 use Rattle.std.specs.List.{flat_map}
 use Rattle.p21_grammar.specs.Statements.{statement_of}
 use Rattle.p21_grammar.specs.declared.event.Event.{Event}
@@ -22,13 +23,16 @@ use Rattle.p21_stream_survey.specs.Judging.{Follows, JudgeGives}
 use Rattle.p21_stream_survey.specs.Reading.{HasRead}
 use Rattle.p21_stream_survey.specs.Token.{IsWindowOf, TokenGives}
 use Rattle.p21_stream_survey.specs.Walking.{FollowsJudged, Goes, GoesBehind, GoesBehindRefused, HasRefused, HasStatement, IsJudged}
-use Rattle.p21_stream_survey.specs.declared.judging.Judge.{Judge}
+use Rattle.p21_stream_survey.specs.declared.keeper.Keeper.{Keeper}
 use Rattle.p21_stream_survey.specs.declared.judging.Judgement.{Judgement}
 use Rattle.p21_stream_survey.specs.declared.stage.Stage.{Stage}
 use Rattle.p21_stream_survey.specs.declared.stage.Stage.TheVariants as stage
 use Rattle.p21_stream_survey.specs.declared.survey.Next.{Next}
 use Rattle.p21_stream_survey.specs.declared.survey.Survey.{Survey}
 use Rattle.p21_tokens.specs.Histories.{TokenHistory}
+use Rattle.p21_stream_survey.specs.Keeping.{rules_by, kept_by, sifted_of, StaysBy}
+use Rattle.p21_spec_survey.specs.Rules.{Rules}
+use Rattle.p21_stream_survey.specs.Following.{Stands}
 
 nonempty : (l : List ℕ) → 0 < length l → l ≢ []
 nonempty l some none = let size = ap length none in omega (arith, some, size)
@@ -44,11 +48,11 @@ module _ (known : Known) (old : Survey) (held : log.Held) (window more : List �
       → (0 < count) × IsInStage known new stage.Reading (drop count window ++ more)
   token-read gives keeps =
       let r = at.is_at in
-      let takes = gives old.schema.now old.limits known r.point more r.stands.logs r.between r.ahead_are
+      let takes = gives (rules_by old) old.limits known r.point more r.stands.logs r.between r.ahead_are
       (seen-front r.point.seen window more some r.seen_at) in (
         takes.some (nonempty window some),
         record {
-          sound = record { few = at.sound.few; limited = at.sound.limited; same_schema = at.sound.same_schema; taker = at.sound.taker };
+          sound = record { few = at.sound.few; limited = at.sound.limited; keeper = at.sound.keeper };
           within = at.within;
           is_at = record {
             point = behind_token r.point takes.seen window count more None;
@@ -64,14 +68,14 @@ module _ (known : Known) (old : Survey) (held : log.Held) (window more : List �
 
   pub statement-ended : (event : Event) → TokenGives old.log window (Ok (count, Some event)) held
       → StepKeeps old.log window (Ok (count, Some event)) held
-      → (0 < count) × HasStatement known new (statement_of event) (drop count window ++ more)
+      → (0 < count) × HasStatement known new (kept_by new) (statement_of event) (drop count window ++ more)
   statement-ended event gives keeps =
       let r = at.is_at in
-      let takes = gives old.schema.now old.limits known r.point more r.stands.logs r.between r.ahead_are
+      let takes = gives (rules_by old) old.limits known r.point more r.stands.logs r.between r.ahead_are
       (seen-front r.point.seen window more some r.seen_at) in (
         takes.some (nonempty window some),
         record {
-          sound = record { few = at.sound.few; limited = at.sound.limited; same_schema = at.sound.same_schema; taker = at.sound.taker };
+          sound = record { few = at.sound.few; limited = at.sound.limited; keeper = at.sound.keeper };
           reading = reading;
           fewer = at.within;
           point = behind_token r.point takes.seen window count more (Some event);
@@ -88,20 +92,20 @@ module _ (known : Known) (old : Survey) (held : log.Held) (window more : List �
       → StepKeeps old.log window (Err fault) held → HasRefused known new window more fault
   token-refused fault other kind gives keeps =
       let r = at.is_at in
-      let refuses = gives other old.schema.now old.limits known r.point more r.stands.logs r.between r.ahead_are
+      let refuses = gives other (rules_by old) old.limits known r.point more r.stands.logs r.between r.ahead_are
       (seen-front r.point.seen window more some r.seen_at) in
       let (start, buffer) = keeps other in
       let counted = r.counted in
       let size = ap length buffer in
       record {
-        sound = record { few = at.sound.few; limited = at.sound.limited; same_schema = at.sound.same_schema; taker = at.sound.taker };
+        sound = record { few = at.sound.few; limited = at.sound.limited; keeper = at.sound.keeper };
         reading = reading;
         fewer = at.within;
         point = refuses.there;
         refused = refuses.refused;
         between = refuses.between;
         ahead_are = refuses.ahead_are;
-        has = subst (λ (read : Reading). HasRead old.schema.now old.limits read old.judge.sieve old.listing) (sym refuses.read_is)
+        has = subst (λ (read : Reading). HasRead (rules_by old) old.limits read (kept_by old) old.listing) (sym refuses.read_is)
             r.stands.has;
         of_file = bytes-number fault kind other;
         counted = omega (arith, counted, start, size);
@@ -130,7 +134,7 @@ statements-few held reading live =
 
 -- it follows those that were given
 pub statement-follows : (known : Known) (survey : Survey) (statement : Statement) (ahead : List ℕ)
-    → HasStatement known survey statement ahead → Follows survey.schema.now survey.limits survey.judge.sieve statement
+    → HasStatement known survey (kept_by survey) statement ahead → Follows (rules_by survey) survey.limits (kept_by survey) statement
 statement-follows known survey statement ahead has =
     let logs = has.stands.logs in
     let live = logs.live in
@@ -153,31 +157,25 @@ statement-follows known survey statement ahead has =
           (omega (arith, few, taken, sum, size, start, counted, known_few));
     }
 
-pub statement-judged : (known : Known) (old : Survey) (judge : Judge) (statement : Statement) (judgement : Result Judgement Fault)
-    (ahead : List ℕ) → HasStatement known old statement ahead
-    → JudgeGives old.schema.now old.limits old.judge.sieve statement judgement judge.sieve → judge.known ≡ old.judge.known
-    → IsJudged known (record old { judge = judge }) judgement ahead
-statement-judged known old judge statement judgement ahead has gives same = record {
+pub statement-judged : (known : Known) (old : Survey) (keeper : Keeper) (statement : Statement) (judgement : Result Judgement Fault)
+    (ahead : List ℕ) → HasStatement known old (kept_by old) statement ahead
+    → JudgeGives (rules_by old) old.limits (kept_by old) statement judgement (sifted_of keeper) → StaysBy old.keeper keeper
+    → IsJudged known (record old { keeper = keeper }) judgement ahead
+statement-judged known old keeper statement judgement ahead has gives stays = record {
   statement = statement;
-  before = old.judge.sieve;
+  before = kept_by old;
   has = record {
-    sound = record {
-      few = has.sound.few;
-      limited = has.sound.limited;
-      same_schema = same
-          ∙ has.sound.same_schema;
-      taker = has.sound.taker;
-    };
+    sound = record { few = has.sound.few; limited = has.sound.limited; keeper = stays.sound has.sound.keeper };
     reading = has.reading;
     fewer = has.fewer;
     point = has.point;
-    stands = has.stands;
+    stands = subst (λ (s : Rules). Stands s old.limits known old.log (kept_by old) old.listing has.point) (sym stays.rules) has.stands;
     ended = has.ended;
     ahead_are = has.ahead_are;
     seen_at = has.seen_at;
     counted = has.counted;
   };
-  gives = gives;
+  gives = subst (λ (s : Rules). JudgeGives s old.limits (kept_by old) statement judgement (sifted_of keeper)) (sym stays.rules) gives;
 }
 
 -- ---- what it does
@@ -219,7 +217,7 @@ module _ (old : Survey) (held : log.Held) (window : List ℕ) (some : 0 < length
         goes = record {
           course = subst (λ (l : List ℕ). Course known (record old { log = held }) l) ahead
               (still-reading known (record old { log = held }) (drop count window ++ more) reading on);
-          same = record { schema = refl; limits = refl; most = refl };
+          same = record { rules = refl; limits = refl; most = refl };
           no_fewer = omega arith;
         };
         further = inr (omega (arith, fewer, size));
@@ -237,7 +235,7 @@ module _ (old : Survey) (held : log.Held) (window : List ℕ) (some : 0 < length
         goes = record {
           course = behind.goes.course;
           same =
-              record { schema = behind.goes.same.schema; limits = behind.goes.same.limits; most = behind.goes.same.most };
+              record { rules = behind.goes.same.rules; limits = behind.goes.same.limits; most = behind.goes.same.most };
           no_fewer =
               behind.goes.no_fewer;
         };
@@ -252,7 +250,7 @@ module _ (old : Survey) (held : log.Held) (window : List ℕ) (some : 0 < length
   pub ended-follows : (count : ℕ) (event : Option Event) (found : Event) → event ≡ Some found
       → TokenGives old.log window (Ok (count, event)) held → StepKeeps old.log window (Ok (count, event)) held
       → IsUnderWay old stage.Reading window
-      → (known : Known) × (ahead : List ℕ) × HasStatement known (record old { log = held }) (statement_of found) ahead
+      → (known : Known) × (ahead : List ℕ) × HasStatement known (record old { log = held }) (kept_by old) (statement_of found) ahead
   ended-follows count event found is gives keeps (known, more, at) = (
     known,
     drop count window ++ more,
@@ -261,26 +259,26 @@ module _ (old : Survey) (held : log.Held) (window : List ℕ) (some : 0 < length
         (subst (λ (e : Option Event). StepKeeps old.log window (Ok (count, e)) held) is keeps)).1,
   )
 
-  pub judged-goes : (judge : Judge) (count : ℕ) (event : Option Event) (found : Event) (judgement : Result Judgement Fault) (again : List ℕ)
+  pub judged-goes : (keeper : Keeper) (count : ℕ) (event : Option Event) (found : Event) (judgement : Result Judgement Fault) (again : List ℕ)
       (next : Next) (new : Survey) → event ≡ Some found → TokenGives old.log window (Ok (count, event)) held
       → StepKeeps old.log window (Ok (count, event)) held
-      → count ≤ length window → JudgeGives old.schema.now old.limits old.judge.sieve (statement_of found) judgement judge.sieve
-      → judge.known ≡ old.judge.known → FollowsJudged (record old { log = held; judge = judge }) judgement again new
+      → count ≤ length window → JudgeGives (rules_by old) old.limits (kept_by old) (statement_of found) judgement (sifted_of keeper)
+      → StaysBy old.keeper keeper → FollowsJudged (record old { log = held; keeper = keeper }) judgement again new
       → next.count ≡ count → next.again.items ≡ again
       → Goes old stage.Reading window next new
-  judged-goes judge count event found judgement again next new is gives keeps within judges same follows count_is again_is known more at =
+  judged-goes keeper count event found judgement again next new is gives keeps within judges stays follows count_is again_is known more at =
       let (taken, has) = statement-ended known old held window more count some reading at found
       (subst (λ (e : Option Event). TokenGives old.log window (Ok (count, e)) held) is gives)
       (subst (λ (e : Option Event). StepKeeps old.log window (Ok (count, e)) held) is keeps) in
       let behind = follows known (drop count window ++ more)
-      (statement-judged known (record old { log = held }) judge (statement_of found) judgement (drop count window ++ more) has judges
-      same) in
+      (statement-judged known (record old { log = held }) keeper (statement_of found) judgement (drop count window ++ more) has judges
+      stays) in
       behind-goes known old new window more count again next taken within count_is again_is
       (record {
         goes = record {
           course = behind.goes.course;
           same =
-              record { schema = behind.goes.same.schema; limits = behind.goes.same.limits; most = behind.goes.same.most };
+              record { rules = behind.goes.same.rules ∙ stays.rules; limits = behind.goes.same.limits; most = behind.goes.same.most };
           no_fewer =
               behind.goes.no_fewer;
         };

@@ -1,5 +1,6 @@
 -- References that no instance serves, as they are gone through.
-use Rattle.std.proofs.Common.{Bool, true, false, ◌<◌, get_or, Option, ◌≡◌, ◌≤◌, ◌⊎◌, ℕ, List, [], ◌∷◌, ◌++◌, length, inl, inr, refl, sym, ap, subst, ◌∙◌, append_assoc, append-nil, arith}
+use Rattle.std.proofs.Common.{Bool, true, false, ◌<◌, get_or, Option, ◌≡◌, ◌≤◌, ◌⊎◌, ℕ, List, [], ◌∷◌, ◌++◌, length, inl, inr, refl, sym}
+use Rattle.std.proofs.Common.{ap, subst, ◌∙◌, append_assoc, append-nil, arith}
 use Rattle.std.proofs.lemmas.Option.{same_Some, slice_get-get_or, slice_get-map, slice_get_read}
 use Rattle.std.specs.Option.{option_map}
 use Rattle.std.proofs.lemmas.List.Elements.{Contains-append_left, Contains-append_right}
@@ -7,7 +8,8 @@ use Rattle.std.specs.List.{AllZip, AllByRecursion as Each}
 use Rattle.std.specs.BTreeSet.{contains}
 use Rattle.std.specs.Ordering.{nat_cmp}
 use Rattle.std.specs.Prelude.{Contains}
-use Rattle.p21_spec_basics.proofs.Members.{Contains-cases, Contains-first, Contains-later, Contains-none, Each-append, Each-of_members, Each-weaker}
+use Rattle.p21_spec_basics.proofs.Members.{Contains-cases, Contains-first, Contains-later, Contains-none, Each-append, Each-of_members}
+use Rattle.p21_spec_basics.proofs.Members.{Each-weaker}
 use Rattle.p21_spec_laws.specs.Keeping.{IsServedBy}
 use Rattle.p21_spec_laws.specs.Stored.{StoredEntry}
 use Rattle.p21_spec_laws.specs.Waiting.{Reference}
@@ -34,13 +36,13 @@ answered-at s stored waiting found k x otherwise is low within all =
     (sym there ∙ slice_get-get_or found k otherwise within) in
     subst (AnswersNeedOf s stored (reference_of x)) same answers
 
-untrue : (b : Bool) → (b ≡ true → ⊥) → b ≡ false
+pub untrue : (b : Bool) → (b ≡ true → ⊥) → b ≡ false
 untrue true none = absurd (none refl)
 untrue false none = refl
 
 -- where nothing says that it isn't told, it is
 pub told-of : (s : Schema) (stored : List StoredEntry) (silence : Silence) (reference : Reference) (fault : Fault)
-    → RefusesNeed s stored reference.1 fault → (IsSilent silence reference fault → ⊥) → IsTold s stored silence reference fault
+    → RefusesNeed s stored reference.1 fault → (IsSilent silence reference.1.target fault → ⊥) → IsTold s stored silence reference fault
 told-of s stored silence reference fault refused none = record {
   refused = refused;
   judged = untrue (contains nat_cmp silence.names reference.1.target) (λ has. none (inl has));
@@ -60,7 +62,7 @@ module _ (s : Schema) (stored : List StoredEntry) (silence : Silence) where
   adds-served reference old served = none-added reference old (inl served)
 
   pub adds-silent : (reference : Reference) (old : List Refusal) (fault : Fault) → RefusesNeed s stored reference.1 fault
-      → IsSilent silence reference fault → AddsRefusal s stored silence reference old old
+      → IsSilent silence reference.1.target fault → AddsRefusal s stored silence reference old old
   adds-silent reference old fault refused silent = none-added reference old (inr (inl (fault, refused, silent)))
 
   pub adds-one : (reference : Reference) (old new : List Refusal) (fault : Fault) → IsTold s stored silence reference fault

@@ -1,5 +1,6 @@
 -- An instance that is refused, with a signpost in a string of it, is passed over and listed.
-use Rattle.std.proofs.Common.{length, ◌≡◌, ◌⊎◌, ◌↔◌, ℕ, Bool, true, false, List, [], ◌++◌, take, drop, Result, Ok, Err, IfOk, inl, inr, refl, sym, ap, subst, ◌∙◌, append-nil}
+use Rattle.std.proofs.Common.{length, ◌≡◌, ◌⊎◌, ◌↔◌, ℕ, Bool, true, false, List, [], ◌++◌, take, drop, Result, Ok, Err, IfOk, inl, inr}
+use Rattle.std.proofs.Common.{refl, sym, ap, subst, ◌∙◌, append-nil}
 use Rattle.std.proofs.lemmas.Map.Lookups.{exact_unsigned}
 use Rattle.std.proofs.lemmas.Map.Views.{tells_apart}
 use Rattle.std.specs.BTreeSet.{BTreeSet, Updates, contains}
@@ -7,7 +8,7 @@ use Rattle.std.specs.Ordering.{eq_by_cmp, nat_cmp}
 use Rattle.std.specs.Prelude.{cond}
 use Rattle.p21_spec_basics.specs.Limits.{Limits}
 use Rattle.p21_spec_exchange.specs.Record.{Record}
-use Rattle.p21_spec_schema.specs.Schema.{Schema}
+use Rattle.p21_spec_survey.specs.Rules.{Rules}
 use Rattle.p21_spec_survey.specs.Survey.{in_instance}
 use Rattle.p21_stream_log.specs.Going.{behind_stretch}
 use Rattle.p21_stream_log.specs.Laws.{WrongIsBroken}
@@ -38,7 +39,7 @@ named-one names added n q updates = by (eq_by_cmp nat_cmp n q) refl (updates.0 q
   )
 
 -- it is broken by its bytes
-wrong-broken : WrongIsBroken → (s : Schema) (limits : Limits) (known : Known) (point : Point) (held : Held) (n : ℕ) (r : Record)
+wrong-broken : WrongIsBroken → (s : Rules) (limits : Limits) (known : Known) (point : Point) (held : Held) (n : ℕ) (r : Record)
     (fault : Fault) (begins : ℕ) → IsWrongAt s limits known point held n r fault begins
     → IsBrokenBy s limits known point held held.buffer [] point.ahead (fault_number fault) (in_instance n) begins
 wrong-broken broken s limits known point held n r fault begins at =
@@ -47,7 +48,7 @@ wrong-broken broken s limits known point held n r fault begins at =
 
 -- what the log says of it
 pub says-wrong : WrongIsBroken → (old new : Held) (n begins : ℕ) (fault : Fault) (bytes : List ℕ) (passage : Passage)
-    → PassageGives old bytes [] passage new → (s : Schema) (limits : Limits) (known : Known) (point : Point) (r : Record)
+    → PassageGives old bytes [] passage new → (s : Rules) (limits : Limits) (known : Known) (point : Point) (r : Record)
     → bytes ≡ old.buffer → IsWrongAt s limits known point old n r fault begins
     → PassageFor s limits known point old.buffer [] point.ahead (fault_number fault) (in_instance n) begins passage new
 says-wrong broken old new n begins fault bytes passage gives s limits known point r are at =

@@ -1,7 +1,7 @@
 -- A statement of which a step refused some bytes (this project's own).
 use Rattle.std.specs.Prelude.{◌≡◌, ◌⊎◌, true, false, ℕ, suc, List, [], ◌++◌}
 use Rattle.p21_spec_basics.specs.Limits.{Limits}
-use Rattle.p21_spec_schema.specs.Schema.{Schema}
+use Rattle.p21_spec_survey.specs.Rules.{Rules}
 use Rattle.p21_spec_survey.specs.Survey.{IsGoneOnBehind, at_statement}
 use Rattle.p21_stream_log.specs.Going.{TellsData}
 use Rattle.p21_stream_log.specs.Laws.{BeginsInEach}
@@ -24,8 +24,9 @@ abbrev pub MayNotBePassed : Held → Fault → List ℕ → Type 0
 MayNotBePassed held fault bytes = ¬ IsGoneOnBehind (fault_number fault) ⊎ TellsData held false ⊎ OpensAs bytes SectionEnd
     ⊎ OpensAs bytes Untold
 
--- some of a piece was refused at a point, behind which so much is known, in a statement that begins behind so many bytes and may be passed over
-pub record IsRefusedAt (s : Schema) (limits : Limits) (known : Known) (point : Point) (held : Held) (piece more : List ℕ) (fault : Fault)
+-- some of a piece was refused at a point, behind which so much is known, in a statement that begins behind so many bytes and may be passed
+-- over
+pub record IsRefusedAt (s : Rules) (limits : Limits) (known : Known) (point : Point) (held : Held) (piece more : List ℕ) (fault : Fault)
     (begins : ℕ) : Type 0 where
   pub refused : IsRefused s limits known point piece fault held
   pub between : point.ended ≡ []
@@ -34,7 +35,7 @@ pub record IsRefusedAt (s : Schema) (limits : Limits) (known : Known) (point : P
   pub passed : MayBePassed held fault (held.buffer ++ piece)
 
 -- So it is broken by the bytes in front of what is refused and by those behind, which are these together, and it is passed over by them
-pub record IsPassedBy (s : Schema) (limits : Limits) (known : Known) (point : Point) (old : Held) (bytes more : List ℕ) (fault : Fault)
+pub record IsPassedBy (s : Rules) (limits : Limits) (known : Known) (point : Point) (old : Held) (bytes more : List ℕ) (fault : Fault)
     (begins : ℕ) (passage : Passage) (new : Held) : Type 0 where
   pub front : List ℕ
   pub behind : List ℕ
@@ -45,6 +46,6 @@ pub record IsPassedBy (s : Schema) (limits : Limits) (known : Known) (point : Po
 
 abbrev pub PassesBroken : Held → Fault → List ℕ → Passage → Held → Type 0
 PassesBroken old fault bytes passage new =
-    (s : Schema) (limits : Limits) (known : Known) (point : Point) (piece more : List ℕ) (begins : ℕ) → bytes ≡ old.buffer ++ piece
+    (s : Rules) (limits : Limits) (known : Known) (point : Point) (piece more : List ℕ) (begins : ℕ) → bytes ≡ old.buffer ++ piece
     → IsRefusedAt s limits known point old piece more fault begins
     → IsPassedBy s limits known point old bytes more fault begins passage new

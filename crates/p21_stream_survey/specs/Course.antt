@@ -1,17 +1,17 @@
 -- How far a survey is, whatever its file holds behind what is known of it (this project's own).
 use Rattle.std.specs.Prelude.{◌≡◌, ◌⊎◌, ◌<◌, ◌≤◌, ◌+◌, ◌^◌, ℕ, zero, suc, List, [], ◌++◌, length}
-use Rattle.p21_shorter_instances.specs.Taker.{IsTakerOf}
 use Rattle.p21_spec_basics.specs.Limits.{Limits}
-use Rattle.p21_spec_schema.specs.Schema.{Schema}
+use Rattle.p21_spec_survey.specs.Rules.{Rules}
 use Rattle.p21_spec_survey.specs.Survey.{EndsReading, IsRead, Reading, at_statement}
 use Rattle.p21_stream_log.specs.Log as log
 use Rattle.p21_stream_log.specs.Log.{IsFileOf, Known, Point}
-use Rattle.p21_stream_sieve.specs.declared.sieve.Sieve.{Sieve}
+use Rattle.p21_stream_survey.specs.Sifted.{Sifted}
 use Rattle.p21_stream_statements.specs.Fault.{fault_number}
 use Rattle.p21_stream_statements.specs.StatementReader.{IsSeenAt}
 use Rattle.p21_stream_statements.specs.declared.fault.Fault.{Fault}
 use Rattle.p21_stream_survey.specs.Ending.{IsSurveyed}
 use Rattle.p21_stream_survey.specs.Following.{Stands}
+use Rattle.p21_stream_survey.specs.Keeping.{IsSoundKeeper, kept_by, rules_by}
 use Rattle.p21_stream_survey.specs.Kinds.{AreOfFile, IsOfFile}
 use Rattle.p21_stream_survey.specs.Reading.{HasRead}
 use Rattle.p21_stream_survey.specs.Seeking.{IsSought}
@@ -27,7 +27,7 @@ use Rattle.p21_stream_survey.specs.declared.survey.Survey.{Survey}
 
 -- statements are read at a point with no statement that isn't judged yet, where these bytes come next; the byte that was looked at is the
 -- first of them
-pub record Reads (s : Schema) (limits : Limits) (known : Known) (held : log.Held) (sieve : Sieve) (listing : Listing)
+pub record Reads (s : Rules) (limits : Limits) (known : Known) (held : log.Held) (sieve : Sifted) (listing : Listing)
     (ahead : List ℕ) : Type 0 where
   pub point : Point
   pub stands : Stands s limits known held sieve listing point
@@ -37,7 +37,7 @@ pub record Reads (s : Schema) (limits : Limits) (known : Known) (held : log.Held
   pub counted : held.start + (length held.buffer + length ahead) ≡ length known.bytes
 
 -- the next statement is broken, and a seeker has taken some bytes behind it; these come next
-pub record Seeks (s : Schema) (limits : Limits) (known : Known) (held : log.Held) (sieve : Sieve) (listing : Listing) (sought : Sought)
+pub record Seeks (s : Rules) (limits : Limits) (known : Known) (held : log.Held) (sieve : Sifted) (listing : Listing) (sought : Sought)
     (ahead : List ℕ) : Type 0 where
   pub point : Point
   pub statement : List ℕ
@@ -48,11 +48,11 @@ pub record Seeks (s : Schema) (limits : Limits) (known : Known) (held : log.Held
   pub counted : held.start + (sought.stretch.taken + length ahead) ≡ length known.bytes
 
 -- in each file the next statement, which has these bytes first, ends the reading with a refusal that isn't listed yet; these come next
-pub record Waits (s : Schema) (limits : Limits) (known : Known) (held : log.Held) (listing : Listing) (fault : Fault)
+pub record Waits (s : Rules) (limits : Limits) (known : Known) (held : log.Held) (listing : Listing) (fault : Fault)
     (bytes ahead : List ℕ) : Type 0 where
   pub read : Reading
   pub is_read : (file : List ℕ) → IsFileOf known file → IsRead s limits file read
-  pub sieve : Sieve
+  pub sieve : Sifted
   pub has : HasRead s limits read sieve listing
   pub start_is : held.start ≡ length read.bytes
   pub file_is : (file : List ℕ) → IsFileOf known file → (rest : List ℕ) × (file ≡ read.bytes ++ (bytes ++ (ahead ++ rest)))
@@ -61,15 +61,15 @@ pub record Waits (s : Schema) (limits : Limits) (known : Known) (held : log.Held
   pub counted : held.start + (length bytes + length ahead) ≡ length known.bytes
 
 -- the list says of each file what a survey of it says, and of no reference
-abbrev pub SurveysEach : Schema → Limits → Known → Listing → Extent → Type 0
+abbrev pub SurveysEach : Rules → Limits → Known → Listing → Extent → Type 0
 SurveysEach s limits known listing extent = (file : List ℕ) → IsFileOf known file → IsSurveyed s limits file listing extent
 
 -- and each refusal that is listed is one that a file has
-pub record ListsEach (s : Schema) (limits : Limits) (known : Known) (listing : Listing) (extent : Extent) : Type 0 where
+pub record ListsEach (s : Rules) (limits : Limits) (known : Known) (listing : Listing) (extent : Extent) : Type 0 where
   pub surveys : SurveysEach s limits known listing extent
   pub of_file : AreOfFile listing.list.items
 
-abbrev pub IsAt : Schema → Limits → Known → log.Held → Sieve → Listing → Stage → List ℕ → Type 0
+abbrev pub IsAt : Rules → Limits → Known → log.Held → Sifted → Listing → Stage → List ℕ → Type 0
 IsAt s limits known held sieve listing IsReading ahead = Reads s limits known held sieve listing ahead
 IsAt s limits known held sieve listing (Seeking sought) ahead = Seeks s limits known held sieve listing sought ahead
 IsAt s limits known held sieve listing (Waiting unlisted) ahead =
@@ -89,19 +89,17 @@ ListsWithin most listed (Ended extent) = (0 < listed) × (listed ≤ most) × (e
 abbrev pub listed_of : Survey → ℕ
 listed_of survey = length survey.listing.list.items
 
--- what is known of the schema is so, and what is kept of it for instances that are taken straight from their bytes; and 64 bits count
--- the bytes that a file may have, and those that are known
+-- what is known of the rules is so; and 64 bits count the bytes that a file may have, and those that are known
 pub record IsSound (known : Known) (survey : Survey) : Type 0 where
   pub few : length known.bytes < 2 ^ 64
   pub limited : survey.limits.file_source < 2 ^ 64
-  pub same_schema : survey.judge.known ≡ survey.schema.now
-  pub taker : IsTakerOf survey.schema.now survey.taker
+  pub keeper : IsSoundKeeper survey.keeper
 
 -- a survey is in this stage, whatever it says itself, where these bytes come next
 pub record IsInStage (known : Known) (survey : Survey) (stage : Stage) (ahead : List ℕ) : Type 0 where
   pub sound : IsSound known survey
   pub within : ListsWithin survey.most (listed_of survey) stage
-  pub is_at : IsAt survey.schema.now survey.limits known survey.log survey.judge.sieve survey.listing stage ahead
+  pub is_at : IsAt (rules_by survey) survey.limits known survey.log (kept_by survey) survey.listing stage ahead
 
 -- a survey is so far in each file of which so much is known, and these bytes come next
 abbrev pub Course : Known → Survey → List ℕ → Type 0
@@ -116,7 +114,7 @@ asked_for (suc fewer) = suc fewer
 
 -- the survey is asked the same
 pub record AsksTheSame (old new : Survey) : Type 0 where
-  pub schema : new.schema.now ≡ old.schema.now
+  pub rules : rules_by new ≡ rules_by old
   pub limits : new.limits ≡ old.limits
   pub most : new.most ≡ old.most
 

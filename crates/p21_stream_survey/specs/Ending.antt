@@ -1,10 +1,10 @@
 -- How a list ends (this project's own).
 use Rattle.std.specs.Prelude.{◌≡◌, ◌∷◌, ◌++◌, ℕ, List, [], map}
 use Rattle.p21_spec_basics.specs.Limits.{Limits}
-use Rattle.p21_spec_schema.specs.Schema.{Schema}
+use Rattle.p21_spec_survey.specs.Rules.{Rules}
 use Rattle.p21_spec_survey.specs.Survey as survey
 use Rattle.p21_spec_survey.specs.Survey.{BeginsAt, EndsReading, IsRead, IsSurvey, IsToBePassed, Reading}
-use Rattle.p21_stream_sieve.specs.declared.sieve.Sieve.{Sieve}
+use Rattle.p21_stream_survey.specs.Sifted.{Sifted}
 use Rattle.p21_stream_statements.specs.Fault.{fault_number}
 use Rattle.p21_stream_statements.specs.declared.fault.Fault.{Fault}
 use Rattle.p21_stream_statements.specs.declared.fault.Fault.TheVariants.{Read}
@@ -22,7 +22,7 @@ extent_of (ReadTo bytes) = survey.read_to bytes
 extent_of Most = survey.most
 
 -- the file is surveyed with this list, and no reference is refused
-abbrev pub IsSurveyed : Schema → Limits → List ℕ → Listing → Extent → Type 0
+abbrev pub IsSurveyed : Rules → Limits → List ℕ → Listing → Extent → Type 0
 IsSurveyed s limits file listing extent = IsSurvey s limits file (map listed_as listing.list.items) [] (extent_of extent)
 
 -- behind these the list has the refusal of a read that failed, which ended the reading
@@ -33,7 +33,7 @@ pub record ListsRead (before : List Listed) (extent : Extent) (behind : List Lis
   pub extent_is : extent ≡ ReadTo refusal.begins
 
 -- so far a file is read, and this is known of it; the next statement begins behind so many bytes
-pub record IsReadSo (s : Schema) (limits : Limits) (file : List ℕ) (read : Reading) (sieve : Sieve) (listing : Listing) (begins : ℕ) : Type
+pub record IsReadSo (s : Rules) (limits : Limits) (file : List ℕ) (read : Reading) (sieve : Sifted) (listing : Listing) (begins : ℕ) : Type
     0 where
   pub is_read : IsRead s limits file read
   pub has : HasRead s limits read sieve listing
@@ -42,13 +42,13 @@ pub record IsReadSo (s : Schema) (limits : Limits) (file : List ℕ) (read : Rea
 -- a refusal ends the reading there
 abbrev pub EndsBy : Listing → Fault → At → ℕ → Extent → Listing → Type 0
 EndsBy before fault at begins extent behind =
-    (s : Schema) (limits : Limits) (file : List ℕ) (read : Reading) (sieve : Sieve) → IsReadSo s limits file read sieve before begins
+    (s : Rules) (limits : Limits) (file : List ℕ) (read : Reading) (sieve : Sifted) → IsReadSo s limits file read sieve before begins
     → EndsReading s limits file read (fault_number fault) (subject_of at) → IsSurveyed s limits file behind extent
 
 -- the statement is to be passed over there, and no more are asked for
 abbrev pub EndsAtStretch : Listing → Fault → At → ℕ → Extent → Listing → Type 0
 EndsAtStretch before fault at begins extent behind =
-    (s : Schema) (limits : Limits) (file : List ℕ) (read : Reading) (sieve : Sieve) → IsReadSo s limits file read sieve before begins
+    (s : Rules) (limits : Limits) (file : List ℕ) (read : Reading) (sieve : Sifted) → IsReadSo s limits file read sieve before begins
     → IsToBePassed s limits file read (fault_number fault) (subject_of at) → IsSurveyed s limits file behind extent
 
 -- the same, and a read failed behind it

@@ -1,37 +1,59 @@
 -- What is said of a statement that has ended, behind those that were given (this project's own).
-use Rattle.std.specs.Prelude.{◌≡◌, ◌≢◌, ◌+◌, ◌<◌, ◌^◌, ℕ, List, [], ◌∷◌, ◌++◌, length, Result, Ok, Err}
+use Rattle.std.specs.Prelude.{◌≡◌, ◌≢◌, ◌↔◌, ◌<◌, ◌^◌, ℕ, true, List, [], ◌∷◌, ◌++◌, Contains, length, Result, Ok, Err}
+use Rattle.std.specs.BTreeSet.{Updates}
 use Rattle.std.specs.List.{flat_map}
+use Rattle.std.specs.Ordering.{nat_cmp}
 use Rattle.p21_spec_basics.specs.Limits.{Limits}
 use Rattle.p21_spec_exchange.specs.Record.{Record}
 use Rattle.p21_spec_exchange.specs.Statement.{Statement, instance, statement_tokens}
 use Rattle.p21_spec_exchange.specs.Structure.{AreFirstStatements, Structure}
 use Rattle.p21_spec_file.specs.Reference.{Need}
+use Rattle.p21_spec_laws.specs.Among.{parts_among}
 use Rattle.p21_spec_laws.specs.Keeping.{Keeps}
-use Rattle.p21_spec_laws.specs.Offending.{Offends}
 use Rattle.p21_spec_laws.specs.Stored.{with_lines}
+use Rattle.p21_spec_laws.specs.Taken.{headings_among, names_among}
 use Rattle.p21_spec_schema.specs.Schema.{Schema}
+use Rattle.p21_spec_survey.specs.Rules.{OffendsBy, Rules, by_itself, of_schema}
 use Rattle.p21_spec_survey.specs.Survey.{IsRight}
 use Rattle.p21_stream_kept.specs.Found.{HasFound}
+use Rattle.p21_stream_sieve.specs.SieveSteps.{Lists}
 use Rattle.p21_stream_sieve.specs.Sifting.{AreSifted, HaveNames, RefusesInstance}
 use Rattle.p21_stream_sieve.specs.declared.sieve.Sieve.{Sieve}
 use Rattle.p21_stream_statements.specs.Fault.{fault_number}
 use Rattle.p21_stream_statements.specs.Source.{IsOfStatement}
 use Rattle.p21_stream_statements.specs.declared.fault.Fault.{Fault}
-use Rattle.p21_stream_statements.specs.declared.fault.Fault.TheVariants.{CanonicalTooLong, Check, Dangling, DuplicateName, Grammar, NoMemory, Read, SchemaName, SectionTwice, Token, Write, WrongTarget}
+use Rattle.p21_stream_statements.specs.declared.fault.Fault.TheVariants.{CanonicalTooLong, Check, Dangling, DuplicateName, Grammar}
+use Rattle.p21_stream_statements.specs.declared.fault.Fault.TheVariants.{NoMemory, Read, SchemaName, SectionTwice, Token, Write}
+use Rattle.p21_stream_statements.specs.declared.fault.Fault.TheVariants.{WrongTarget}
+use Rattle.p21_stream_survey.specs.Sifted.{Sifted, alone, names_left, sieved, size_kept}
 use Rattle.p21_stream_survey.specs.declared.judging.Judgement.{Judgement}
 use Rattle.p21_stream_survey.specs.declared.judging.Judgement.TheVariants.{Right, Wrong}
+use Rattle.p21_stream_syntax.specs.Given as own
 
 -- of the statements given these are taken, and kept with their lines; the others are instances that are refused, and their names are known
-pub record SiftsTo (s : Schema) (limits : Limits) (given taken : List Statement) (sieve : Sieve) : Type 0 where
+pub record SiftsOfSchema (s : Schema) (limits : Limits) (given taken : List Statement) (sieve : Sieve) : Type 0 where
   pub sifted : AreSifted s given taken sieve.refusals.items
   pub keeps : Keeps s limits taken sieve.kept
   pub lines : sieve.kept.lines ≡ with_lines
   pub names : HaveNames sieve.names sieve.refusals.items
 
+-- the same by themselves: the others are instances that have the name of one that is taken
+pub record SiftsAlone (given taken : List Statement) (kept : own.Kept) : Type 0 where
+  pub keeps : own.Keeps taken kept
+  pub parts_are : parts_among given ≡ parts_among taken
+  pub headings_are : headings_among given ≡ headings_among taken
+  pub named : (n : ℕ) → Contains (names_among given) n ↔ Contains (names_among taken) n
+
+abbrev pub SiftsTo : Rules → Limits → List Statement → List Statement → Sifted → Type 0
+SiftsTo (of_schema s) limits given taken (sieved sieve) = SiftsOfSchema s limits given taken sieve
+SiftsTo (of_schema s) limits given taken (alone kept names) = ⊥
+SiftsTo by_itself limits given taken (sieved sieve) = ⊥
+SiftsTo by_itself limits given taken (alone kept names) = SiftsAlone given taken kept
+
 -- ---- what is asked for
 
 -- The statement stands in a tree behind those given, and 64 bits count the tokens of all of them
-pub record Follows (s : Schema) (limits : Limits) (sieve : Sieve) (statement : Statement) : Type 0 where
+pub record Follows (s : Rules) (limits : Limits) (sieve : Sifted) (statement : Statement) : Type 0 where
   pub given : List Statement
   pub taken : List Statement
   pub sifts : SiftsTo s limits given taken sieve
@@ -39,48 +61,69 @@ pub record Follows (s : Schema) (limits : Limits) (sieve : Sieve) (statement : S
   pub are_first : AreFirstStatements (given ++ statement ∷ []) structure
   pub few : length (flat_map statement_tokens (given ++ statement ∷ [])) < 2 ^ 64
 
+-- the same of what is kept of a schema
+abbrev pub FollowsSieved : Schema → Limits → Sieve → Statement → Type 0
+FollowsSieved s limits sieve statement = Follows (of_schema s) limits (sieved sieve) statement
+
 -- an instance of this name stands there, and this is found of it
 pub record FollowsFound (s : Schema) (limits : Limits) (sieve : Sieve) (n : ℕ) (entities : List ℕ) (needs : List Need)
     (text : List ℕ) : Type 0 where
   pub record_ : Record
   pub found : HasFound s n record_ entities needs text
-  pub follows : Follows s limits sieve (instance n record_)
+  pub follows : FollowsSieved s limits sieve (instance n record_)
 
 -- ---- what is said
 
+-- behind the statements given an instance is refused by this fault; by itself its name stands among them
+abbrev pub RefusesBy : Rules → List Statement → ℕ → Record → Fault → Type 0
+RefusesBy (of_schema s) given n record_ fault = RefusesInstance s given n record_ fault
+RefusesBy by_itself given n record_ fault = (fault ≡ DuplicateName) × Contains (names_among given) n
+
 -- the statement is right behind those given, and it is taken
-pub record Takes (s : Schema) (limits : Limits) (given taken : List Statement) (old : Sieve) (statement : Statement) (new : Sieve) : Type
+pub record Takes (s : Rules) (limits : Limits) (given taken : List Statement) (old : Sifted) (statement : Statement) (new : Sifted) : Type
     0 where
   pub sifts : SiftsTo s limits (given ++ statement ∷ []) (taken ++ statement ∷ []) new
   pub right : IsRight s given statement
-  pub names : new.names ≡ old.names
+  pub names : names_left new ≡ names_left old
 
 -- the statement is an instance of this name, behind those given it is refused by this fault, and nothing has changed
-pub record IsWrong (s : Schema) (limits : Limits) (old : Sieve) (statement : Statement) (n : ℕ) (fault : Fault) (new : Sieve) : Type 0 where
+pub record IsWrong (s : Rules) (limits : Limits) (old : Sifted) (statement : Statement) (n : ℕ) (fault : Fault) (new : Sifted) : Type
+    0 where
   pub record_ : Record
   pub statement_is : statement ≡ instance n record_
   pub same : new ≡ old
   pub kind : IsOfStatement fault
-  pub refused : (given taken : List Statement) → SiftsTo s limits given taken old → RefusesInstance s given n record_ fault
+  pub refused : (given taken : List Statement) → SiftsTo s limits given taken old → RefusesBy s given n record_ fault
 
 -- behind the statements that are taken it is refused by this fault, an instance by its length alone
-pub record IsEnd (s : Schema) (limits : Limits) (taken : List Statement) (old : Sieve) (statement : Statement) (fault : Fault) : Type
+pub record IsEnd (s : Rules) (limits : Limits) (taken : List Statement) (old : Sifted) (statement : Statement) (fault : Fault) : Type
     0 where
-  pub offends : Offends s limits taken (old.kept.bytes + old.kept.framing) statement (fault_number fault)
+  pub offends : OffendsBy s limits taken (size_kept old) statement (fault_number fault)
   pub by_length : (n : ℕ) (record_ : Record) → statement ≡ instance n record_ → fault_number fault ≡ 27
 
 -- what is said of a statement, for all that were given before it
-abbrev pub JudgeGives : Schema → Limits → Sieve → Statement → Result Judgement Fault → Sieve → Type 0
+abbrev pub JudgeGives : Rules → Limits → Sifted → Statement → Result Judgement Fault → Sifted → Type 0
 JudgeGives s limits old statement (Ok Right) new = (given taken : List Statement) → SiftsTo s limits given taken old
     → Takes s limits given taken old statement new
 JudgeGives s limits old statement (Ok (Wrong n fault)) new = IsWrong s limits old statement n fault new
 JudgeGives s limits old statement (Err fault) new = fault ≢ NoMemory → (given taken : List Statement) → SiftsTo s limits given taken old
     → IsEnd s limits taken old statement fault
 
+-- the same of what is kept of a schema
+abbrev pub JudgesSieved : Schema → Limits → Sieve → Statement → Result Judgement Fault → Sieve → Type 0
+JudgesSieved s limits old statement result new = JudgeGives (of_schema s) limits (sieved old) statement result (sieved new)
+
 -- the same of an instance, by what is found of it
 abbrev pub FoundGives : Schema → Limits → Sieve → ℕ → List ℕ → List Need → List ℕ → Result Judgement Fault → Sieve → Type 0
 FoundGives s limits old n entities needs text result new = (record_ : Record) → HasFound s n record_ entities needs text
-    → JudgeGives s limits old (instance n record_) result new
+    → JudgesSieved s limits old (instance n record_) result new
+
+-- an instance that is refused is left out, and its name with those of the others
+abbrev pub LeavesName : Sifted → ℕ → Fault → Sifted → Type 0
+LeavesName (sieved old) n fault (sieved new) = Lists old n fault new
+LeavesName (sieved old) n fault (alone kept names) = ⊥
+LeavesName (alone kept names) n fault (sieved new) = ⊥
+LeavesName (alone kept names) n fault (alone after more) = (after ≡ kept) × Updates nat_cmp names more n true
 
 -- what is said of a statement, where what keeps the others keeps it or not
 abbrev pub said_of : Result (Unit {0}) Fault → Result Judgement Fault

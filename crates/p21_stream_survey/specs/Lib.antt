@@ -1,4 +1,5 @@
 -- What is said of each statement and done with it, what is known of a reading, and which references are told.
+pub mod Sifted
 pub mod Judging
 pub mod Kinds
 pub mod Reading
@@ -9,7 +10,9 @@ pub mod Seeking
 pub mod Wrong
 pub mod Ending
 pub mod Telling
+pub mod Missing
 pub mod Silence
+pub mod Keeping
 pub mod Course
 pub mod Walking
 pub mod Taking

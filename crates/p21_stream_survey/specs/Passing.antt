@@ -1,13 +1,13 @@
 -- A broken statement is passed over and listed (this project's own).
 use Rattle.std.specs.Prelude.{◌≡◌, ◌<◌, ◌↔◌, ◌⊎◌, ℕ, IsTrue, suc, List, [], ◌∷◌, ◌++◌, take, drop}
 use Rattle.p21_spec_basics.specs.Limits.{Limits}
-use Rattle.p21_spec_schema.specs.Schema.{Schema}
+use Rattle.p21_spec_survey.specs.Rules.{Rules}
 use Rattle.p21_spec_survey.specs.Survey.{at_statement}
 use Rattle.p21_stream_log.specs.Going.{behind_stretch}
 use Rattle.p21_stream_log.specs.Log.{Held, Known, Point}
 use Rattle.p21_stream_log.specs.declared.passage.Passage.{Passage}
 use Rattle.p21_stream_log.specs.declared.passage.Passage.TheVariants.{GoesOn}
-use Rattle.p21_stream_sieve.specs.declared.sieve.Sieve.{Sieve}
+use Rattle.p21_stream_survey.specs.Sifted.{Sifted}
 use Rattle.p21_stream_statements.specs.Fault.{fault_number}
 use Rattle.p21_stream_statements.specs.declared.fault.Fault.{Fault}
 use Rattle.p21_stream_survey.specs.Breaking.{IsRefusedAt, PassesBroken}
@@ -26,11 +26,11 @@ pub record ListsPassed (before : Listing) (fault : Fault) (begins count size : �
   pub broken : IsTrue behind.is_broken ↔ (IsTrue before.is_broken ⊎ ((0 < count) × (0 < size)))
   pub statement : behind.statement ≡ suc before.statement
 
--- Of each point where some of a piece was refused: where the reading goes on the statement is passed over and listed; else nothing is listed,
--- and it is known of it what the log says
+-- Of each point where some of a piece was refused: where the reading goes on the statement is passed over and listed; else nothing is
+-- listed, and it is known of it what the log says
 abbrev pub GoesOnBroken : Held → Listing → Fault → ℕ → List ℕ → Passage → Held → Listing → Type 0
 GoesOnBroken old before fault begins bytes (GoesOn count) new behind =
-    (s : Schema) (limits : Limits) (known : Known) (point : Point) (piece more : List ℕ) (sieve : Sieve) → bytes ≡ old.buffer ++ piece
+    (s : Rules) (limits : Limits) (known : Known) (point : Point) (piece more : List ℕ) (sieve : Sifted) → bytes ≡ old.buffer ++ piece
     → IsRefusedAt s limits known point old piece more fault begins → HasRead s limits point.read sieve before
     → Stands s limits known new sieve behind (behind_stretch point (take count bytes) (fault_number fault)
     (at_statement (suc point.read.count)) begins (drop count bytes ++ more))

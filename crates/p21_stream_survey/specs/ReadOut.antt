@@ -5,6 +5,7 @@ use Rattle.p21_stream_statements.specs.declared.fault.Fault.TheVariants.{Read}
 use Rattle.p21_stream_survey.specs.Course.{AsksTheSame, IsInStage, ListsWithin, SurveysEach, listed_of}
 use Rattle.p21_stream_survey.specs.Ending.{ListsRead}
 use Rattle.p21_stream_survey.specs.Finishing.{IsFoundIn}
+use Rattle.p21_stream_survey.specs.Keeping.{rules_by}
 use Rattle.p21_stream_survey.specs.declared.at_end.AtEnd.{AtEnd}
 use Rattle.p21_stream_survey.specs.declared.at_end.AtEnd.TheVariants.{Again, FileEnd, Listed}
 use Rattle.p21_stream_survey.specs.declared.listed.Extent.{Extent}
@@ -40,7 +41,7 @@ EndsBy old stage extent new = (known : Known) → IsReadOut known old stage → 
 pub record EndsIn (known : Known) (old new : Survey) (extent : Extent) : Type 0 where
   pub same : AsksTheSame old new
   pub within : ListsWithin new.most (listed_of new) (Ended extent)
-  pub surveys : SurveysEach new.schema.now new.limits known new.listing extent
+  pub surveys : SurveysEach (rules_by new) new.limits known new.listing extent
 
 -- of each file that is read out in this stage, where a read failed: the list ends so
 abbrev pub Interrupts : Survey → Stage → Extent → Survey → Type 0
@@ -82,7 +83,7 @@ EndsReadOut old extent new = (known : Known) → IsReadOut known old old.stage �
 
 -- what is found of each file that is read out in this stage
 abbrev pub FindsIn : Survey → Stage → Found → Type 0
-FindsIn survey stage found = (known : Known) → IsReadOut known survey stage → IsFoundIn survey.schema.now survey.limits known found
+FindsIn survey stage found = (known : Known) → IsReadOut known survey stage → IsFoundIn (rules_by survey) survey.limits known found
 
 abbrev pub FindsAll : Survey → Found → Type 0
 FindsAll survey found = FindsIn survey survey.stage found

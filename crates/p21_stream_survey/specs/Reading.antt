@@ -1,11 +1,11 @@
 -- What a survey knows of the statements that it has read, by the reading that its log stands for (this project's own).
 use Rattle.std.specs.Prelude.{◌≡◌, ◌≢◌, ◌⊎◌, ◌↔◌, ◌≤◌, ℕ, IsTrue, suc, map, length}
 use Rattle.p21_spec_basics.specs.Limits.{Limits}
-use Rattle.p21_spec_schema.specs.Schema.{Schema}
+use Rattle.p21_spec_survey.specs.Rules.{Rules}
 use Rattle.p21_spec_survey.specs.Survey as survey
 use Rattle.p21_spec_survey.specs.Survey.{Reading, Subject, at_statement, in_instance}
 use Rattle.p21_stream_sieve.specs.Sifting.{HasName}
-use Rattle.p21_stream_sieve.specs.declared.sieve.Sieve.{Sieve}
+use Rattle.p21_stream_survey.specs.Sifted.{Sifted, names_left}
 use Rattle.p21_stream_statements.specs.Fault.{fault_number}
 use Rattle.p21_stream_statements.specs.declared.refusal.At.{At}
 use Rattle.p21_stream_statements.specs.declared.refusal.At.TheVariants.{Instance, Statement}
@@ -24,12 +24,13 @@ abbrev pub listed_as : Listed → survey.Listed
 listed_as listed = record { number = fault_number listed.fault; subject = subject_of listed.at; begins = listed.begins }
 
 -- an instance of this name was left out, or passed over
-abbrev pub WasRefused : Sieve → Listing → ℕ → Type 0
-WasRefused sieve listing n = HasName sieve.names n ⊎ HasName listing.passed n
+abbrev pub WasRefused : Sifted → Listing → ℕ → Type 0
+WasRefused sieve listing n = HasName (names_left sieve) n ⊎ HasName listing.passed n
 
--- Of the statements of a reading those that are taken are kept, and what is listed is listed; the instances that were left out or passed over
--- are known by name, the statements are counted, and it is known whether bytes were passed over; and each refusal is one that a file has
-pub record HasRead (s : Schema) (limits : Limits) (read : Reading) (sieve : Sieve) (listing : Listing) : Type 0 where
+-- Of the statements of a reading those that are taken are kept, and what is listed is listed; the instances that were left out or passed
+-- over are known by name, the statements are counted, and it is known whether bytes were passed over; and each refusal is one that a file
+-- has
+pub record HasRead (s : Rules) (limits : Limits) (read : Reading) (sieve : Sifted) (listing : Listing) : Type 0 where
   pub sifts : SiftsTo s limits read.given read.taken sieve
   pub listed : map listed_as listing.list.items ≡ read.listed
   pub named : (n : ℕ) → survey.IsRefused read.listed n ↔ WasRefused sieve listing n

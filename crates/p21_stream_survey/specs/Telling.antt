@@ -13,16 +13,16 @@ use Rattle.p21_stream_statements.specs.declared.fault.Fault.{Fault}
 use Rattle.p21_stream_statements.specs.declared.fault.Fault.TheVariants.{Dangling}
 use Rattle.p21_stream_statements.specs.declared.refusal.Refusal.{Refusal}
 
--- What isn't told: references to instances that were refused, left out or passed over; and where bytes were passed over, that no instance has
--- a name
+-- What isn't told: references to instances that were refused, left out or passed over; and where bytes were passed over, that no instance
+-- has a name
 pub record Silence : Type 0 where
   pub names : BTreeSet ℕ
   pub passed : BTreeSet ℕ
   pub is_broken : Bool
 
--- nothing is told of a reference that is refused by this fault
-abbrev pub IsSilent : Silence → Reference → Fault → Type 0
-IsSilent silence reference fault = HasName silence.names reference.1.target ⊎ HasName silence.passed reference.1.target
+-- nothing is told of a reference to this name that is refused by this fault
+abbrev pub IsSilent : Silence → ℕ → Fault → Type 0
+IsSilent silence target fault = HasName silence.names target ⊎ HasName silence.passed target
     ⊎ ((fault ≡ Dangling) × (silence.is_broken ≡ true))
 
 -- none that is stored serves it, and it is told
@@ -40,7 +40,7 @@ IsRefusalOf s stored silence reference refusal = (fault : Fault) × IsTold s sto
 -- it is served, or nothing is told of it, or its refusal is among these
 abbrev pub IsAnswered : Schema → List StoredEntry → Silence → List Refusal → Reference → Type 0
 IsAnswered s stored silence refusals reference =
-    IsServedBy s stored reference.1 ⊎ ((fault : Fault) × RefusesNeed s stored reference.1 fault × IsSilent silence reference fault)
+    IsServedBy s stored reference.1 ⊎ ((fault : Fault) × RefusesNeed s stored reference.1 fault × IsSilent silence reference.1.target fault)
     ⊎ ((refusal : Refusal) × Contains refusals refusal × IsRefusalOf s stored silence reference refusal)
 
 -- the refusal of a reference is added, where it has one that is told

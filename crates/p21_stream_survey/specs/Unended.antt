@@ -1,7 +1,7 @@
 -- Statements with which a file ends in a remark that nothing ends (this project's own).
 use Rattle.std.specs.Prelude.{◌≡◌, ◌⊎◌, ◌<◌, ℕ, true, suc, List, [], ◌++◌, take, drop}
 use Rattle.p21_spec_basics.specs.Limits.{Limits}
-use Rattle.p21_spec_schema.specs.Schema.{Schema}
+use Rattle.p21_spec_survey.specs.Rules.{Rules}
 use Rattle.p21_spec_survey.specs.Survey.{IsGoneOnBehind, at_statement}
 use Rattle.p21_stream_log.specs.Ending.{EndsBehind}
 use Rattle.p21_stream_log.specs.Going.{behind_stretch}
@@ -9,7 +9,7 @@ use Rattle.p21_stream_log.specs.Log.{Held, Known, Point}
 use Rattle.p21_stream_log.specs.Passage.{IsBrokenBy, PassageFor}
 use Rattle.p21_stream_log.specs.declared.passage.Passage.{Passage}
 use Rattle.p21_stream_log.specs.declared.passage.Passage.TheVariants.{GoesOn}
-use Rattle.p21_stream_sieve.specs.declared.sieve.Sieve.{Sieve}
+use Rattle.p21_stream_survey.specs.Sifted.{Sifted}
 use Rattle.p21_stream_statements.specs.Fault.{fault_number}
 use Rattle.p21_stream_statements.specs.declared.fault.Fault.{Fault}
 use Rattle.p21_stream_survey.specs.Course.{Course, GoesFurther, GoesTo, listed_of}
@@ -25,14 +25,14 @@ use Rattle.p21_stream_survey.specs.declared.survey.Survey.{Survey}
 
 -- At a point each of the files ends with these bytes of the next statement, whether they are taken or not; and no statement has ended that
 -- isn't judged
-pub record IsAtLast (s : Schema) (limits : Limits) (known : Known) (held : Held) (sieve : Sieve) (listing : Listing) (point : Point)
+pub record IsAtLast (s : Rules) (limits : Limits) (known : Known) (held : Held) (sieve : Sifted) (listing : Listing) (point : Point)
     (statement : List ℕ) : Type 0 where
   pub stands : Stands s limits known held sieve listing point
   pub between : point.ended ≡ []
   pub to_end : EndsBehind known point statement
 
 -- and it is broken by all of them, with a refusal that a survey goes on behind
-pub record IsUnendedAt (s : Schema) (limits : Limits) (known : Known) (point : Point) (held : Held) (statement : List ℕ) (fault : Fault)
+pub record IsUnendedAt (s : Rules) (limits : Limits) (known : Known) (point : Point) (held : Held) (statement : List ℕ) (fault : Fault)
     (begins : ℕ) : Type 0 where
   pub to_end : EndsBehind known point statement
   pub gone_on : IsGoneOnBehind (fault_number fault)
@@ -42,23 +42,23 @@ pub record IsUnendedAt (s : Schema) (limits : Limits) (known : Known) (point : P
 -- the log says
 abbrev pub PassesUnended : Held → Listing → Fault → ℕ → List ℕ → Passage → Held → Listing → Type 0
 PassesUnended old before fault begins statement (GoesOn count) new behind =
-    (s : Schema) (limits : Limits) (known : Known) (point : Point) (sieve : Sieve)
+    (s : Rules) (limits : Limits) (known : Known) (point : Point) (sieve : Sifted)
     → IsUnendedAt s limits known point old statement fault begins → HasRead s limits point.read sieve before
     → Stands s limits known new sieve behind (behind_stretch point (take count statement) (fault_number fault)
     (at_statement (suc point.read.count)) begins (drop count statement))
 PassesUnended old before fault begins statement passage new behind =
     (new ≡ old) × (behind ≡ before)
-    × ((s : Schema) (limits : Limits) (known : Known) (point : Point) → IsUnendedAt s limits known point old statement fault begins
+    × ((s : Rules) (limits : Limits) (known : Known) (point : Point) → IsUnendedAt s limits known point old statement fault begins
     → PassageFor s limits known point statement [] [] (fault_number fault) (at_statement (suc point.read.count)) begins passage new)
 
 -- Of each such point, where the first ones of these bytes are taken: the list has ended; or the statement is passed over; or nothing has
 -- changed
 abbrev pub EndsUnended : Limits → Held → Listing → List ℕ → List ℕ → Ended → Held → Listing → Type 0
 EndsUnended limits old before front statement (Listed extent) new behind =
-    (s : Schema) (known : Known) (point : Point) (sieve : Sieve) → front ≡ old.buffer
+    (s : Rules) (known : Known) (point : Point) (sieve : Sifted) → front ≡ old.buffer
     → IsAtLast s limits known old sieve before point statement → IsSurveyedIn s limits known behind extent
 EndsUnended limits old before front statement (PassedOver count) new behind =
-    (s : Schema) (known : Known) (point : Point) (sieve : Sieve) → front ≡ old.buffer
+    (s : Rules) (known : Known) (point : Point) (sieve : Sifted) → front ≡ old.buffer
     → IsAtLast s limits known old sieve before point statement → IsPassedBehind s limits known old.start new sieve behind count statement
 EndsUnended limits old before front statement AtFileEnd new behind = (new ≡ old) × (behind ≡ before)
 

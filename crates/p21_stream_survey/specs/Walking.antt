@@ -7,7 +7,7 @@ use Rattle.p21_stream_log.specs.Log.{IsFileOf, IsRefused, Known, Point}
 use Rattle.p21_stream_log.specs.declared.passage.Passage.{Passage}
 use Rattle.p21_stream_log.specs.declared.passage.Passage.TheVariants.{AtFileMark, GoesOn, Sought, TooLong}
 use Rattle.p21_stream_resume.specs.Seeking as seeking
-use Rattle.p21_stream_sieve.specs.declared.sieve.Sieve.{Sieve}
+use Rattle.p21_stream_survey.specs.Sifted.{Sifted}
 use Rattle.p21_stream_statements.specs.Fault.{fault_number}
 use Rattle.p21_stream_statements.specs.StatementReader.{IsSeenAt}
 use Rattle.p21_stream_statements.specs.declared.fault.Fault.{Fault}
@@ -18,6 +18,7 @@ use Rattle.p21_stream_survey.specs.Course.{GoesFurther, GoesTo, IsInStage, IsSou
 use Rattle.p21_stream_survey.specs.Ending.{IsReadSo}
 use Rattle.p21_stream_survey.specs.Following.{HasEnded, Stands}
 use Rattle.p21_stream_survey.specs.Judging.{JudgeGives}
+use Rattle.p21_stream_survey.specs.Keeping.{kept_by, rules_by}
 use Rattle.p21_stream_survey.specs.Kinds.{AreOfFile, IsOfFile}
 use Rattle.p21_stream_survey.specs.Reading.{HasRead, subject_of}
 use Rattle.p21_stream_survey.specs.declared.judging.Judgement.{Judgement}
@@ -39,13 +40,13 @@ Goes old stage rest next new =
 
 -- ---- a statement that has ended
 
--- a statement has ended that isn't judged yet, and these bytes come next
-pub record HasStatement (known : Known) (survey : Survey) (statement : Statement) (ahead : List ℕ) : Type 0 where
+-- where this was kept, a statement has ended that isn't judged yet, and these bytes come next
+pub record HasStatement (known : Known) (survey : Survey) (kept : Sifted) (statement : Statement) (ahead : List ℕ) : Type 0 where
   pub sound : IsSound known survey
   pub reading : survey.stage ≡ stage.Reading
   pub fewer : listed_of survey < survey.most
   pub point : Point
-  pub stands : Stands survey.schema.now survey.limits known survey.log survey.judge.sieve survey.listing point
+  pub stands : Stands (rules_by survey) survey.limits known survey.log kept survey.listing point
   pub ended : HasEnded survey.log point statement
   pub ahead_are : point.ahead ≡ ahead
   pub seen_at : IsSeenAt point.seen ahead 0
@@ -54,9 +55,9 @@ pub record HasStatement (known : Known) (survey : Survey) (statement : Statement
 -- it was judged so, by what was kept before it
 pub record IsJudged (known : Known) (survey : Survey) (judgement : Result Judgement Fault) (ahead : List ℕ) : Type 0 where
   pub statement : Statement
-  pub before : Sieve
-  pub has : HasStatement known (record survey { judge = record survey.judge { sieve = before } }) statement ahead
-  pub gives : JudgeGives survey.schema.now survey.limits before statement judgement survey.judge.sieve
+  pub before : Sifted
+  pub has : HasStatement known survey before statement ahead
+  pub gives : JudgeGives (rules_by survey) survey.limits before statement judgement (kept_by survey)
 
 -- behind a statement that has ended: what is to be read again stands in front of what comes next; it is none, unless one more is listed
 pub record GoesBehind (known : Known) (old new : Survey) (again ahead : List ℕ) : Type 0 where
@@ -80,9 +81,9 @@ pub record EndsSo (known : Known) (survey : Survey) (refusal : Listed) : Type 0 
   pub sound : IsSound known survey
   pub fewer : listed_of survey < survey.most
   pub read : Reading
-  pub sieve : Sieve
-  pub so : (file : List ℕ) → IsFileOf known file → IsReadSo survey.schema.now survey.limits file read sieve survey.listing refusal.begins
-  pub ends : (file : List ℕ) → IsFileOf known file → EndsReading survey.schema.now survey.limits file read (fault_number refusal.fault)
+  pub sieve : Sifted
+  pub so : (file : List ℕ) → IsFileOf known file → IsReadSo (rules_by survey) survey.limits file read sieve survey.listing refusal.begins
+  pub ends : (file : List ℕ) → IsFileOf known file → EndsReading (rules_by survey) survey.limits file read (fault_number refusal.fault)
       (subject_of refusal.at)
   pub of_file : AreOfFile (survey.listing.list.items ++ refusal ∷ [])
 
@@ -91,10 +92,10 @@ pub record EndsWithStretch (known : Known) (survey : Survey) (refusal : Listed) 
   pub sound : IsSound known survey
   pub last : suc (listed_of survey) ≡ survey.most
   pub read : Reading
-  pub sieve : Sieve
-  pub so : (file : List ℕ) → IsFileOf known file → IsReadSo survey.schema.now survey.limits file read sieve survey.listing refusal.begins
+  pub sieve : Sifted
+  pub so : (file : List ℕ) → IsFileOf known file → IsReadSo (rules_by survey) survey.limits file read sieve survey.listing refusal.begins
   pub passes : (file : List ℕ) → IsFileOf known file
-      → IsToBePassed survey.schema.now survey.limits file read (fault_number refusal.fault) (subject_of refusal.at)
+      → IsToBePassed (rules_by survey) survey.limits file read (fault_number refusal.fault) (subject_of refusal.at)
   pub of_file : AreOfFile (survey.listing.list.items ++ refusal ∷ [])
 
 -- the list has ended with one more, whatever comes next
@@ -109,15 +110,15 @@ pub record HasRefused (known : Known) (survey : Survey) (piece more : List ℕ) 
   pub reading : survey.stage ≡ stage.Reading
   pub fewer : listed_of survey < survey.most
   pub point : Point
-  pub refused : IsRefused survey.schema.now survey.limits known point piece fault survey.log
+  pub refused : IsRefused (rules_by survey) survey.limits known point piece fault survey.log
   pub between : point.ended ≡ []
   pub ahead_are : point.ahead ≡ piece ++ more
-  pub has : HasRead survey.schema.now survey.limits point.read survey.judge.sieve survey.listing
+  pub has : HasRead (rules_by survey) survey.limits point.read (kept_by survey) survey.listing
   pub of_file : IsOfFile (fault_number fault)
   pub counted : survey.log.start + (length survey.log.buffer + length (piece ++ more)) ≡ length known.bytes
 
--- what is to be read again stands in front of what comes behind so many bytes of the piece; all of it is read and nothing again, unless more than so
--- many are listed
+-- what is to be read again stands in front of what comes behind so many bytes of the piece; all of it is read and nothing again, unless
+-- more than so many are listed
 pub record GoesBehindPiece (known : Known) (old new : Survey) (fewer : ℕ) (piece more : List ℕ) (next : Next) : Type 0 where
   pub goes : GoesTo known old new (next.again.items ++ (drop next.count piece ++ more))
   pub once : ((next.again.items ≡ []) × (next.count ≡ length piece)) ⊎ (fewer < listed_of new)
@@ -139,8 +140,8 @@ PassesRefused old fault bytes count next new =
 abbrev pub too_long : Survey → ℕ → Listed
 too_long survey begins = record { fault = Token FileTooLong; at = AtStatement survey.listing.statement; begins = begins }
 
--- what is known of a passage by these bytes of a statement that is refused so, where others come behind them: it goes on behind so many and has more
--- than so many refusals, or its refusal or another one ends the reading, or a seeker has taken the bytes
+-- what is known of a passage by these bytes of a statement that is refused so, where others come behind them: it goes on behind so many and
+-- has more than so many refusals, or its refusal or another one ends the reading, or a seeker has taken the bytes
 abbrev pub PassesBy : Known → Survey → ℕ → Listed → List ℕ → List ℕ → Passage → Type 0
 PassesBy known survey fewer refusal bytes ahead (GoesOn count) = (fewer < listed_of survey) × (survey.stage ≡ stage.Reading)
     × IsInStage known survey stage.Reading (drop count bytes ++ ahead)
@@ -153,8 +154,8 @@ PassesBy known survey fewer refusal bytes ahead (Sought seeker) =
           record { fault = refusal.fault; begins = refusal.begins; taken = length bytes };
     })) ahead
 
--- of bytes that end with so many of a piece, and of which so many are passed: what of them isn't passed is what is to be read again, and then the piece
--- behind so many
+-- of bytes that end with so many of a piece, and of which so many are passed: what of them isn't passed is what is to be read again, and
+-- then the piece behind so many
 abbrev pub ReadsBehind : List ℕ → ℕ → ℕ → Next → Type 0
 ReadsBehind bytes count passed next = (front piece : List ℕ) → bytes ≡ front ++ piece → length piece ≡ count
     → next.again.items ++ drop next.count piece ≡ drop passed bytes
@@ -183,7 +184,7 @@ SeeksOn old seeker stretch count new = (known : Known) (ahead : List ℕ) → Ha
 pub record EndsWithin (known : Known) (survey : Survey) (fault : Fault) (bytes ahead : List ℕ) : Type 0 where
   pub sound : IsSound known survey
   pub fewer : listed_of survey < survey.most
-  pub waits : Waits survey.schema.now survey.limits known survey.log survey.listing fault bytes ahead
+  pub waits : Waits (rules_by survey) survey.limits known survey.log survey.listing fault bytes ahead
 
 -- so the list has ended with it, or the survey waits for more
 abbrev pub EndsAt : Survey → Fault → List ℕ → Survey → Type 0

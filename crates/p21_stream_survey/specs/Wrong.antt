@@ -5,7 +5,7 @@ use Rattle.std.specs.Prelude.{◌≡◌, ◌<◌, ◌↔◌, ◌⊎◌, ℕ, IsT
 use Rattle.p21_spec_basics.specs.Limits.{Limits}
 use Rattle.p21_spec_exchange.specs.Record.{Record}
 use Rattle.p21_spec_exchange.specs.Statement.{instance}
-use Rattle.p21_spec_schema.specs.Schema.{Schema}
+use Rattle.p21_spec_survey.specs.Rules.{Rules}
 use Rattle.p21_spec_survey.specs.Resuming.{HasNoneInside}
 use Rattle.p21_spec_survey.specs.Survey.{IsInData, in_instance}
 use Rattle.p21_stream_log.specs.Going.{behind_stretch}
@@ -16,8 +16,8 @@ use Rattle.p21_stream_log.specs.Passage.{PassageFor}
 use Rattle.p21_stream_log.specs.declared.opening.Opening.TheVariants.{Statement}
 use Rattle.p21_stream_log.specs.declared.passage.Passage.{Passage}
 use Rattle.p21_stream_log.specs.declared.passage.Passage.TheVariants.{GoesOn}
-use Rattle.p21_stream_sieve.specs.Sifting.{RefusesInstance}
-use Rattle.p21_stream_sieve.specs.declared.sieve.Sieve.{Sieve}
+use Rattle.p21_stream_survey.specs.Judging.{RefusesBy}
+use Rattle.p21_stream_survey.specs.Sifted.{Sifted}
 use Rattle.p21_stream_statements.specs.Fault.{fault_number}
 use Rattle.p21_stream_statements.specs.declared.fault.Fault.{Fault}
 use Rattle.p21_stream_statements.specs.declared.refusal.At.TheVariants.{Instance}
@@ -26,11 +26,11 @@ use Rattle.p21_stream_survey.specs.Reading.{HasRead}
 use Rattle.p21_stream_survey.specs.declared.listing.Listing.{Listing}
 
 -- at a point of a data section an instance has ended that begins behind so many bytes and is refused, with a signpost in a string of it
-pub record IsWrongAt (s : Schema) (limits : Limits) (known : Known) (point : Point) (held : Held) (n : ℕ) (record_ : Record) (fault : Fault)
+pub record IsWrongAt (s : Rules) (limits : Limits) (known : Known) (point : Point) (held : Held) (n : ℕ) (record_ : Record) (fault : Fault)
     (begins : ℕ) : Type 0 where
   pub logs : Logs s limits known held point
   pub ended : HasEnded held point (instance n record_)
-  pub refused : RefusesInstance s point.read.given n record_ fault
+  pub refused : RefusesBy s point.read.given n record_ fault
   pub inside : (behind : List ℕ) → ¬ HasNoneInside held.buffer behind
   pub in_data : IsInData point.read.given
   pub opens : OpensAs held.buffer Statement
@@ -45,16 +45,16 @@ pub record ListsWrong (before : Listing) (n : ℕ) (fault : Fault) (begins count
   pub broken : IsTrue behind.is_broken ↔ (IsTrue before.is_broken ⊎ ((0 < count) × (0 < size)))
   pub statement : behind.statement ≡ suc before.statement
 
--- Of each such point: where the reading goes on the instance is passed over and listed; else nothing is listed, and it is known of it what the
--- log says
+-- Of each such point: where the reading goes on the instance is passed over and listed; else nothing is listed, and it is known of it what
+-- the log says
 abbrev pub PassesWrong : Held → Listing → ℕ → Fault → ℕ → List ℕ → Passage → Held → Listing → Type 0
 PassesWrong old before n fault begins bytes (GoesOn count) new behind =
-    (s : Schema) (limits : Limits) (known : Known) (point : Point) (record_ : Record) (sieve : Sieve) → bytes ≡ old.buffer
+    (s : Rules) (limits : Limits) (known : Known) (point : Point) (record_ : Record) (sieve : Sifted) → bytes ≡ old.buffer
     → IsWrongAt s limits known point old n record_ fault begins → HasRead s limits point.read sieve before
     → Stands s limits known new sieve behind (behind_stretch point (take count bytes) (fault_number fault) (in_instance n) begins
     (drop count bytes ++ point.ahead))
 PassesWrong old before n fault begins bytes passage new behind =
     (behind ≡ before)
-    × ((s : Schema) (limits : Limits) (known : Known) (point : Point) (record_ : Record) → bytes ≡ old.buffer
+    × ((s : Rules) (limits : Limits) (known : Known) (point : Point) (record_ : Record) → bytes ≡ old.buffer
     → IsWrongAt s limits known point old n record_ fault begins
     → PassageFor s limits known point old.buffer [] point.ahead (fault_number fault) (in_instance n) begins passage new)

@@ -4,14 +4,14 @@ ghost use Rattle.p21_stream_survey.specs.Ending.{ListsRead};
 ghost use Rattle.p21_stream_survey.specs.Finishing.{IsEnded};
 ghost use Rattle.p21_stream_survey.specs.Found.{FindsAtMost};
 ghost use Rattle.p21_stream_survey.specs.Kinds.{AreOfFile, AreOfReading};
-ghost use Rattle.p21_stream_survey.specs.ReadOut.{EndsBy, EndsReadOut, EndsStage, FindsAll, FindsIn, Interrupts, IsAgain, IsInterrupted, ListsInterrupted, SomeIsReadOut, last_stage};
+ghost use Rattle.p21_stream_survey.specs.ReadOut.{EndsBy, EndsReadOut, EndsStage, FindsAll, FindsIn, Interrupts, IsAgain, IsInterrupted};
+ghost use Rattle.p21_stream_survey.specs.ReadOut.{ListsInterrupted, SomeIsReadOut, last_stage};
 ghost use Rattle.p21_stream_survey.specs.declared.stage.Stage.TheVariants.{Reading, Waiting};
 
 use crate::ending::end_by;
 use crate::finishing::{
     Ended, end_sought, end_statement, end_unread, finish_file, found, interrupt_sought,
 };
-use crate::judging::Judge;
 use crate::listed::{Extent, Found};
 use crate::noting::Noted;
 use crate::seeking::Sought;
@@ -75,19 +75,16 @@ impl<'a> Survey<'a> {
     {
         let Survey {
             alloc,
-            schema,
             limits,
             most,
             log,
-            judge,
+            keeper,
             listing,
-            taker: _,
             stage: _,
         } = self;
-        let Judge { sieve, .. } = judge;
         match extent {
             Some(extent) => Ok(found(alloc, listing, extent)),
-            None => finish_file(alloc, schema, limits, most, log, sieve, listing),
+            None => finish_file(alloc, limits, most, log, keeper, listing),
         }
     }
 
@@ -191,7 +188,8 @@ impl<'a> Survey<'a> {
         }
     }
 
-    /// Ends the list where a read failed before the statement began whose refusal isn't listed yet: the failed read stands in place of that.
+    /// Ends the list where a read failed before the statement began whose refusal isn't listed yet: the failed read stands in place of
+    /// that.
     fn end_unread_behind(&mut self, unlisted: &Unlisted) -> Result<Extent, NoMemory>
         ensures ends { IfOk result (λ extent. Interrupts self.old (Waiting unlisted.now) extent self.new) }
         ensures reads { IfOk result (λ extent. ListsRead self.old.listing.list.items extent self.new.listing.list.items) }

@@ -29,8 +29,8 @@ pub(crate) fn may_be_passed(log: &Log, fault: Fault, bytes: &[u8]) -> bool
     }
 }
 
-/// Passes over a statement of which a step refused some, with these bytes behind the last statement, up to where the reading goes on. What is
-/// refused stands at this place of the file.
+/// Passes over a statement of which a step refused some, with these bytes behind the last statement, up to where the reading goes on. What
+/// is refused stands at this place of the file.
 ///
 /// # Errors
 ///

@@ -62,8 +62,7 @@ impl<'a> Survey<'a> {
     pub(crate) fn end_with(&mut self, refusal: Listed, bytes: &[u8]) -> Result<(), NoMemory>
         ensures { OnOk result (EndsList (λ known. EndsSo known self.old refusal) self.old self.new) }
     {
-        let trail = &self.judge.workspace.trail;
-        let noted = Noted::of(&self.log, refusal.fault, bytes).with_trail(trail);
+        let noted = Noted::of(&self.log, refusal.fault, bytes).with_trail(self.keeper.trail());
         match end_by(
             &mut self.listing,
             refusal.fault,
@@ -87,8 +86,7 @@ impl<'a> Survey<'a> {
     pub(crate) fn end_with_stretch(&mut self, refusal: Listed, bytes: &[u8]) -> Result<(), NoMemory>
         ensures { OnOk result (EndsList (λ known. EndsWithStretch known self.old refusal) self.old self.new) }
     {
-        let trail = &self.judge.workspace.trail;
-        let noted = Noted::of(&self.log, refusal.fault, bytes).with_trail(trail);
+        let noted = Noted::of(&self.log, refusal.fault, bytes).with_trail(self.keeper.trail());
         match end_at_stretch(
             &mut self.listing,
             refusal.fault,
@@ -104,7 +102,8 @@ impl<'a> Survey<'a> {
         }
     }
 
-    /// Ends the list with a refusal of the next statement, which has these bytes first; or waits for more, where they don't tell where it begins.
+    /// Ends the list with a refusal of the next statement, which has these bytes first; or waits for more, where they don't tell where it
+    /// begins.
     ///
     /// # Errors
     ///

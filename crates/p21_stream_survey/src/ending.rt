@@ -23,7 +23,8 @@ pub(crate) fn end_by(
     ensures ends { IfOk result (λ extent. EndsBy listing.old fault at begins extent listing.new) }
     ensures extent { IfOk result (λ extent. extent ≡ Extent.ReadTo begins) }
     ensures listed { OnOk result (length listing.new.list.items ≡ suc (length listing.old.list.items)) }
-    ensures list { OnOk result (listing.new.list.items ≡ listing.old.list.items ++ record { fault = fault; at = at; begins = begins } ∷ []) }
+    ensures list { OnOk result (listing.new.list.items ≡ listing.old.list.items
+        ++ record { fault = fault; at = at; begins = begins } ∷ []) }
 {
     match listing.list(fault, at, begins, noted) {
         Ok(()) => Ok(Extent::ReadTo(begins)),
@@ -46,7 +47,8 @@ pub(crate) fn end_at_stretch(
     ensures ends { IfOk result (λ extent. EndsAtStretch listing.old fault at begins extent listing.new) }
     ensures extent { IfOk result (λ extent. extent ≡ Extent.Most) }
     ensures listed { OnOk result (length listing.new.list.items ≡ suc (length listing.old.list.items)) }
-    ensures list { OnOk result (listing.new.list.items ≡ listing.old.list.items ++ record { fault = fault; at = at; begins = begins } ∷ []) }
+    ensures list { OnOk result (listing.new.list.items ≡ listing.old.list.items
+        ++ record { fault = fault; at = at; begins = begins } ∷ []) }
 {
     match listing.list(fault, at, begins, noted) {
         Ok(()) => Ok(Extent::Most),

@@ -1,5 +1,5 @@
-//! The end of a file: a statement in which it ends is passed over or ends the list, and so does a stretch that is open there. Where nothing is
-//! to be passed over the kept bytes are a file, or the file ends early.
+//! The end of a file: a statement in which it ends is passed over or ends the list, and so does a stretch that is open there. Where nothing
+//! is to be passed over the kept bytes are a file, or the file ends early.
 ghost use Rattle.std.specs.Prelude.{◌≡◌, ◌<◌, ◌∷◌, ◌++◌, [], ℕ, IfOk, IsTrue, OnOk, false, length, suc};
 ghost use Rattle.p21_spec_survey.specs.Survey.{BeginsWithEnd};
 ghost use Rattle.p21_stream_log.specs.Opening.{OpensAs};
@@ -7,21 +7,23 @@ ghost use Rattle.p21_stream_log.specs.Passage.{GoesOnAt};
 ghost use Rattle.p21_stream_log.specs.declared.opening.Opening.TheVariants.{SectionEnd};
 ghost use Rattle.p21_stream_statements.specs.Fault.{fault_number};
 ghost use Rattle.p21_stream_survey.specs.Ending.{ListsRead};
-ghost use Rattle.p21_stream_survey.specs.Finishing.{CountsEnd, CountsPassed, EndsSought, EndsStatement, EndsUnread, EndsWithRefusal, FindsAtEnd, FindsRefusal, InterruptsSought, IsEnded, PassesEnded, StandsAtEnd, TellsEnd, end_fault};
+ghost use Rattle.p21_stream_survey.specs.Finishing.{CountsEnd, CountsPassed, EndsSought, EndsStatement, EndsUnread, EndsWithRefusal};
+ghost use Rattle.p21_stream_survey.specs.Finishing.{FindsAtEnd, FindsRefusal, InterruptsSought, IsEnded, PassesEnded, StandsAtEnd};
+ghost use Rattle.p21_stream_survey.specs.Finishing.{TellsEnd, end_fault};
 ghost use Rattle.p21_stream_survey.specs.Found.{FindsAtMost};
+ghost use Rattle.p21_stream_survey.specs.Keeping.{rules_of, sifted_of};
 ghost use Rattle.p21_stream_survey.specs.Kinds.{AreOfFile, IsOfFile};
 
 use crate::breaking::is_gone_on_behind;
 use crate::ending::{end_at_stretch, end_by, end_interrupted};
 use crate::going::list_passed;
+use crate::keeper::Keeper;
 use crate::listed::{Extent, Found};
 use crate::listing::Listing;
 use crate::noting::Noted;
 use crate::serving::find_references;
 use p21_grammar::GrammarFault;
-use p21_schema::Schema;
 use p21_stream_log::{Log, Opening, Passage, ends_within, log_laws, opening_of};
-use p21_stream_sieve::Sieve;
 use p21_stream_statements::{At, Fault};
 use p21_tokens::TokenFault;
 use p21_values::{Limits, NoMemory};
@@ -38,8 +40,8 @@ pub(crate) enum Ended {
     AtFileEnd,
 }
 
-/// Passes over the statement in which a file ends, which has these bytes, or ends the list with it, where it is to be passed over. Up to so many
-/// are listed.
+/// Passes over the statement in which a file ends, which has these bytes, or ends the list with it, where it is to be passed over. Up to so
+/// many are listed.
 ///
 /// # Errors
 ///
@@ -237,16 +239,15 @@ pub(crate) fn interrupt_sought(
 /// `NoMemory`.
 pub(crate) fn finish_file(
     alloc: Global,
-    schema: &Schema,
     limits: Limits,
     most: u64,
     log: Log,
-    sieve: Sieve,
+    keeper: Keeper<'_>,
     listing: Listing,
 ) -> Result<Found, NoMemory>
-    requires stands { StandsAtEnd schema.now log sieve listing }
+    requires stands { StandsAtEnd (rules_of keeper) log (sifted_of keeper) listing }
     requires fewer { length listing.list.items < most }
-    ensures finds { IfOk result (FindsAtEnd schema.now limits log sieve listing) }
+    ensures finds { IfOk result (FindsAtEnd (rules_of keeper.entry) limits log (sifted_of keeper.entry) listing) }
     ensures counted { IfOk result (FindsAtMost most) }
     ensures of_file { AreOfFile listing.list.items → IfOk result (λ found. AreOfFile found.list.items) }
 {
@@ -260,7 +261,7 @@ pub(crate) fn finish_file(
     let is_told = tells_end(&log, &bytes);
     let noted = Noted::of(&log, Fault::Grammar(GrammarFault::Unexpected), &bytes);
     match log.finish() {
-        Ok(()) => find_references(alloc, schema, most, sieve, listing),
+        Ok(()) => find_references(alloc, most, keeper, listing),
         Err(fault) => match fault {
             Fault::NoMemory => Err(NoMemory),
             _ => find_refusal(
@@ -339,6 +340,7 @@ pub(crate) fn found(alloc: Global, listing: Listing, extent: Extent) -> Found
         references: Vec::new(alloc),
         extent,
         accepted: None,
+        well_formed: None,
         spots,
     }
 }

@@ -3,6 +3,7 @@ ghost use Rattle.std.specs.Prelude.{IfOk, IsTrue, OnOk};
 ghost use Rattle.p21_stream_log.specs.Log.{Closes};
 ghost use Rattle.p21_stream_statements.specs.Source.{IsOfStatement};
 ghost use Rattle.p21_stream_survey.specs.Following.{LeavesOut, TakesRight};
+ghost use Rattle.p21_stream_survey.specs.Sifted.{sieved};
 
 use crate::listing::Listing;
 use crate::noting::Noted;
@@ -38,7 +39,8 @@ pub(crate) fn leave_out(
     noted: Noted<'_>,
 ) -> Result<bool, NoMemory>
     requires { IsOfStatement fault }
-    ensures leaves { IfOk result (λ left. LeavesOut log.old sieve.old listing.old name fault left log.new sieve.new listing.new) }
+    ensures leaves { IfOk result (λ left. LeavesOut log.old (sieved sieve.old) listing.old name fault left log.new (sieved sieve.new)
+        listing.new) }
     ensures closes { IfOk result (λ left. IsTrue left → Closes log.old log.new) }
 {
     let begins = match log.leave_out() {

@@ -11,7 +11,8 @@ use p21_stream_statements::{At, Fault};
 use p21_values::{Limits, NoMemory};
 use std::alloc::Global;
 
-/// A statement of which a step refused some: why, where what is refused stands in the file, and how many bytes stand in front of the statement.
+/// A statement of which a step refused some: why, where what is refused stands in the file, and how many bytes stand in front of the
+/// statement.
 #[derive(Clone, Copy)]
 pub(crate) struct Broken {
     pub fault: Fault,
@@ -19,7 +20,8 @@ pub(crate) struct Broken {
     pub begins: u64,
 }
 
-/// Passes over a statement of which a step refused some, with these bytes behind the last statement, and lists it where the reading goes on.
+/// Passes over a statement of which a step refused some, with these bytes behind the last statement, and lists it where the reading goes
+/// on.
 ///
 /// # Errors
 ///

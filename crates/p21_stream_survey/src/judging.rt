@@ -1,5 +1,5 @@
-//! Whether a statement that has ended is right: it is kept then; or it is refused as an instance, and nothing changes; or its refusal ends the
-//! list.
+//! Whether a statement that has ended is right: it is kept then; or it is refused as an instance, and nothing changes; or its refusal ends
+//! the list.
 ghost use Rattle.std.specs.Prelude.{◌≡◌, [], IfErr, IfSome};
 ghost use Rattle.p21_grammar.specs.Statements.{statement_of};
 ghost use Rattle.p21_grammar_tree.specs.View.{record_view};
@@ -10,7 +10,7 @@ ghost use Rattle.p21_spec_laws.specs.Keeping.{nothing_kept};
 ghost use Rattle.p21_stream_sieve.specs.SieveSteps.{IsRefusedAlone};
 ghost use Rattle.p21_stream_sieve.specs.Sifting.{HaveNames};
 ghost use Rattle.p21_stream_statements.specs.Source.{IsOfStatement};
-ghost use Rattle.p21_stream_survey.specs.Judging.{Follows, FollowsFound, FoundGives, JudgeGives, said_of, wrong_or_end};
+ghost use Rattle.p21_stream_survey.specs.Judging.{FollowsFound, FollowsSieved, FoundGives, JudgesSieved, said_of, wrong_or_end};
 
 use p21_grammar::Event;
 use p21_grammar_tree::Record;
@@ -69,9 +69,9 @@ impl<'a> Judge<'a> {
         event: Event,
         is_walked: bool,
     ) -> Result<Judgement, Fault>
-        requires follows { Follows schema.now limits self.old.sieve (statement_of event) }
+        requires follows { FollowsSieved schema.now limits self.old.sieve (statement_of event) }
         requires known { self.old.known ≡ schema.now }
-        ensures gives { JudgeGives schema.now limits self.old.sieve (statement_of event) result self.new.sieve }
+        ensures gives { JudgesSieved schema.now limits self.old.sieve (statement_of event) result self.new.sieve }
         ensures known { self.new.known ≡ self.old.known }
     {
         schema.well_formed();
@@ -96,8 +96,8 @@ impl<'a> Judge<'a> {
         name: Name,
         of: Record,
     ) -> Result<Judgement, Fault>
-        requires follows { Follows schema.now limits self.old.sieve (instance name (record_view of)) }
-        ensures gives { JudgeGives schema.now limits self.old.sieve (instance name (record_view of)) result self.new.sieve }
+        requires follows { FollowsSieved schema.now limits self.old.sieve (instance name (record_view of)) }
+        ensures gives { JudgesSieved schema.now limits self.old.sieve (instance name (record_view of)) result self.new.sieve }
         ensures known { self.new.known ≡ self.old.known }
     {
         schema.well_formed();
@@ -172,7 +172,7 @@ fn lead(alloc: Global, schema: &Schema, event: Event, is_walked: bool, trail: &m
 }
 
 /// What is said of a statement that is kept, or ends the list.
-fn right(kept: Result<(), Fault>) -> Result<Judgement, Fault>
+pub(crate) fn right(kept: Result<(), Fault>) -> Result<Judgement, Fault>
     ensures { result ≡ said_of kept }
 {
     match kept {

@@ -1,6 +1,7 @@
 use p21_stream_output::Accepted;
 use p21_stream_sieve::Spots;
 use p21_stream_statements::{At, Fault, Refusal};
+use p21_stream_syntax::WellFormed;
 
 /// A refusal that is listed, and how many bytes of the file stand in front of its statement.
 #[derive(Clone, Copy, Debug, PartialEq, Eq)]
@@ -29,8 +30,10 @@ pub struct Found {
     /// The refusals of references, behind them.
     pub references: Vec<Refusal>,
     pub extent: Extent,
-    /// The file, exactly where nothing is refused.
+    /// The file, exactly where nothing is refused by the rules of a schema.
     pub accepted: Option<Accepted>,
+    /// What it says of itself, exactly where nothing is refused of it by itself.
+    pub well_formed: Option<WellFormed>,
     /// Where the refusals stand, as far as that was asked for and is known.
     pub spots: Spots,
 }

@@ -1,5 +1,5 @@
-//! Where a refusal stands: what tells it is looked up before the log goes on behind the statement, leaves it out or passes over it, since it is
-//! gone then. No clause speaks of places.
+//! Where a refusal stands: what tells it is looked up before the log goes on behind the statement, leaves it out or passes over it, since
+//! it is gone then. No clause speaks of places.
 
 use p21_grammar::GrammarFault;
 use p21_mapping::Trail;
@@ -7,9 +7,9 @@ use p21_stream_log::Log;
 use p21_stream_sieve::{RefusedStatement, Spots};
 use p21_stream_statements::{Expected, Fault, Places, Refusal};
 
-/// What tells where a refusal of a statement stands: the bytes from the separators in front of it on, and how many bytes of the file stand in front
-/// of them; where the reader stands, and what it could have taken in place of a token that it refused; and in a record that is refused, the way
-/// to what is refused there.
+/// What tells where a refusal of a statement stands: the bytes from the separators in front of it on, and how many bytes of the file stand
+/// in front of them; where the reader stands, and what it could have taken in place of a token that it refused; and in a record that is
+/// refused, the way to what is refused there.
 #[derive(Clone, Copy)]
 pub(crate) struct Noted<'a> {
     bytes: &'a [u8],
@@ -31,12 +31,10 @@ impl<'a> Noted<'a> {
         }
     }
 
-    /// The same where the refusal may be one of a record: then the trail leads to what is refused there. It takes no memory.
-    pub(crate) fn with_trail(self, trail: &'a Trail) -> Noted<'a> {
-        Noted {
-            trail: Some(trail),
-            ..self
-        }
+    /// The same where the refusal may be one of a record: then the trail, if there is one, leads to what is refused there. It takes no
+    /// memory.
+    pub(crate) fn with_trail(self, trail: Option<&'a Trail>) -> Noted<'a> {
+        Noted { trail, ..self }
     }
 
     /// The byte of the file behind so many of the statement, with the separators in front of it. It takes no memory.

@@ -5,7 +5,7 @@ ghost use Rattle.p21_stream_survey.specs.Course.{IsUnderWay};
 ghost use Rattle.p21_stream_survey.specs.Walking.{EndsList, EndsWithStretch, FollowsJudged, FollowsWrong, Goes, IsJudged};
 
 use crate::closing::is_want_of_memory;
-use crate::following::{leave_out, take_right};
+use crate::following::take_right;
 use crate::judging::Judgement;
 use crate::listed::Listed;
 use crate::noting::Noted;
@@ -13,11 +13,9 @@ use crate::stage::Stage;
 use crate::survey::{Next, Survey};
 use crate::token::{take_token, window_of};
 use crate::wrong::{Wrong, pass_wrong};
-use p21_stream_kept::Workspace;
 use p21_stream_log::log_laws;
 use p21_stream_statements::{At, Fault};
 use p21_values::{Name, NoMemory};
-use std::mem;
 
 impl<'a> Survey<'a> {
     /// Takes instances straight from their bytes, where whole ones come next; else reads a token, or some bytes of one.
@@ -69,7 +67,7 @@ impl<'a> Survey<'a> {
             return Ok(self.on(count));
         };
         let is_walked = self.listing.is_walked();
-        let judgement = self.judge.judge(self.schema, self.limits, event, is_walked);
+        let judgement = self.keeper.judge(self.limits, event, is_walked);
         match self.follow(judgement) {
             Ok(again) => Ok(Next { count, again }),
             Err(NoMemory) => Err(NoMemory),
@@ -114,21 +112,17 @@ impl<'a> Survey<'a> {
         ensures { IfOk result (λ again. FollowsJudged self.old (Ok (Judgement.Wrong name fault)) again.items self.new) }
     {
         let bytes = self.bytes_for_place();
-        // Taken out, so that the trail in it and the sieve are lent at once.
-        let workspace = mem::replace(&mut self.judge.workspace, Workspace::new(self.alloc));
-        let noted = Noted::of(&self.log, fault, &bytes).with_trail(&workspace.trail);
-        let left = match leave_out(
+        let left = match self.keeper.leave_out(
+            self.alloc,
             &mut self.log,
-            &mut self.judge.sieve,
             &mut self.listing,
             name,
             fault,
-            noted,
+            &bytes,
         ) {
             Ok(left) => left,
             Err(NoMemory) => return Err(NoMemory),
         };
-        self.judge.workspace = workspace;
         if !left {
             return self.pass_wrong(name, fault);
         }
@@ -187,7 +181,7 @@ impl<'a> Survey<'a> {
             fault,
             begins: refusal.begins,
         };
-        let noted = Noted::of(&self.log, fault, &bytes).with_trail(&self.judge.workspace.trail);
+        let noted = Noted::of(&self.log, fault, &bytes).with_trail(self.keeper.trail());
         let passage = match pass_wrong(
             &mut self.log,
             &mut self.listing,

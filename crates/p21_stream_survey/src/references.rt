@@ -12,11 +12,11 @@ use p21_schema::Schema;
 use p21_stream_kept::{Kept, Reference};
 use p21_stream_sieve::Spots;
 use p21_stream_statements::{At, Fault, Refusal};
-use p21_values::NoMemory;
+use p21_values::{Name, NoMemory};
 use std::collections::BTreeSet;
 
-/// What isn't told of references: those to instances that were refused, which were left out or passed over; and where bytes were passed over,
-/// that no instance has a name.
+/// What isn't told of references: those to instances that were refused, which were left out or passed over; and where bytes were passed
+/// over, that no instance has a name.
 #[derive(Clone, Copy)]
 pub(crate) struct Silence<'a> {
     pub names: &'a BTreeSet<u64>,
@@ -90,7 +90,7 @@ fn list_one(
     let Some(fault) = found else {
         return Ok(());
     };
-    if silence.is_silent(reference, fault) {
+    if silence.is_silent(reference.need.target, fault) {
         return Ok(());
     }
     let refusal = Refusal {
@@ -107,15 +107,15 @@ fn list_one(
 }
 
 impl<'a> Silence<'a> {
-    /// Whether nothing is told of a reference that is refused so.
-    fn is_silent(self, reference: &Reference, fault: Fault) -> bool
-        ensures yes { result ≡ true → IsSilent (silence_of self.entry) (reference_of reference.now) fault }
-        ensures no { result ≡ false → IsSilent (silence_of self.entry) (reference_of reference.now) fault → ⊥ }
+    /// Whether nothing is told of a reference to this name that is refused so.
+    pub(crate) fn is_silent(self, target: Name, fault: Fault) -> bool
+        ensures yes { result ≡ true → IsSilent (silence_of self.entry) target fault }
+        ensures no { result ≡ false → IsSilent (silence_of self.entry) target fault → ⊥ }
     {
-        if self.names.contains(&reference.need.target.0) {
+        if self.names.contains(&target.0) {
             return true;
         }
-        if self.passed.contains(&reference.need.target.0) {
+        if self.passed.contains(&target.0) {
             return true;
         }
         self.is_broken && fault == Fault::Dangling

@@ -26,8 +26,8 @@ pub(crate) struct Sought {
     pub stretch: Stretch,
 }
 
-/// Looks for where the reading goes on in the next piece, and lists the statement where it does. Where it goes on, or ends, so many bytes of the
-/// piece are read. Else the seeker has taken all of them.
+/// Looks for where the reading goes on in the next piece, and lists the statement where it does. Where it goes on, or ends, so many bytes
+/// of the piece are read. Else the seeker has taken all of them.
 ///
 /// # Errors
 ///

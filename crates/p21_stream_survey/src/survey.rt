@@ -1,14 +1,15 @@
 //! A survey of a file that comes in pieces, from one statement to the next.
 ghost use Rattle.std.specs.Prelude.{◌≡◌, ◌+◌, ◌≤◌, ◌<◌, ◌^◌, ◌++◌, ◌↔◌, IfOk, IsTrue, List, OnOk, drop, length, ℕ};
 ghost use Rattle.p21_stream_log.specs.Log.{Known};
+ghost use Rattle.p21_spec_survey.specs.Rules.{by_itself, of_schema};
 ghost use Rattle.p21_stream_survey.specs.Course.{Course, Feeds, HasListEnded, asked_for};
+ghost use Rattle.p21_stream_survey.specs.Keeping.{KeepsNothing, rules_by};
 ghost use Rattle.p21_stream_survey.specs.Walking.{Goes};
 
-use crate::judging::Judge;
+use crate::keeper::Keeper;
 use crate::listing::Listing;
 use crate::stage::Stage;
 use p21_schema::Schema;
-use p21_shorter_instances::Taker;
 use p21_stream_log::Log;
 use p21_values::{Limits, NoMemory};
 use std::alloc::Global;
@@ -18,15 +19,13 @@ use std::mem;
 #[derive(Drop)]
 pub struct Survey<'a> {
     pub(crate) alloc: Global,
-    pub(crate) schema: &'a Schema,
     pub(crate) limits: Limits,
     // How many refusals are asked for.
     pub(crate) most: u64,
     pub(crate) log: Log,
-    pub(crate) judge: Judge<'a>,
+    // What judges the statements, and keeps them.
+    pub(crate) keeper: Keeper<'a>,
     pub(crate) listing: Listing,
-    // What takes instances straight from their bytes.
-    pub(crate) taker: Taker,
     pub(crate) stage: Stage,
 }
 
@@ -38,8 +37,8 @@ pub(crate) struct Next {
 }
 
 impl<'a> Survey<'a> {
-    /// A survey of a file of which nothing is read, up to so many refusals; one is listed where none is asked for. Where these stand is noted
-    /// if that is asked for. It takes no memory.
+    /// A survey by the rules of a schema of a file of which nothing is read, up to so many refusals; one is listed where none is asked for.
+    /// Where these stand is noted if that is asked for. It takes no memory.
     pub fn new(
         alloc: Global,
         schema: &'a Schema,
@@ -48,7 +47,46 @@ impl<'a> Survey<'a> {
         are_places_asked: bool,
     ) -> Survey<'a>
         ensures course { (known : Known) → length known.bytes < 2 ^ 64 → Course known result known.bytes }
-        ensures schema { result.schema.now ≡ schema.now }
+        ensures rules { rules_by result ≡ of_schema schema.now }
+        ensures limits { result.limits ≡ limits }
+        ensures most { result.most ≡ asked_for most }
+    {
+        Survey::by(
+            alloc,
+            Keeper::of_schema(alloc, schema),
+            limits,
+            most,
+            are_places_asked,
+        )
+    }
+
+    /// The same by what the standard says of a file by itself.
+    pub fn by_itself(alloc: Global, limits: Limits, most: u64, are_places_asked: bool) -> Survey<'a>
+        ensures course { (known : Known) → length known.bytes < 2 ^ 64 → Course known result known.bytes }
+        ensures rules { rules_by result ≡ by_itself }
+        ensures limits { result.limits ≡ limits }
+        ensures most { result.most ≡ asked_for most }
+    {
+        Survey::by(
+            alloc,
+            Keeper::by_itself(alloc),
+            limits,
+            most,
+            are_places_asked,
+        )
+    }
+
+    /// A survey of a file of which nothing is read or kept.
+    fn by(
+        alloc: Global,
+        keeper: Keeper<'a>,
+        limits: Limits,
+        most: u64,
+        are_places_asked: bool,
+    ) -> Survey<'a>
+        requires keeps { KeepsNothing keeper }
+        ensures course { (known : Known) → length known.bytes < 2 ^ 64 → Course known result known.bytes }
+        ensures keeper { result.keeper ≡ keeper.entry }
         ensures limits { result.limits ≡ limits }
         ensures most { result.most ≡ asked_for most }
     {
@@ -56,13 +94,11 @@ impl<'a> Survey<'a> {
         let _counted = most_bytes(limits);
         Survey {
             alloc,
-            schema,
             limits,
             most: at_least_one(most),
             log: Log::new(alloc, limits),
-            judge: Judge::new(alloc, schema),
+            keeper,
             listing: Listing::new(alloc, are_places_asked),
-            taker: Taker::new(alloc),
             stage: Stage::Reading,
         }
     }

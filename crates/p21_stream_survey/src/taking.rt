@@ -3,10 +3,9 @@ ghost use Rattle.std.specs.Prelude.{◌≡◌, ◌≤◌, ◌<◌, [], IfOk, IfS
 ghost use Rattle.p21_stream_survey.specs.Course.{IsUnderWay};
 ghost use Rattle.p21_stream_survey.specs.Taking.{TakesInstances};
 
+use crate::keeper::JudgedInstance;
 use crate::stage::Stage;
 use crate::survey::{Next, Survey};
-use p21_shorter_instances::GivenUp;
-use p21_stream_kept::FoundInstance;
 use p21_values::NoMemory;
 
 impl<'a> Survey<'a> {
@@ -54,29 +53,13 @@ impl<'a> Survey<'a> {
         ensures within { IfOk result (λ taken. IfSome taken (λ next. next.count ≤ length rest.now)) }
         ensures takes { IfOk result (λ taken. TakesInstances self.old rest.now taken self.new) }
     {
-        let taken = match self.taker.take(self.schema, rest) {
+        let taken = match self.keeper.take_instance(&mut self.log, self.limits, rest) {
             Ok(taken) => taken,
-            Err(GivenUp::NotUsual) => return Ok(None),
-            Err(GivenUp::NoMemory) => return Err(NoMemory),
-        };
-        let count = taken.count;
-        let Some(found) = self.taker.found(taken) else {
-            return Ok(None);
-        };
-        let passed = match self.log.pass_over(&rest[..count]) {
-            Ok(passed) => passed,
             Err(NoMemory) => return Err(NoMemory),
         };
-        if !passed {
+        let Some(JudgedInstance { count, judgement }) = taken else {
             return Ok(None);
-        }
-        let instance = FoundInstance {
-            name: found.name,
-            entities: found.entities,
-            line: found.line,
-            needs: found.needs,
         };
-        let judgement = self.judge.judge_found(self.schema, self.limits, &instance);
         match self.follow(judgement) {
             Ok(again) => Ok(Some(Next { count, again })),
             Err(NoMemory) => Err(NoMemory),

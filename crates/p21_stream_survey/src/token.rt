@@ -21,8 +21,8 @@ pub(crate) fn window_of(rest: &[u8]) -> &[u8]
     &rest[..WINDOW]
 }
 
-/// Takes some of these bytes: a token that waited for the byte behind it, and then the next one, or else one. With the `;` of a statement it
-/// gives the statement.
+/// Takes some of these bytes: a token that waited for the byte behind it, and then the next one, or else one. With the `;` of a statement
+/// it gives the statement.
 ///
 /// # Errors
 ///

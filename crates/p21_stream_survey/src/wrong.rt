@@ -18,7 +18,8 @@ pub(crate) struct Wrong {
     pub begins: u64,
 }
 
-/// Passes over an instance that has ended and is refused, with a signpost in a string of it, by its bytes, and lists it where the reading goes on.
+/// Passes over an instance that has ended and is refused, with a signpost in a string of it, by its bytes, and lists it where the reading
+/// goes on.
 ///
 /// # Errors
 ///

@@ -6,5 +6,6 @@ pub mod Pieces
 pub mod Adding
 pub mod Names
 pub mod Taking
+pub mod RefusedAlone
 pub mod Walking
 pub mod Feeding

@@ -24,17 +24,17 @@ use Rattle.p21_spec_laws.specs.Taken.{headings_among, instances_among}
 use Rattle.p21_spec_schema.specs.Express.{IsIdentifierByte, upper}
 use Rattle.p21_spec_schema.specs.SchemaName.{NamesSchema}
 use Rattle.p21_spec_syntax.proofs.IllFormed.{early-section, name-again, no-name, other-name, other-section, section-again}
-use Rattle.p21_spec_syntax.specs.WellFormedFile.{BeginsWithName, names_of, references_of}
+use Rattle.p21_spec_syntax.specs.WellFormedFile.{BeginsWithName, names_of}
 use Rattle.p21_stream_statements.specs.declared.fault.Fault.{Fault}
 use Rattle.p21_stream_statements.specs.declared.fault.Fault.TheVariants.{DuplicateName, SchemaName, SectionTwice}
 use Rattle.p21_stream_syntax.specs.Given.{AreInstances, AreSections, IsOfSchema, IsSchemaOf, Keeps, Kept, Takes, TakesPart, TakesSchema}
-use Rattle.p21_stream_syntax.specs.Waiting.{Adds, Drops}
+use Rattle.p21_stream_syntax.specs.Waiting.{Adds, Claim, Drops, claims_among, claims_of}
 use Rattle.p21_syntax_words.proofs.Counting.{none-counted}
 use Rattle.p21_syntax_words.specs.KeywordCounts.{AreCounts, keywords_of, record_keywords}
 
 -- ---- nothing taken
 
-pub keeps-nothing : Keeps [] (record { header = []; schema = []; sections = []; names = []; targets = []; counts = [] })
+pub keeps-nothing : Keeps [] (record { header = []; schema = []; sections = []; names = []; waiting = []; counts = [] })
 unfolding IsDistinct
 keeps-nothing = record {
   header_is = refl;
@@ -81,7 +81,7 @@ stands-part (section line ∷ sts) p among = elim (Contains-cases (section line)
 stands-part (instance n r ∷ sts) p among = elim (Contains-cases (instance n r) sts (header p) among)
     [ inl same ↦ cc | inr far ↦ stands-part sts p far ]
 
-last-stands : (given : List Statement) (st : Statement) → Contains (given ++ st ∷ []) st
+pub last-stands : (given : List Statement) (st : Statement) → Contains (given ++ st ∷ []) st
 last-stands given st = Contains-append_right given (st ∷ []) st (Contains-first st [])
 
 -- a text that begins with a name doesn't name the empty one
@@ -110,7 +110,7 @@ keeps-section given old line sections keeps same are =
       schema = subst (λ (ps : List Part). IsSchemaOf ps old.schema) parts keeps.schema;
       sections_are = sym same;
       sections = subst (AreSections old.schema) (sym same) are;
-      instances = subst (λ (is : List (ℕ × Record)). AreInstances is old.names old.targets) instances keeps.instances;
+      instances = subst (λ (is : List (ℕ × Record)). AreInstances is old.names old.waiting) instances keeps.instances;
       keywords = subst (λ (is : List (ℕ × Record)). AreCounts (keywords_of is) old.counts) instances keeps.keywords;
     }
 
@@ -210,7 +210,7 @@ keeps-header given old part schema keeps is are =
       schema = subst (λ (ps : List Part). IsSchemaOf ps schema) parts is;
       sections_are = keeps.sections_are ∙ headings;
       sections = subst (AreSections schema) headings are;
-      instances = subst (λ (is : List (ℕ × Record)). AreInstances is old.names old.targets) instances keeps.instances;
+      instances = subst (λ (is : List (ℕ × Record)). AreInstances is old.names old.waiting) instances keeps.instances;
       keywords = subst (λ (is : List (ℕ × Record)). AreCounts (keywords_of is) old.counts) instances keeps.keywords;
     }
 
@@ -330,16 +330,16 @@ refused-part old new part schema fault gives = other-schema old new part gives.0
 
 -- ---- instances
 
--- a reference to the name waits, or it is that of an instance
-abbrev Served : List (ℕ × Record) → List ℕ → ℕ → Type 0
-Served instances waiting m = Contains waiting m ⊎ Contains (names_of instances) m
+-- a reference waits, or it is to an instance
+abbrev Served : List (ℕ × Record) → List Claim → Claim → Type 0
+Served instances waiting c = Contains waiting c ⊎ Contains (names_of instances) c.1
 
-module _ (old : Kept) (n : ℕ) (r : Record) (names targets added : List ℕ) (counts : List (List ℕ × ℕ))
+module _ (old : Kept) (n : ℕ) (r : Record) (names : List ℕ) (waiting added : List Claim) (counts : List (List ℕ × ℕ))
     (names_are : (m : ℕ) → Contains names m ↔ ((n ≡ m) ⊎ Contains old.names m)) (as_many : length names ≡ length old.names + 1)
     (another : ¬ Contains old.names n)
-    (adds : Adds names (record_references r) old.targets added) (drops : Drops names added targets)
+    (adds : Adds names (claims_of n (record_references r)) old.waiting added) (drops : Drops names added waiting)
     (counted : (words : List (List ℕ)) → AreCounts words old.counts → AreCounts (words ++ record_keywords r) counts) where
-  module _ (instances : List (ℕ × Record)) (are : AreInstances instances old.names old.targets) where
+  module _ (instances : List (ℕ × Record)) (are : AreInstances instances old.names old.waiting) where
     abbrev all : List (ℕ × Record)
     all = instances ++ (n, r) ∷ []
 
@@ -347,9 +347,9 @@ module _ (old : Kept) (n : ℕ) (r : Record) (names targets added : List ℕ) (c
     names-behind : names_of all ≡ names_of instances ++ n ∷ []
     names-behind = map-append (λ (i : ℕ × Record). i.0) instances ((n, r) ∷ [])
 
-    references-behind : references_of all ≡ references_of instances ++ record_references r
-    references-behind = flat_map-append (λ (i : ℕ × Record). record_references i.1) instances ((n, r) ∷ [])
-        ∙ ap (λ (l : List ℕ). references_of instances ++ l) (append-nil (record_references r))
+    claims-behind : claims_among all ≡ claims_among instances ++ claims_of n (record_references r)
+    claims-behind = flat_map-append (λ (i : ℕ × Record). claims_of i.0 (record_references i.1)) instances ((n, r) ∷ [])
+        ∙ ap (λ (l : List Claim). claims_among instances ++ l) (append-nil (claims_of n (record_references r)))
 
     to-all : (m : ℕ) → Contains names m → Contains (names_of all) m
     to-all m among = subst (λ (l : List ℕ). Contains l m) (sym names-behind) (elim ((names_are m).0 among) [
@@ -364,51 +364,54 @@ module _ (old : Kept) (n : ℕ) (r : Record) (names targets added : List ℕ) (c
           | inr last ↦ elim (Contains-cases n [] m last) [ inl same ↦ inl same | inr none ↦ absurd (Contains-none m none) ]
         ])
 
-    dropped : (m : ℕ) → Served all added m → Served all targets m
+    dropped : (m : Claim) → Served all added m → Served all waiting m
     dropped m served = elim served [
-      | inl among ↦ elim (Each-member (λ (k : ℕ). Contains targets k ⊎ Contains names k) added m drops.others_given among)
-          [ inl left ↦ inl left | inr given ↦ inr (to-all m given) ]
+      | inl among ↦ elim (Each-member (λ (k : Claim). Contains waiting k ⊎ Contains names k.1) added m drops.others_given among)
+          [ inl left ↦ inl left | inr given ↦ inr (to-all m.1 given) ]
       | inr given ↦ inr given
     ]
 
-    old-served : (m : ℕ) → Contains old.targets m ⊎ Contains (names_of instances) m → Served all added m
+    old-served : (m : Claim) → Contains old.waiting m ⊎ Contains (names_of instances) m.1 → Served all added m
     old-served m served = elim served [
-      | inl among ↦ inl (subst (λ (l : List ℕ). Contains l m) (sym adds.new_is) (Contains-append_left old.targets adds.more m among))
-      | inr given ↦ inr (subst (λ (l : List ℕ). Contains l m) (sym names-behind)
-          (Contains-append_left (names_of instances) (n ∷ []) m given))
+      | inl among ↦ inl (subst (λ (l : List Claim). Contains l m) (sym adds.new_is) (Contains-append_left old.waiting adds.more m among))
+      | inr given ↦ inr (subst (λ (l : List ℕ). Contains l m.1) (sym names-behind)
+          (Contains-append_left (names_of instances) (n ∷ []) m.1 given))
     ]
 
-    new-served : (m : ℕ) → Contains adds.more m ⊎ Contains names m → Served all added m
+    new-served : (m : Claim) → Contains adds.more m ⊎ Contains names m.1 → Served all added m
     new-served m served = elim served [
-      | inl among ↦ inl (subst (λ (l : List ℕ). Contains l m) (sym adds.new_is) (Contains-append_right old.targets adds.more m among))
-      | inr given ↦ inr (to-all m given)
+      | inl among ↦ inl (subst (λ (l : List Claim). Contains l m) (sym adds.new_is) (Contains-append_right old.waiting adds.more m among))
+      | inr given ↦ inr (to-all m.1 given)
     ]
 
-    added-references : Each (Contains (references_of all)) added
-    added-references = subst (Each (Contains (references_of all))) (sym adds.new_is)
-        (Each-append (Contains (references_of all)) old.targets adds.more
-        (Each-weaker (Contains (references_of instances)) (Contains (references_of all))
-        (λ m among. subst (λ (l : List ℕ). Contains l m) (sym references-behind)
-        (Contains-append_left (references_of instances) (record_references r) m among)) old.targets are.are_references)
-        (Each-weaker (Contains (record_references r)) (Contains (references_of all))
-        (λ m among. subst (λ (l : List ℕ). Contains l m) (sym references-behind)
-        (Contains-append_right (references_of instances) (record_references r) m among)) adds.more adds.are_added))
+    abbrev own : List Claim
+    own = claims_of n (record_references r)
 
-    all-are : AreInstances all names targets
+    added-claims : Each (Contains (claims_among all)) added
+    added-claims = subst (Each (Contains (claims_among all))) (sym adds.new_is)
+        (Each-append (Contains (claims_among all)) old.waiting adds.more
+        (Each-weaker (Contains (claims_among instances)) (Contains (claims_among all))
+        (λ m among. subst (λ (l : List Claim). Contains l m) (sym claims-behind)
+        (Contains-append_left (claims_among instances) own m among)) old.waiting are.are_references)
+        (Each-weaker (Contains own) (Contains (claims_among all))
+        (λ m among. subst (λ (l : List Claim). Contains l m) (sym claims-behind)
+        (Contains-append_right (claims_among instances) own m among)) adds.more adds.are_added))
+
+    all-are : AreInstances all names waiting
     all-are = record {
       names_are = λ m. (to-all m, from-all m);
       as_many = (let before = are.as_many in let size = length-append instances ((n, r) ∷ []) in omega (arith, as_many, before, size));
       names_differ = none_twice-distinct (names_of all) (subst NoneTwice (sym names-behind)
           (NoneTwice-more (names_of instances) n (distinct-none_twice (names_of instances) are.names_differ)
           (λ among. another ((are.names_are n).1 among))));
-      are_references = Each-weaker (Contains added) (Contains (references_of all))
-          (λ m among. Each-member (Contains (references_of all)) added m added-references among) targets drops.are_old;
-      others_given = subst (Each (Served all targets)) (sym references-behind)
-          (Each-append (Served all targets) (references_of instances) (record_references r)
-          (Each-weaker (λ (m : ℕ). Contains old.targets m ⊎ Contains (names_of instances) m) (Served all targets)
-          (λ m served. dropped m (old-served m served)) (references_of instances) are.others_given)
-          (Each-weaker (λ (m : ℕ). Contains adds.more m ⊎ Contains names m) (Served all targets)
-          (λ m served. dropped m (new-served m served)) (record_references r) adds.others_given));
+      are_references = Each-weaker (Contains added) (Contains (claims_among all))
+          (λ m among. Each-member (Contains (claims_among all)) added m added-claims among) waiting drops.are_old;
+      others_given = subst (Each (Served all waiting)) (sym claims-behind)
+          (Each-append (Served all waiting) (claims_among instances) own
+          (Each-weaker (λ (m : Claim). Contains old.waiting m ⊎ Contains (names_of instances) m.1) (Served all waiting)
+          (λ m served. dropped m (old-served m served)) (claims_among instances) are.others_given)
+          (Each-weaker (λ (m : Claim). Contains adds.more m ⊎ Contains names m.1) (Served all waiting)
+          (λ m served. dropped m (new-served m served)) own adds.others_given));
     }
 
     all-counted : AreCounts (keywords_of instances) old.counts → AreCounts (keywords_of all) counts
@@ -418,7 +421,7 @@ module _ (old : Kept) (n : ℕ) (r : Record) (names targets added : List ℕ) (c
         ∙ ap (λ (l : List (List ℕ)). keywords_of instances ++ l) (append-nil (record_keywords r)) in
         subst (λ (l : List (List ℕ)). AreCounts l counts) (sym behind) (counted (keywords_of instances) before)
 
-  pub took-instance : Takes old (instance n r) (Ok tt) (record old { names = names; targets = targets; counts = counts })
+  pub took-instance : Takes old (instance n r) (Ok tt) (record old { names = names; waiting = waiting; counts = counts })
   took-instance given keeps =
       let parts : parts_among given ≡ parts_among (given ++ instance n r ∷ []) =
       sym (parts-append given (instance n r ∷ []) ∙ append-nil (parts_among given)) in
@@ -431,7 +434,7 @@ module _ (old : Kept) (n : ℕ) (r : Record) (names targets added : List ℕ) (c
         schema = subst (λ (ps : List Part). IsSchemaOf ps old.schema) parts keeps.schema;
         sections_are = keeps.sections_are ∙ headings;
         sections = subst (AreSections old.schema) headings keeps.sections;
-        instances = subst (λ (is : List (ℕ × Record)). AreInstances is names targets) instances
+        instances = subst (λ (is : List (ℕ × Record)). AreInstances is names waiting) instances
             (all-are (instances_among given) keeps.instances);
         keywords = subst (λ (is : List (ℕ × Record)). AreCounts (keywords_of is) counts) instances
             (all-counted (instances_among given) keeps.instances keeps.keywords);

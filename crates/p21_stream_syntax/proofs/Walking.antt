@@ -1,23 +1,25 @@
 -- A file that is read by itself, token by token and piece by piece, and its end.
-use Rattle.std.proofs.Common.{◌≡◌, ◌≤◌, ◌<◌, ◌⊎◌, ◌+◌, ◌^◌, ◌∙◌, ℕ, List, [], ◌∷◌, ◌++◌, Contains, length, take, drop, Some, None, Result, Ok, Err, append-nil, append_assoc, ap, arith, inl, inr, refl, subst, sym}
-use Rattle.std.proofs.lemmas.List.{take-append-drop}
+use Rattle.std.proofs.Common.{◌≡◌, ◌≤◌, ◌<◌, ◌⊎◌, ◌+◌, ◌^◌, ◌∙◌, ℕ, List, [], ◌∷◌, ◌++◌, Contains, length, map, take, drop, Some, None, Result, Ok, Err, append-nil, append_assoc, ap, arith, inl, inr, refl, subst, sym}
+use Rattle.std.proofs.lemmas.List.{map-append, take-append-drop}
 use Rattle.std.specs.List.{IsDistinct, AllByRecursion as Each}
 use Rattle.std.specs.Str.{bytes_eq}
 use Rattle.p21_grammar.specs.Statements.{statement_of}
 use Rattle.p21_grammar.specs.declared.event.Event.{Event}
 use Rattle.p21_grammar_tree.specs.View.{part_views}
-use Rattle.p21_spec_basics.proofs.Members.{Contains-first, Contains-later, Each-member, Each-weaker}
+use Rattle.p21_spec_basics.proofs.Members.{Contains-first, Contains-later, Contains-mapped, Each-member, Each-weaker}
 use Rattle.p21_spec_basics.specs.Limits.{Limits}
 use Rattle.p21_spec_exchange.specs.DataSection.{Heading, headings, instances_in, named, section_names, unnamed}
+use Rattle.p21_spec_exchange.specs.Grammar.{InGrammar}
 use Rattle.p21_spec_exchange.specs.Laying.{AreStatementsWithin, Laid}
 use Rattle.p21_spec_exchange.specs.Record.{Part, Record}
 use Rattle.p21_spec_exchange.specs.Statement.{Statement}
-use Rattle.p21_spec_exchange.specs.Structure.{Structure, tokens_of}
+use Rattle.p21_spec_exchange.specs.Structure.{Structure, statements as statements_in, tokens_of}
 use Rattle.p21_spec_file.specs.File.{HeadingNamesSchema}
 use Rattle.p21_spec_laws.proofs.Among.{parts-are}
 use Rattle.p21_spec_laws.proofs.Statements.{headings-are, instances-are}
 use Rattle.p21_spec_laws.specs.Among.{parts_among}
 use Rattle.p21_spec_laws.specs.Taken.{AreStatementsTaken, headings_among, instances_among}
+use Rattle.p21_spec_file.specs.Reference.{record_references}
 use Rattle.p21_spec_syntax.proofs.IllFormed.{missing-target}
 use Rattle.p21_spec_syntax.proofs.NoFiles.{no_file-begins, no_file-ill_formed}
 use Rattle.p21_spec_syntax.specs.WellFormedFile.{BeginsIllFormed, IsWellFormedFile, names_of, references_of}
@@ -29,8 +31,10 @@ use Rattle.p21_stream_statements.specs.declared.refusal.Refusal.{Refusal}
 use Rattle.p21_stream_statements.specs.StatementReader as statements
 use Rattle.p21_stream_statements.specs.StatementReader.{AreWholeStatements, Held, StatementHistory, bytes_looked_at, limits_of}
 use Rattle.p21_stream_statements.proofs.Within.{given-few, source-within, statements-within}
+use Rattle.p21_stream_syntax.proofs.Adding.{HasCome}
 use Rattle.p21_stream_syntax.specs.Given.{AreInstances, IsOfSchema, Keeps, Kept, Takes}
-use Rattle.p21_stream_syntax.specs.Walk.{FinishGives, HasTaken, IsUnderWay, ReadGives, StepGives}
+use Rattle.p21_stream_syntax.specs.Waiting.{Claim, claims_among, claims_of}
+use Rattle.p21_stream_syntax.specs.Walk.{FinishGives, HasTaken, IsFoundOf, IsUnderWay, ReadGives, StepGives}
 use Rattle.p21_syntax_words.specs.KeywordCounts.{AreCounts, keywords_of}
 use Rattle.p21_stream_syntax.specs.declared.well_formed.WellFormed.{WellFormed}
 
@@ -198,75 +202,108 @@ names-schema : (schema : List ℕ) (h : Heading) → IsOfSchema schema h → Hea
 names-schema schema unnamed of = tt
 names-schema schema (named name text) of = of.1
 
-pub found-whole : (held : Held) (kept : Kept) (found : WellFormed) → statements.FinishGives held (Ok tt)
-    → Each (Contains kept.names) kept.targets → found.instances ≡ length kept.names → found.schema.items ≡ kept.schema
-    → part_views found.header.items ≡ kept.header → found.keywords ≡ kept.counts → FinishGives held kept (Ok found)
-found-whole held kept found ends given_all counted schema_is header_is counts_are limits bytes (given, live) =
-    let w : AreWholeStatements bytes given = ends (between bytes given) live.reads refl in
-    let t : Structure = w.whole.structure in
-    let laid : Laid bytes (tokens_of t) = tree-laid bytes given w in
-    let parts : parts_among given ≡ t.header = ap parts_among (sym w.whole.statements_are) ∙ parts-are t in
-    let heads : headings_among given ≡ headings t.sections = ap headings_among (sym w.whole.statements_are) ∙ headings-are t in
-    let instances : instances_among given ≡ instances_in t.sections = ap instances_among (sym w.whole.statements_are) ∙ instances-are t in
-    let are : AreInstances (instances_in t.sections) kept.names kept.targets =
-    subst (λ (is : List (ℕ × Record)). AreInstances is kept.names kept.targets) instances live.keeps.instances in
-    let h = w.whole.is_file.header in
+-- the references of instances are those that they have
+references-claimed : (instances : List (ℕ × Record)) → references_of instances ≡ map (λ (c : Claim). c.1) (claims_among instances)
+references-claimed [] = refl
+references-claimed ((n, r) ∷ instances) =
+    ap (λ (l : List ℕ). record_references r ++ l) (references-claimed instances)
+    ∙ ap (λ (l : List ℕ). l ++ map (λ (c : Claim). c.1) (claims_among instances)) (sym (own (record_references r)))
+    ∙ sym (map-append (λ (c : Claim). c.1) (claims_of n (record_references r)) (claims_among instances))
+  where
+    own : (targets : List ℕ) → map (λ (c : Claim). c.1) (claims_of n targets) ≡ targets
+    own [] = refl
+    own (t ∷ targets) = ap (λ (l : List ℕ). t ∷ l) (own targets)
+
+pub claim-reference : (instances : List (ℕ × Record)) (c : Claim) → Contains (claims_among instances) c → Contains (references_of instances) c.1
+claim-reference instances c among =
+    subst (λ (l : List ℕ). Contains l c.1) (sym (references-claimed instances))
+    (Contains-mapped (λ (d : Claim). d.1) (claims_among instances) c among)
+
+references-come : (names : List ℕ) (instances : List (ℕ × Record)) → Each (HasCome names) (claims_among instances)
+    → Each (Contains names) (references_of instances)
+references-come names instances come =
+    subst (Each (Contains names)) (sym (references-claimed instances)) (each (claims_among instances) come)
+  where
+    each : (claims : List Claim) → Each (HasCome names) claims → Each (Contains names) (map (λ (c : Claim). c.1) claims)
+    each [] come_ = tt
+    each (c ∷ claims) come_ = (come_.0, each claims come_.1)
+
+-- bytes that are a tree with these statements are well formed, where all references have come; and what is kept is so
+pub kept-found : (limits : Limits) (bytes : List ℕ) (given : List Statement) (kept : Kept) (t : Structure) (text : List ℕ)
+    (found : WellFormed) → Keeps given kept → (in_grammar : InGrammar bytes t text) → statements_in t ≡ given
+    → length bytes ≤ limits.file_source → AreStatementsWithin limits.record_source 0 in_grammar.laid.lexemes
+    → Each (HasCome kept.names) kept.waiting → found.instances ≡ length kept.names → found.schema.items ≡ kept.schema
+    → part_views found.header.items ≡ kept.header → found.keywords ≡ kept.counts → IsFoundOf limits bytes found
+kept-found limits bytes given kept t text found keeps in_grammar same short within given_all counted schema_is header_is counts_are =
+    let parts : parts_among given ≡ t.header = ap parts_among (sym same) ∙ parts-are t in
+    let heads : headings_among given ≡ headings t.sections = ap headings_among (sym same) ∙ headings-are t in
+    let instances : instances_among given ≡ instances_in t.sections = ap instances_among (sym same) ∙ instances-are t in
+    let are : AreInstances (instances_in t.sections) kept.names kept.waiting =
+    subst (λ (is : List (ℕ × Record)). AreInstances is kept.names kept.waiting) instances keeps.instances in
+    let h = in_grammar.is_file.header in
     let third : Contains t.header h.file_schema =
     subst (λ (ps : List Part). Contains ps h.file_schema) (sym h.header_is)
     (Contains-later h.file_description (h.file_name ∷ h.file_schema ∷ h.further) h.file_schema
     (Contains-later h.file_name (h.file_schema ∷ h.further) h.file_schema (Contains-first h.file_schema h.further))) in
-    let (begins, names) = live.keeps.schema.each_names h.file_schema w.whole.text
+    let (begins, names) = keeps.schema.each_names h.file_schema text
     (subst (λ (ps : List Part). Contains ps h.file_schema) (sym parts) third) h.is_file_schema in
     let of_schema : Each (HeadingNamesSchema kept.schema) (headings t.sections) =
     subst (Each (HeadingNamesSchema kept.schema)) heads
     (Each-weaker (IsOfSchema kept.schema) (HeadingNamesSchema kept.schema) (names-schema kept.schema) (headings_among given)
-    live.keeps.sections.of_schema) in
-    let short = source-within held (between bytes given) live.reads in
-    let limit : (limits_of held).1 ≡ limits.file_source = ap (λ p. p.1) live.limits_are in
-    let within : AreStatementsWithin limits.record_source 0 laid.lexemes =
-    subst (λ (most : ℕ). AreStatementsWithin most 0 w.laid.lexemes) (ap (λ p. p.0) live.limits_are)
-    (statements-within held (between bytes given) live.reads refl w) in
+    keeps.sections.of_schema) in
     let own = subst (λ (s : List ℕ). IsWellFormedFile limits bytes t s) (sym schema_is) (record {
-      schema_text = w.whole.text;
-      file = record {
-        in_grammar = record { laid = laid; is_file = w.whole.is_file };
-        file_within =
-            (omega (arith, short, limit));
-        statements_within = within;
-      };
+      schema_text = text;
+      file = record { in_grammar = in_grammar; file_within = short; statements_within = within };
       begins_with_name = begins;
       names_schema = names;
       sections_name_schema = of_schema;
-      section_names_differ = subst (λ (hs : List Heading). IsDistinct bytes_eq (section_names hs)) heads live.keeps.sections.names_differ;
+      section_names_differ = subst (λ (hs : List Heading). IsDistinct bytes_eq (section_names hs)) heads keeps.sections.names_differ;
       names_differ = are.names_differ;
-      references_given = Each-weaker (λ (n : ℕ). Contains kept.targets n ⊎ Contains (names_of (instances_in t.sections)) n)
-          (Contains (names_of (instances_in t.sections)))
-          (λ n served. elim served [
-            | inl waits ↦ (are.names_are n).0
-                (Each-member (Contains kept.names) kept.targets n given_all waits)
+      references_given = references-come (names_of (instances_in t.sections)) (instances_in t.sections)
+          (Each-weaker (λ (c : Claim). Contains kept.waiting c ⊎ Contains (names_of (instances_in t.sections)) c.1)
+          (HasCome (names_of (instances_in t.sections)))
+          (λ c served. elim served [
+            | inl waits ↦ (are.names_are c.1).0
+                (Each-member (HasCome kept.names) kept.waiting c given_all waits)
             | inr given ↦ given
           ])
-          (references_of (instances_in t.sections)) are.others_given;
+          (claims_among (instances_in t.sections)) are.others_given);
     }) in
     record {
       structure = t;
       well_formed = own;
       instances_are = counted ∙ are.as_many;
-      header_is = header_is ∙ live.keeps.header_is ∙ parts;
+      header_is = header_is ∙ keeps.header_is ∙ parts;
       keywords_are = subst (AreCounts (keywords_of (instances_in t.sections))) (sym counts_are)
-          (subst (λ (is : List (ℕ × Record)). AreCounts (keywords_of is) kept.counts) instances live.keeps.keywords);
+          (subst (λ (is : List (ℕ × Record)). AreCounts (keywords_of is) kept.counts) instances keeps.keywords);
     }
+
+pub found-whole : (held : Held) (kept : Kept) (found : WellFormed) → statements.FinishGives held (Ok tt)
+    → Each (HasCome kept.names) kept.waiting → found.instances ≡ length kept.names → found.schema.items ≡ kept.schema
+    → part_views found.header.items ≡ kept.header → found.keywords ≡ kept.counts → FinishGives held kept (Ok found)
+found-whole held kept found ends given_all counted schema_is header_is counts_are limits bytes (given, live) =
+    let w : AreWholeStatements bytes given = ends (between bytes given) live.reads refl in
+    let laid : Laid bytes (tokens_of w.whole.structure) = tree-laid bytes given w in
+    let short = source-within held (between bytes given) live.reads in
+    let limit : (limits_of held).1 ≡ limits.file_source = ap (λ p. p.1) live.limits_are in
+    let within : AreStatementsWithin limits.record_source 0 laid.lexemes =
+    subst (λ (most : ℕ). AreStatementsWithin most 0 w.laid.lexemes) (ap (λ p. p.0) live.limits_are)
+    (statements-within held (between bytes given) live.reads refl w) in
+    kept-found limits bytes given kept w.whole.structure w.whole.text found live.keeps
+    (record { laid = laid; is_file = w.whole.is_file }) w.whole.statements_are (omega (arith, short, limit)) within given_all counted
+    schema_is header_is counts_are
 
 pub finish-refused : (held : Held) (kept : Kept) (fault : Fault) (refusal : Refusal) → refusal.fault ≡ fault
     → statements.FinishGives held (Err fault) → FinishGives held kept (Err refusal)
 finish-refused held kept fault refusal is gives other limits bytes (given, live) =
     no_file-ill_formed limits bytes (gives (λ none. other (is ∙ none)) (between bytes given) live.reads refl)
 
-pub finish-missing : (held : Held) (kept : Kept) (refusal : Refusal) → statements.FinishGives held (Ok tt)
-    → (target : ℕ) × Contains kept.targets target × ¬ Contains kept.names target → FinishGives held kept (Err refusal)
-finish-missing held kept refusal ends (target, waits, none) other limits bytes (given, live) =
+pub finish-missing : (held : Held) (kept : Kept) (refusal : Refusal) (holder : ℕ) → statements.FinishGives held (Ok tt)
+    → (target : ℕ) × Contains kept.waiting (holder, target) × ¬ Contains kept.names target → FinishGives held kept (Err refusal)
+finish-missing held kept refusal holder ends (target, waits, none) other limits bytes (given, live) =
     let w : AreWholeStatements bytes given = ends (between bytes given) live.reads refl in
     let are = live.keeps.instances in
     missing-target limits bytes w.whole.structure given w.whole.statements_are (tree-laid bytes given w) target
-    (Each-member (Contains (references_of (instances_among given))) kept.targets target are.are_references waits)
+    (claim-reference (instances_among given) (holder, target)
+    (Each-member (Contains (claims_among (instances_among given))) kept.waiting (holder, target) are.are_references waits))
     (λ among. none ((are.names_are target).1 among))

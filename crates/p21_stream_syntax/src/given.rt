@@ -1,15 +1,16 @@
 //! What is kept of the statements of a file that is read by itself.
 ghost use Rattle.std.specs.List.{AllByRecursion as Each};
-ghost use Rattle.std.specs.Prelude.{◌≡◌, ℕ, Contains, IfErr, IfSome, IsNone, length};
+ghost use Rattle.std.specs.Prelude.{◌≡◌, ◌↔◌, ℕ, Contains, IfErr, IfSome, IsNone, IsTrue, length};
 ghost use Rattle.p21_spec_exchange.specs.DataSection.{heading_of};
 ghost use Rattle.p21_spec_exchange.specs.Statement.{data_start, header, instance, section};
 ghost use Rattle.p21_grammar.specs.Statements.{line_of, statement_of};
 ghost use Rattle.p21_grammar_tree.specs.View.{items_of, part_view, part_views, record_view, views};
 ghost use Rattle.p21_stream_statements.specs.Source.{IsOfBytes};
-ghost use Rattle.p21_stream_syntax.specs.Given.{Takes, kept_of, nothing_kept};
+ghost use Rattle.p21_stream_syntax.specs.Given.{Refuses, Takes, kept_of, nothing_kept};
+ghost use Rattle.p21_stream_syntax.specs.Waiting.{claims_in};
 
 use crate::known_schema::KnownSchema;
-use crate::references::Waiting;
+use crate::references::{Reference, Waiting};
 use crate::sections::Sections;
 use crate::shape::heading;
 use crate::well_formed::WellFormed;
@@ -24,7 +25,7 @@ use std::alloc::Global;
 /// The records of the header, the schema, the data sections, the names of the instances, the references that wait, and the
 /// keywords.
 #[derive(Drop)]
-pub(crate) struct Given {
+pub struct Given {
     alloc: Global,
     pub(crate) header: Vec<Part>,
     pub(crate) schema: KnownSchema,
@@ -36,7 +37,7 @@ pub(crate) struct Given {
 
 impl Given {
     /// Nothing. It takes no memory.
-    pub(crate) fn new(alloc: Global) -> Given
+    pub fn new(alloc: Global) -> Given
         ensures { kept_of result ≡ nothing_kept }
     {
         Given {
@@ -56,8 +57,9 @@ impl Given {
     ///
     /// `SchemaName` where a `FILE_SCHEMA` begins with no name, or a section names another schema; `SectionTwice`,
     /// `DuplicateName`, `NoMemory`.
-    pub(crate) fn take(&mut self, event: Event) -> Result<(), Fault>
+    pub fn take(&mut self, event: Event) -> Result<(), Fault>
         ensures gives { Takes (kept_of self.old) (statement_of event) result (kept_of self.new) }
+        ensures refuses { Refuses (kept_of self.old) (statement_of event) result }
         ensures kind { IfErr result (λ fault. IsOfBytes fault) }
     {
         match event {
@@ -69,8 +71,13 @@ impl Given {
     }
 
     /// Takes a section line without a name.
-    fn take_line(&mut self, line: Line) -> Result<(), Fault>
+    ///
+    /// # Errors
+    ///
+    /// `NoMemory`.
+    pub fn take_line(&mut self, line: Line) -> Result<(), Fault>
         ensures gives { Takes (kept_of self.old) (section (line_of line)) result (kept_of self.new) }
+        ensures refuses { Refuses (kept_of self.old) (section (line_of line)) result }
         ensures kind { IfErr result (λ fault. IsOfBytes fault) }
     {
         let Ok(()) = self.sections.begin(line) else {
@@ -80,9 +87,14 @@ impl Given {
     }
 
     /// Takes the line that begins a data section, by its record.
-    fn take_heading(&mut self, part: Part) -> Result<(), Fault>
+    ///
+    /// # Errors
+    ///
+    /// `SchemaName`, `SectionTwice`, `NoMemory`.
+    pub fn take_heading(&mut self, part: Part) -> Result<(), Fault>
         ensures gives { Takes (kept_of self.old) (section (data_start (heading_of (views (items_of part.params))))) result
             (kept_of self.new) }
+        ensures refuses { Refuses (kept_of self.old) (section (data_start (heading_of (views (items_of part.params))))) result }
         ensures kind { IfErr result (λ fault. IsOfBytes fault) }
     {
         let Some((name, text)) = heading(&part) else {
@@ -101,8 +113,13 @@ impl Given {
     }
 
     /// Takes a record of the header.
-    fn take_header(&mut self, part: Part) -> Result<(), Fault>
+    ///
+    /// # Errors
+    ///
+    /// `SchemaName`, `NoMemory`.
+    pub fn take_header(&mut self, part: Part) -> Result<(), Fault>
         ensures gives { Takes (kept_of self.old) (header (part_view part)) result (kept_of self.new) }
+        ensures refuses { Refuses (kept_of self.old) (header (part_view part)) result }
         ensures kind { IfErr result (λ fault. IsOfBytes fault) }
     {
         match self.schema.take(self.alloc, &part) {
@@ -116,8 +133,13 @@ impl Given {
     }
 
     /// Takes an instance: its name, the references to names that have not come, and its keywords.
-    fn take_instance(&mut self, name: Name, of: &Record) -> Result<(), Fault>
+    ///
+    /// # Errors
+    ///
+    /// `DuplicateName`, `NoMemory`.
+    pub fn take_instance(&mut self, name: Name, of: &Record) -> Result<(), Fault>
         ensures gives { Takes (kept_of self.old) (instance name (record_view of.now)) result (kept_of self.new) }
+        ensures refuses { Refuses (kept_of self.old) (instance name (record_view of.now)) result }
         ensures kind { IfErr result (λ fault. IsOfBytes fault) }
     {
         if self.names.has_name(name.0) {
@@ -136,17 +158,31 @@ impl Given {
         Ok(())
     }
 
+    /// Whether an instance of this name has come. It takes no memory.
+    pub fn has_name(&self, name: Name) -> bool
+        ensures { IsTrue result ↔ Contains (kept_of self.now).names name }
+    {
+        self.names.has_name(name.0)
+    }
+
+    /// The references that wait, in the order of the file: each one to a name that has not come is among them. It takes no memory.
+    pub fn waiting(&self) -> &[Reference]
+        ensures { claims_in result.now ≡ (kept_of self.now).waiting }
+    {
+        &self.waiting.references
+    }
+
     /// The instance that has the first reference in the file to a name that none has. It takes no memory.
     pub(crate) fn first_missing(&self) -> Option<Name>
-        ensures some { IfSome result (λ holder. (target : ℕ) × Contains (kept_of self.now).targets target
+        ensures some { IfSome result (λ holder. (target : ℕ) × Contains (kept_of self.now).waiting (holder, target)
             × ¬ Contains (kept_of self.now).names target) }
-        ensures none { IsNone result → Each (Contains (kept_of self.now).names) (kept_of self.now).targets }
+        ensures none { IsNone result → Each (λ claim. Contains (kept_of self.now).names claim.1) (kept_of self.now).waiting }
     {
         self.waiting.first_missing(&self.names)
     }
 
     /// What the file says of itself.
-    pub(crate) fn into_well_formed(self) -> WellFormed
+    pub fn into_well_formed(self) -> WellFormed
         ensures instances { result.instances ≡ length (kept_of self).names }
         ensures schema { result.schema.items ≡ (kept_of self).schema }
         ensures header { part_views result.header.items ≡ (kept_of self).header }

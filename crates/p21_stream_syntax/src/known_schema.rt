@@ -3,7 +3,7 @@ ghost use Rattle.std.specs.Prelude.{◌≡◌, ◌≢◌, ◌↔◌, [], IfErr, 
 ghost use Rattle.p21_spec_schema.specs.SchemaName.{NamesSchema};
 ghost use Rattle.p21_spec_syntax.specs.WellFormedFile.{BeginsWithName};
 ghost use Rattle.p21_stream_statements.specs.Source.{IsOfBytes};
-ghost use Rattle.p21_stream_syntax.specs.Given.{TakesPart, TakesSchema};
+ghost use Rattle.p21_stream_syntax.specs.Given.{IsOfSchemaText, TakesPart, TakesSchema};
 ghost use Rattle.p21_grammar_tree.specs.View.{part_view};
 
 use crate::schema_name::{names_schema, schema_name};
@@ -48,6 +48,7 @@ impl KnownSchema {
     pub(crate) fn take(&mut self, alloc: Global, part: &Part) -> Result<(), Fault>
         ensures gives { TakesPart self.old.name.items (part_view part.now) result self.new.name.items }
         ensures kind { IfErr result (λ fault. IsOfBytes fault) }
+        ensures of_text { IfErr result (λ fault. IsOfSchemaText fault) }
     {
         match schema_text(part) {
             Some(text) => self.take_text(alloc, text),
@@ -59,6 +60,7 @@ impl KnownSchema {
     fn take_text(&mut self, alloc: Global, text: &Text) -> Result<(), Fault>
         ensures gives { TakesSchema self.old.name.items text.now result self.new.name.items }
         ensures kind { IfErr result (λ fault. IsOfBytes fault) }
+        ensures of_text { IfErr result (λ fault. IsOfSchemaText fault) }
     {
         if !begins_with_name(text.chars()) {
             return Err(Fault::SchemaName);
@@ -79,6 +81,7 @@ impl KnownSchema {
         requires known { self.now.name.items ≢ [] }
         ensures gives { TakesSchema self.now.name.items text.now result self.now.name.items }
         ensures kind { IfErr result (λ fault. IsOfBytes fault) }
+        ensures of_text { IfErr result (λ fault. IsOfSchemaText fault) }
     {
         if self.is_named_by(text) {
             Ok(())

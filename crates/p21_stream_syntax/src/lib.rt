@@ -26,7 +26,9 @@ mod shape;
 mod walk;
 mod well_formed;
 
+pub use given::Given;
 pub use ill_formed::IllFormed;
 pub use p21_syntax_words::KeywordCounts;
 pub use reading::{syntax, syntax_located, syntax_of, syntax_of_located};
+pub use references::Reference;
 pub use well_formed::WellFormed;

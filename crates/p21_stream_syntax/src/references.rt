@@ -4,7 +4,7 @@ ghost use Rattle.std.specs.List.{AllByRecursion as Each};
 ghost use Rattle.p21_spec_file.specs.Reference.{param_references, record_references, references};
 ghost use Rattle.p21_grammar_tree.specs.View.{part_view, record_view, view, views};
 ghost use Rattle.p21_stream_store.specs.StoredInstance.{instance_names};
-ghost use Rattle.p21_stream_syntax.specs.Waiting.{Adds, Drops, parts_references, targets_of};
+ghost use Rattle.p21_stream_syntax.specs.Waiting.{Adds, Drops, claims_in, claims_of, parts_references};
 
 use p21_grammar_tree::{Param, Part, Record};
 use p21_stream_store::NamedMemberships;
@@ -16,9 +16,9 @@ const PATIENCE: usize = 1024;
 
 /// A reference to an instance that has not come, with the name of the instance that has it.
 #[derive(Clone, Copy)]
-pub(crate) struct Reference {
-    pub(crate) holder: Name,
-    pub(crate) target: Name,
+pub struct Reference {
+    pub holder: Name,
+    pub target: Name,
 }
 
 /// The references that wait, in the order of the file.
@@ -32,7 +32,7 @@ pub(crate) struct Waiting {
 impl Waiting {
     /// None. It takes no memory.
     pub(crate) fn new(alloc: Global) -> Waiting
-        ensures { targets_of result.references.items ≡ [] }
+        ensures { claims_in result.references.items ≡ [] }
     {
         Waiting {
             references: Vec::new(alloc),
@@ -51,8 +51,8 @@ impl Waiting {
         of: &Record,
         names: &NamedMemberships,
     ) -> Result<(), NoMemory>
-        ensures { OnOk result (Adds (instance_names names.now) (record_references (record_view of.now))
-            (targets_of self.old.references.items) (targets_of self.new.references.items)) }
+        ensures { OnOk result (Adds (instance_names names.now) (claims_of holder (record_references (record_view of.now)))
+            (claims_in self.old.references.items) (claims_in self.new.references.items)) }
     {
         match of {
             Record::Simple(part) => add_part(part, holder, names, &mut self.references),
@@ -63,7 +63,7 @@ impl Waiting {
     /// Drops the references to names that have come by now, where many wait. As many more may wait then as were left, and 1,024 at
     /// least, so that each is looked at a few times.
     pub(crate) fn look_again(&mut self, names: &NamedMemberships)
-        ensures { Drops (instance_names names.now) (targets_of self.old.references.items) (targets_of self.new.references.items) }
+        ensures { Drops (instance_names names.now) (claims_in self.old.references.items) (claims_in self.new.references.items) }
     {
         if self.references.len() <= self.due {
             return;
@@ -74,9 +74,9 @@ impl Waiting {
 
     /// The instance that has the first reference in the file to a name that has not come. It takes no memory.
     pub(crate) fn first_missing(&self, names: &NamedMemberships) -> Option<Name>
-        ensures some { IfSome result (λ holder. (target : ℕ) × Contains (targets_of self.now.references.items) target
+        ensures some { IfSome result (λ holder. (target : ℕ) × Contains (claims_in self.now.references.items) (holder, target)
             × ¬ Contains (instance_names names.now) target) }
-        ensures none { IsNone result → Each (Contains (instance_names names.now)) (targets_of self.now.references.items) }
+        ensures none { IsNone result → Each (λ claim. Contains (instance_names names.now) claim.1) (claims_in self.now.references.items) }
     {
         for index in 0..self.references.len() {
             let reference = self.references[index];
@@ -103,7 +103,7 @@ fn has_come(reference: &Reference, names: &NamedMemberships) -> bool
 
 /// Drops the references to names that have come. Those that are left stay in their order.
 fn drop_given(names: &NamedMemberships, waiting: &mut Vec<Reference>)
-    ensures { Drops (instance_names names.now) (targets_of waiting.old.items) (targets_of waiting.new.items) }
+    ensures { Drops (instance_names names.now) (claims_in waiting.old.items) (claims_in waiting.new.items) }
 {
     let mut left = 0;
     for index in 0..waiting.len() {
@@ -123,8 +123,8 @@ fn add_parts(
     names: &NamedMemberships,
     waiting: &mut Vec<Reference>,
 ) -> Result<(), NoMemory>
-    ensures { OnOk result (Adds (instance_names names.now) (parts_references parts.now) (targets_of waiting.old.items)
-        (targets_of waiting.new.items)) }
+    ensures { OnOk result (Adds (instance_names names.now) (claims_of holder (parts_references parts.now)) (claims_in waiting.old.items)
+        (claims_in waiting.new.items)) }
 {
     for part in parts {
         if let Err(fault) = add_part(part, holder, names, waiting) {
@@ -141,8 +141,8 @@ fn add_part(
     names: &NamedMemberships,
     waiting: &mut Vec<Reference>,
 ) -> Result<(), NoMemory>
-    ensures { OnOk result (Adds (instance_names names.now) (references (part_view part.now).params) (targets_of waiting.old.items)
-        (targets_of waiting.new.items)) }
+    ensures { OnOk result (Adds (instance_names names.now) (claims_of holder (references (part_view part.now).params)) (claims_in waiting.old.items)
+        (claims_in waiting.new.items)) }
 {
     add_listed(part.params.items(), holder, names, waiting)
 }
@@ -155,8 +155,8 @@ fn add_param(
     names: &NamedMemberships,
     waiting: &mut Vec<Reference>,
 ) -> Result<(), NoMemory>
-    ensures { OnOk result (Adds (instance_names names.now) (param_references (view param.now)) (targets_of waiting.old.items)
-        (targets_of waiting.new.items)) }
+    ensures { OnOk result (Adds (instance_names names.now) (claims_of holder (param_references (view param.now))) (claims_in waiting.old.items)
+        (claims_in waiting.new.items)) }
 {
     match param {
         Param::Name(target) => add_name(*target, holder, names, waiting),
@@ -180,8 +180,8 @@ fn add_listed(
     names: &NamedMemberships,
     waiting: &mut Vec<Reference>,
 ) -> Result<(), NoMemory>
-    ensures { OnOk result (Adds (instance_names names.now) (references (views params.now)) (targets_of waiting.old.items)
-        (targets_of waiting.new.items)) }
+    ensures { OnOk result (Adds (instance_names names.now) (claims_of holder (references (views params.now))) (claims_in waiting.old.items)
+        (claims_in waiting.new.items)) }
 {
     for i in 0..params.len() {
         if let Err(fault) = add_param(&params[i], holder, names, waiting) {
@@ -198,7 +198,7 @@ fn add_name(
     names: &NamedMemberships,
     waiting: &mut Vec<Reference>,
 ) -> Result<(), NoMemory>
-    ensures { OnOk result (Adds (instance_names names.now) (target ∷ []) (targets_of waiting.old.items) (targets_of waiting.new.items)) }
+    ensures { OnOk result (Adds (instance_names names.now) ((holder, target) ∷ []) (claims_in waiting.old.items) (claims_in waiting.new.items)) }
 {
     if names.has_name(target.0) {
         return Ok(());

@@ -1,4 +1,7 @@
-//! Files with broken statements, what is listed of each, and where.
+//! Files with broken statements, what is listed of each, and where: by a schema, and by itself.
+ghost use Rattle.std.specs.Prelude.{◌<◌, ◌^◌, length};
+ghost use Rattle.p21_stream_log.specs.Log.{Known};
+ghost use Rattle.p21_stream_survey.specs.Course.{Course};
 
 use p21_express::{Schema, read_schema};
 use p21_stream_statements::At;
@@ -72,16 +75,52 @@ const ROWS: Rows = &[
     ),
 ];
 
-/// What is found of a file that is read in two pieces, the first of so many bytes; or of these bytes, where a read failed behind them.
+/// What is listed by itself of a file of such instances: of records and of what serves a reference nothing is said.
+const ROWS_ALONE: Rows = &[
+    (
+        "#1=POINT(1.);\n#2=ANYTHING('b',(#1),LINK(#3));\n#3=(B(1)A());\n#4=LINK(#2);\n",
+        &[],
+    ),
+    // Names that are given twice, and references without a target.
+    (
+        "#1=A();\n#1=B(#9);\n#2=C(#1,#5,(#7));\n#3=D('#8');\n",
+        &[(40, 1), (56, 2), (56, 2)],
+    ),
+    ("#1=A(#2);\n#3=B(#01,#003);\n#02=C();\n", &[]),
+    // Statements that are broken, behind which no reference is said to have no target.
+    (
+        "#1=A(1.;\n#2=B(#9);\n#3=c();\n#4=D(#2);\n",
+        &[(20, 8), (1, 10)],
+    ),
+    (
+        "#1=A(1.E10000);\n#2=B(\"4\");\n#3=C();\n#3=D(#1);\n",
+        &[(8, 8), (9, 9), (40, 3)],
+    ),
+    ("#3=A('c,3.);\n#4=B(,4.);\n", &[(2, 8), (20, 9)]),
+    ("#1=A();\n/* #2=B();\n#3=C(#1);\n", &[(3, 9)]),
+];
+
+/// A survey of which nothing is read, by a schema or of a file by itself.
+fn begun(alloc: Global, schema: Option<&Schema>, limits: Limits) -> Survey<'_>
+    ensures { (known : Known) → length known.bytes < 2 ^ 64 → Course known result known.bytes }
+{
+    match schema {
+        Some(schema) => Survey::new(alloc, schema, limits, 1_000, true),
+        None => Survey::by_itself(alloc, limits, 1_000, true),
+    }
+}
+
+/// What is found of a file that is read in two pieces, the first of so many bytes; or of these bytes, where a read failed behind them. Without
+/// a schema it is what is found of the file by itself.
 fn survey_of(
     alloc: Global,
-    schema: &Schema,
+    schema: Option<&Schema>,
     limits: Limits,
     file: &[u8],
     cut: usize,
     has_failed: bool,
 ) -> Result<Found, NoMemory> {
-    let mut survey = Survey::new(alloc, schema, limits, 1_000, true);
+    let mut survey = begun(alloc, schema, limits);
     let cut = cut.min(file.len());
     match survey.feed(&file[..cut]) {
         Ok(()) => {}
@@ -113,10 +152,10 @@ fn number_of(at: At) -> u64 {
     }
 }
 
-/// Whether this is listed of a file of these instances, and the file is accepted exactly where nothing is.
+/// Whether this is listed of a file of these instances, and the file is right exactly where nothing is.
 fn is_listed(
     alloc: Global,
-    schema: &Schema,
+    schema: Option<&Schema>,
     instances: &str,
     wanted: &[(u8, u64)],
 ) -> Result<bool, NoMemory> {
@@ -127,25 +166,39 @@ fn is_listed(
     let limits = Limits::usual();
     let found = survey_of(alloc, schema, limits, file.as_bytes(), file.len(), false)?;
     let all = told(alloc, &found)?;
-    Ok(all.as_slice() == wanted && found.accepted.is_some() == wanted.is_empty())
+    let is_right = match schema {
+        Some(_) => found.accepted.is_some(),
+        None => found.well_formed.is_some(),
+    };
+    Ok(all.as_slice() == wanted && is_right == wanted.is_empty())
 }
 
 /// The first instances of whose file something else is listed.
-fn first_wrong(alloc: Global, rows: Rows) -> &'static str {
-    let Ok(schema) = read_schema(alloc, SCHEMA.as_bytes()) else {
-        return "the schema";
-    };
+fn first_wrong(alloc: Global, schema: Option<&Schema>, rows: Rows) -> &'static str {
     for (instances, wanted) in rows {
-        if is_listed(alloc, &schema, instances, wanted) != Ok(true) {
+        if is_listed(alloc, schema, instances, wanted) != Ok(true) {
             return instances;
         }
     }
     "none"
 }
 
+/// The first instances of whose file something else is listed by the schema.
+fn first_wrong_by_schema(alloc: Global, rows: Rows) -> &'static str {
+    let Ok(schema) = read_schema(alloc, SCHEMA.as_bytes()) else {
+        return "the schema";
+    };
+    first_wrong(alloc, Some(&schema), rows)
+}
+
 #[test]
 fn lists_what_is_refused(rt: HostRuntime) {
-    assert_eq!(rt; first_wrong(rt.alloc(), ROWS), "none");
+    assert_eq!(rt; first_wrong_by_schema(rt.alloc(), ROWS), "none");
+}
+
+#[test]
+fn lists_what_is_refused_of_a_file_by_itself(rt: HostRuntime) {
+    assert_eq!(rt; first_wrong(rt.alloc(), None, ROWS_ALONE), "none");
 }
 
 /// How a file ends behind its instances.
@@ -210,6 +263,17 @@ const WHOLE: Places = &[
     ),
 ];
 
+const WHOLE_ALONE: Places = &[
+    ("#1=point('a',1.);\n#2=POINT(2.);\n", &[3], &[(0, 18)]),
+    ("#1=A();\n/* a */ #1=B(1);\n", &[16], &[]),
+    (
+        "#1=A(1.;\n#2=B();\n#2=C(\"4\");\n#3=D();\n",
+        &[7, 23],
+        &[(0, 9), (17, 28)],
+    ),
+    ("#3=A('c,3.);\n#4=B(,4.);\n", &[5, 18], &[(0, 13), (13, 24)]),
+];
+
 const EARLY: Places = &[
     ("#1=POINT('a',1.);\n#2=POINT('b',2.", &[33], &[]),
     (
@@ -271,10 +335,7 @@ fn are_passed_over(found: &Found, stretches: &[(u64, u64)]) -> bool {
 }
 
 /// The first instances of whose file the refusals stand elsewhere, wherever it is cut in two.
-fn first_elsewhere(alloc: Global, rows: Places, end: End) -> &'static str {
-    let Ok(schema) = read_schema(alloc, SCHEMA.as_bytes()) else {
-        return "the schema";
-    };
+fn first_elsewhere(alloc: Global, schema: Option<&Schema>, rows: Places, end: End) -> &'static str {
     for (instances, places, stretches) in rows {
         let Ok(file) = file_of(alloc, instances, end) else {
             return "no memory";
@@ -282,7 +343,7 @@ fn first_elsewhere(alloc: Global, rows: Places, end: End) -> &'static str {
         for cut in 0..file.len() {
             let has_failed = end == End::Failed;
             let bytes = file.as_bytes();
-            let found = match survey_of(alloc, &schema, Limits::usual(), bytes, cut, has_failed) {
+            let found = match survey_of(alloc, schema, Limits::usual(), bytes, cut, has_failed) {
                 Ok(found) => found,
                 Err(NoMemory) => return "no memory",
             };
@@ -294,11 +355,36 @@ fn first_elsewhere(alloc: Global, rows: Places, end: End) -> &'static str {
     "none"
 }
 
+/// The same by the schema.
+fn first_elsewhere_by_schema(alloc: Global, rows: Places, end: End) -> &'static str {
+    let Ok(schema) = read_schema(alloc, SCHEMA.as_bytes()) else {
+        return "the schema";
+    };
+    first_elsewhere(alloc, Some(&schema), rows, end)
+}
+
 #[test]
 fn tells_where_statements_are_refused(rt: HostRuntime) {
-    assert_eq!(rt; first_elsewhere(rt.alloc(), WHOLE, End::Whole), "none");
-    assert_eq!(rt; first_elsewhere(rt.alloc(), EARLY, End::Early), "none");
-    assert_eq!(rt; first_elsewhere(rt.alloc(), FAILED, End::Failed), "none");
+    assert_eq!(rt;
+        first_elsewhere_by_schema(rt.alloc(), WHOLE, End::Whole),
+        "none"
+    );
+    assert_eq!(rt;
+        first_elsewhere_by_schema(rt.alloc(), EARLY, End::Early),
+        "none"
+    );
+    assert_eq!(rt;
+        first_elsewhere_by_schema(rt.alloc(), FAILED, End::Failed),
+        "none"
+    );
+}
+
+#[test]
+fn tells_where_statements_of_a_file_by_itself_are_refused(rt: HostRuntime) {
+    assert_eq!(rt;
+        first_elsewhere(rt.alloc(), None, WHOLE_ALONE, End::Whole),
+        "none"
+    );
 }
 
 /// Whether this alone is listed of a file with more bytes than it may have, in which a remark is open; and where that stands.
@@ -316,7 +402,7 @@ fn is_listed_of_remark(
     };
     let found = survey_of(
         alloc,
-        schema,
+        Some(schema),
         limits,
         file.as_bytes(),
         file.len(),

@@ -1,20 +1,18 @@
 use super::schemas::DEMO;
 use super::*;
-use p21_shorter_instances::{TakenInstance, Taker};
+use p21_shorter_instances::{Found, Taken, Taker};
 
-/// Whether an instance that was taken has entities, and this canonical line.
-fn has_line(taker: &Taker, taken: TakenInstance, wanted: &[u8]) -> bool {
-    match taker.found(taken) {
-        Some(found) => !found.entities.is_empty() && found.line == wanted,
-        None => false,
-    }
+/// Whether an instance that was taken has so many bytes, entities, and this canonical line.
+fn is_as_wanted(found: Found, count: usize, wanted: &[u8]) -> bool {
+    found.count == count && !found.entities.is_empty() && found.line == wanted
 }
 
 /// Whether an instance is taken whole straight from its bytes, with this canonical line.
 fn is_taken(alloc: Global, schema: &Schema, text: &[u8], wanted: &[u8]) -> bool {
     let mut taker = Taker::new(alloc);
-    match taker.take(schema, text) {
-        Ok(taken) => taken.count == text.len() && has_line(&taker, taken, wanted),
+    let mut taken = Taken::new(alloc);
+    match taker.take(schema, text, &mut taken) {
+        Ok(found) => is_as_wanted(found, text.len(), wanted),
         Err(_) => false,
     }
 }

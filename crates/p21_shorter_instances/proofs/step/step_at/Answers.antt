@@ -26,7 +26,15 @@ returns-in-Some c =
     let reduced =
     subst (λ (found : Option code.TypeUse). IfSome found (λ last. IsTypeUse s (type_use last) × ComesTo s type (type_use last)))
     c.in-Some.is c.in_ok-found-in-Stored.ensures in
-    (stored_place c.in-Stored.optional type, type_at, (type, refl, reduced.0, reduced.1))
+    let at = stored_place c.in-Stored.optional type in
+    (at, type_at, c.stored_step.ensures at (type, refl, reduced.0, reduced.1))
+
+pub stored_step-requires : goal.stored_step-requires
+stored_step-requires c =
+    let s = c.args.schema.now in
+    let type = type_use c.in-Stored.of.now in
+    (subst (λ (found : Option code.TypeUse). IfSome found (λ last. IsTypeUse s (type_use last) × ComesTo s type (type_use last)))
+    c.in-Some.is c.in_ok-found-in-Stored.ensures).0
 
 pub returns-in-None : goal.returns-in-None
 returns-in-None c =

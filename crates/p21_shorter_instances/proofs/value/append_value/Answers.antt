@@ -1,6 +1,8 @@
+use Rattle.std.proofs.Common.{arith}
 use Rattle.p21_spec_basics.proofs.Members.{rest_is}
 use Rattle.p21_shorter_instances.proofs.Leaving.{err-none, ok-some, ok-to}
 use Rattle.p21_shorter_instances.proofs.Joining.{known-at}
+use Rattle.p21_shorter_instances.proofs.RealElements.{reals-front, reals-known, reals-taken}
 use Rattle.p21_shorter_instances.proofs.Values.{needs-kept, placed-known, placed-taken, rest-taken, star-taken, step-known, step-taken}
 use Rattle.p21_shorter_instances.proofs.value.append_value.Goals as goal
 use Rattle.p21_values.proofs.Continuing.{continues-same}
@@ -23,6 +25,27 @@ pub returns-in-Stored-clause-some : goal.returns-in-Stored-clause-some
 returns-in-Stored-clause-some c =
     ok-to _ (λ rest. step-taken c.args.schema.now c.args.step.now _ _ _ c.args.bytes.now rest.now _ _ c.in-Stored.is
     c.base_of-base.ensures.has) c.append_stored.ensures.some
+
+pub append_all_reals-requires : goal.append_all_reals-requires
+append_all_reals-requires c = reals-known c.args.schema.now c.args.step.now _ c.in-Reals.is c.requires
+
+pub slice_bounds-result-count : goal.slice_bounds-result-count
+slice_bounds-result-count c =
+    (reals-front c.args.schema.now c.well_formed-in-Reals.ensures.types_distinct c.args.step.now _ c.args.bytes.now c.in-Some.count
+    c.args.taken.now _ c.in-Reals.is c.requires c.in-Some.ensures.some).0
+
+pub slice_bounds-result-start : goal.slice_bounds-result-start
+slice_bounds-result-start c =
+    let within =
+    (reals-front c.args.schema.now c.well_formed-in-Reals.ensures.types_distinct c.args.step.now _ c.args.bytes.now c.in-Some.count
+    c.args.taken.now _ c.in-Reals.is c.requires c.in-Some.ensures.some).0 in
+    omega (arith, within)
+
+pub returns-in-Some-clause-some : goal.returns-in-Some-clause-some
+returns-in-Some-clause-some c =
+    reals-taken c.args.schema.now c.well_formed-in-Reals.ensures.types_distinct c.args.step.now _ c.args.bytes.now c.in-Some.count _
+    c.args.taken.now _
+    c.in-Reals.is (rest_is c.args.bytes.now c.in-Some.count) c.in-Some.ensures.some
 
 pub own_type-at-requires-clause-entity : goal.own_type-at-requires-clause-entity
 own_type-at-requires-clause-entity c = (placed-known c.args.schema.now c.args.step.now _ _ c.in-Placed.is c.requires).0

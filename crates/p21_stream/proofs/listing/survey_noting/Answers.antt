@@ -16,7 +16,7 @@ returns-clause-surveys g c =
     IfOk-weaker _ _ _
     (λ (located : LocatedSurvey) (hands : HandsOn c.in-Ok-finish.found located.found). surveyed-input c.list_laws.ensures.listed
     c.list_laws.ensures.ended c.args.schema.now c.well_formed-2.ensures c.args.limits c.feed_all.new.survey
-    (fed.same.schema ∙ c.new-survey.ensures.schema) (fed.same.limits ∙ c.new-survey.ensures.limits) fed.counted _ _ c.in-Ok-finish.found
+    (fed.same.rules ∙ c.new-survey.ensures.rules) (fed.same.limits ∙ c.new-survey.ensures.limits) fed.counted _ _ c.in-Ok-finish.found
     finds.finds c.in-Ok.has_failed fed.surveyed finds.kinds
     finds.interrupted located.found hands) c.hand_on.ensures
 
@@ -35,7 +35,7 @@ returns-clause-failed g c =
     IfOk-weaker _ _ _
     (λ (located : LocatedSurvey) (hands : HandsOn c.in-Ok-finish.found located.found). failures-input c.list_laws.ensures.listed
     c.list_laws.ensures.ended c.args.schema.now c.well_formed-2.ensures c.args.limits c.feed_all.new.survey
-    (fed.same.schema ∙ c.new-survey.ensures.schema) (fed.same.limits ∙ c.new-survey.ensures.limits) fed.counted _ _ c.in-Ok-finish.found
+    (fed.same.rules ∙ c.new-survey.ensures.rules) (fed.same.limits ∙ c.new-survey.ensures.limits) fed.counted _ _ c.in-Ok-finish.found
     finds.finds c.in-Ok.has_failed fed.surveyed
     finds.interrupted located.found hands _ _ fed.failures) c.hand_on.ensures
 
@@ -46,6 +46,6 @@ returns-clause-ends_by_read g c =
     IfOk-weaker _ _ _
     (λ (located : LocatedSurvey) (hands : HandsOn c.in-Ok-finish.found located.found). read-input c.list_laws.ensures.listed
     c.list_laws.ensures.ended c.args.schema.now c.well_formed-2.ensures c.args.limits c.feed_all.new.survey
-    (fed.same.schema ∙ c.new-survey.ensures.schema) (fed.same.limits ∙ c.new-survey.ensures.limits) fed.counted _ _ c.in-Ok-finish.found
+    (fed.same.rules ∙ c.new-survey.ensures.rules) (fed.same.limits ∙ c.new-survey.ensures.limits) fed.counted _ _ c.in-Ok-finish.found
     finds.finds c.in-Ok.has_failed fed.surveyed finds.kinds
     located.found hands _ _ fed.failures) c.hand_on.ensures

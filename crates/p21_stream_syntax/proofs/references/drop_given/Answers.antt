@@ -2,7 +2,7 @@ use Rattle.std.proofs.Common.{◌<◌, ◌+◌, ◌∙◌, ℕ, List, arith, len
 use Rattle.std.proofs.lemmas.List.{length-set}
 use Rattle.p21_stream_store.specs.StoredInstance.{instance_names}
 use Rattle.p21_stream_syntax.proofs.Adding.{AreLooked, looked-all, looked-given, looked-left}
-use Rattle.p21_stream_syntax.specs.Waiting.{Drops, targets_of}
+use Rattle.p21_stream_syntax.specs.Waiting.{Claim, Drops, claims_in}
 use Rattle.p21_stream_syntax.specs.declared.references.Reference.{Reference}
 use Rattle.p21_stream_syntax.proofs.references.drop_given.Goals as goal
 use Rattle.p21_stream_syntax.proofs.references.drop_given.Goals.{then-not-has_come, else-not-has_come}
@@ -10,7 +10,7 @@ use Rattle.p21_stream_syntax.proofs.references.drop_given.Goals.{then-not-has_co
 pub loop-index-preserved : goal.loop-index-preserved
 loop-index-preserved c =
     let names = instance_names c.args.names.now in
-    let old : List ℕ = targets_of c.args.waiting.now.items in
+    let old : List Claim = claims_in c.args.waiting.now.items in
     let now : List Reference = c.loop-index.waiting.items in
     let left = c.loop-index.left in
     let x : Reference = c.index.result.now in
@@ -29,9 +29,9 @@ loop-index-preserved c =
 pub returns : goal.returns
 returns c =
     let names = instance_names c.args.names.now in
-    let old : List ℕ = targets_of c.args.waiting.now.items in
+    let old : List Claim = claims_in c.args.waiting.now.items in
     let now : List Reference = c.loop-index.waiting.items in
     let many = c.loop-index.invariant.as_many in
-    subst (λ (l : List Reference). Drops names old (targets_of l)) (sym c.truncate.ensures.items)
+    subst (λ (l : List Reference). Drops names old (claims_in l)) (sym c.truncate.ensures.items)
     (looked-all names old now c.loop-index.left c.loop-index.index c.loop-index.invariant.looked
     (omega (arith, c.loop-index-test.false, c.len-index-end.ensures, many)))

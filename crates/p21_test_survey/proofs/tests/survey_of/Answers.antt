@@ -11,7 +11,7 @@ feed-requires c =
     let cut = c.min-cut.result in
     let known : Known = record { bytes = file; is_all = true } in
     let few : length file < 2 ^ 64 = search (rules, arith) in
-    (known, drop cut file, subst (Course known c.new-survey.result) (sym (take-append-drop cut file)) (c.new-survey.ensures.course known few))
+    (known, drop cut file, subst (Course known c.begun-survey.result) (sym (take-append-drop cut file)) (c.begun-survey.ensures known few))
 
 pub feed-requires-2 : goal.feed-requires-2
 feed-requires-2 c =
@@ -19,7 +19,7 @@ feed-requires-2 c =
     let cut = c.min-cut.result in
     let known : Known = record { bytes = file; is_all = true } in
     let few : length file < 2 ^ 64 = search (rules, arith) in
-    let begun = subst (Course known c.new-survey.result) (sym (take-append-drop cut file)) (c.new-survey.ensures.course known few) in
+    let begun = subst (Course known c.begun-survey.result) (sym (take-append-drop cut file)) (c.begun-survey.ensures known few) in
     let behind = (c.in-Ok.ensures known (drop cut file) begun).course in
     let rest : List ℕ = take (length file - cut) (drop cut file) in
     (known, [], subst (Course known c.feed.new.self) (sym (append-nil rest ∙ take_rest file cut)) behind)
@@ -30,7 +30,7 @@ finish-requires c =
     let cut = c.min-cut.result in
     let known : Known = record { bytes = file; is_all = true } in
     let few : length file < 2 ^ 64 = search (rules, arith) in
-    let begun = subst (Course known c.new-survey.result) (sym (take-append-drop cut file)) (c.new-survey.ensures.course known few) in
+    let begun = subst (Course known c.begun-survey.result) (sym (take-append-drop cut file)) (c.begun-survey.ensures known few) in
     let behind = (c.in-Ok.ensures known (drop cut file) begun).course in
     let rest : List ℕ = take (length file - cut) (drop cut file) in
     let last = subst (Course known c.feed.new.self) (sym (append-nil rest ∙ take_rest file cut)) behind in

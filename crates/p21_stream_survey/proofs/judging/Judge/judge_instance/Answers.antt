@@ -4,7 +4,7 @@ use Rattle.p21_spec_exchange.specs.Statement.{instance}
 use Rattle.p21_stream_sieve.specs.Sifting.{HasName}
 use Rattle.p21_stream_statements.specs.declared.fault.Fault.{Fault}
 use Rattle.p21_stream_survey.proofs.Judged.{again-judges, follows-taken, refused-judges, taken-judges}
-use Rattle.p21_stream_survey.specs.Judging.{JudgeGives}
+use Rattle.p21_stream_survey.specs.Judging.{JudgesSieved}
 use Rattle.p21_stream_survey.specs.declared.judging.Judgement.{Judgement}
 use Rattle.p21_stream_survey.proofs.judging.Judge.judge_instance.Goals as goal
 
@@ -26,7 +26,7 @@ returns-in-Ok-clause-gives c =
 
 pub returns-in-Err-clause-gives : goal.returns-in-Err-clause-gives
 returns-in-Err-clause-gives c =
-    subst (λ (said : Result Judgement Fault). JudgeGives c.args.schema.now c.args.limits c.args.self.now.sieve
+    subst (λ (said : Result Judgement Fault). JudgesSieved c.args.schema.now c.args.limits c.args.self.now.sieve
     (instance c.args.name (record_view c.args.of)) said (record c.args.self.now.sieve { kept = c.take_instance-kept.new.self }))
     (sym c.wrong_or_end.ensures)
     (refused-judges c.args.schema.now c.well_formed-2.ensures c.args.limits c.args.self.now.sieve c.take_instance-kept.new.self c.args.name

@@ -6,6 +6,7 @@ use Rattle.p21_stream_survey.specs.ReadOut.{FindsIn, SomeIsReadOut, last_stage}
 use Rattle.p21_stream_survey.specs.declared.listed.Extent.{Extent}
 use Rattle.p21_stream_survey.specs.declared.listed.Found.{Found}
 use Rattle.p21_stream_survey.proofs.survey.Survey.find.Goals as goal
+use Rattle.p21_stream_survey.specs.Keeping.{rules_by, kept_by}
 
 pub finish_file-requires-clause-stands : goal.finish_file-requires-clause-stands
 finish_file-requires-clause-stands c = reading-stands c.args.self
@@ -13,8 +14,8 @@ finish_file-requires-clause-stands c = reading-stands c.args.self
 
 pub returns-clause-finds : goal.returns-clause-finds
 returns-clause-finds c =
-    IfOk-weaker c.finish_file.result (λ (found : Found). FindsAtEnd c.args.self.schema.now c.args.self.limits c.args.self.log
-    c.args.self.judge.sieve c.args.self.listing found) (λ (found : Found). FindsIn c.args.self (last_stage c.args.extent) found)
+    IfOk-weaker c.finish_file.result (λ (found : Found). FindsAtEnd (rules_by c.args.self) c.args.self.limits c.args.self.log
+    (kept_by c.args.self) c.args.self.listing found) (λ (found : Found). FindsIn c.args.self (last_stage c.args.extent) found)
     (λ found finds. subst (λ (e : Option Extent). FindsIn c.args.self (last_stage e) found) (sym c.in-None.is)
     (reading-finds c.args.self found finds)) c.finish_file.ensures.finds
 

@@ -20,5 +20,5 @@ returns-in-Ok-clause-ends c =
     ends-restaged c.args.self.now (record other { listing = c.end_sought.new.listing }) c.replace.new.dest (Seeking c.in-Seeking.sought)
     c.in-Ok.extent
     (sought-ends other (record other { listing = c.end_sought.new.listing }) c.in-Seeking.sought c.in-Ok.extent
-    (record { schema = refl; limits = refl; most = refl }) refl refl c.in-Ok.ensures.ends c.in-Ok.ensures.extent c.in-Ok.ensures.listed
+    (record { rules = refl; limits = refl; most = refl }) refl c.in-Ok.ensures.ends c.in-Ok.ensures.extent c.in-Ok.ensures.listed
     c.in-Ok.ensures.list) (sym c.replace.ensures.value ∙ c.in-Seeking.is)

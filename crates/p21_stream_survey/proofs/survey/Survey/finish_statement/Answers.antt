@@ -14,8 +14,7 @@ returns-in-Ok-Listed-clause-ends c =
     let old = c.args.self.now in
     let listing = c.end_statement.new.listing in
     statement-ends old (record old { log = c.end_statement.new.log; listing = listing }) c.deref.result.now c.in-Ok-Listed.extent
-    (c.deref.ensures.value ∙ (c.in-Ok.ensures ∙ append-nil old.log.buffer)) (record { schema = refl; limits = refl; most = refl }) refl
-    refl
+    (c.deref.ensures.value ∙ (c.in-Ok.ensures ∙ append-nil old.log.buffer)) (record { rules = refl; limits = refl; most = refl }) refl
     (subst (λ (e : Ended). EndsStatement old.limits old.log old.listing c.deref.result.now e c.end_statement.new.log listing)
     c.in-Ok-Listed.field-0-is c.in-Ok-Listed.ensures.ends)
     (λ fewer. subst (λ (e : Ended). CountsEnd old.most (length old.listing.list.items) e (length listing.list.items))
@@ -30,7 +29,7 @@ returns-in-Ok-PassedOver-clause-ends c =
     (λ (ended : AtEnd). EndsStage old Reading ended (record old { log = c.end_statement.new.log; listing = listing }))
     (λ ended behind. statement-passes old (record old { log = c.end_statement.new.log; listing = listing })
     c.deref-in-Ok-PassedOver.result.now count ended (c.deref-in-Ok-PassedOver.ensures.value
-    ∙ (c.in-Ok.ensures ∙ append-nil old.log.buffer)) (record { schema = refl; limits = refl; most = refl }) refl refl refl
+    ∙ (c.in-Ok.ensures ∙ append-nil old.log.buffer)) (record { rules = refl; limits = refl; most = refl }) refl
     (subst (λ l. EndsStatement old.limits old.log old.listing l (PassedOver count) c.end_statement.new.log listing)
     (c.deref.ensures.value ∙ sym c.deref-in-Ok-PassedOver.ensures.value)
     (subst (λ (e : Ended). EndsStatement old.limits old.log old.listing c.deref.result.now e c.end_statement.new.log listing)

@@ -54,7 +54,7 @@ returns-in-Ok-clause-ends c =
     let new = record other { listing = c.interrupt_sought.new.listing } in
     let is = sym c.replace.ensures.value ∙ c.in-Seeking.is in
     interrupts-restaged old new c.replace.new.dest (Seeking c.in-Seeking.sought) c.in-Ok.extent
-    (interrupted-ends other new c.in-Seeking.sought c.in-Ok.extent (record { schema = refl; limits = refl; most = refl })
+    (interrupted-ends other new c.in-Seeking.sought c.in-Ok.extent (record { rules = refl; limits = refl; most = refl })
     c.in-Ok.ensures.ends
     c.in-Ok.ensures.extent c.in-Ok.ensures.listed) is
 

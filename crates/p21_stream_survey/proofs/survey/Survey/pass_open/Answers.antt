@@ -19,7 +19,7 @@ returns-in-Ok-Listed c =
     open-ends old (record old { log = c.end_unended.new.log; listing = listing; stage = stage.Ended c.in-Ok-Listed.extent }) front
     c.in-Some.statement.now ahead c.in-Ok-Listed.extent (c.deref-2.ensures.value ∙ (c.in-Ok.ensures ∙ append-nil old.log.buffer))
     (c.in-Some.ensures.statement_is ∙ ap (λ (l : List ℕ). l ++ ahead) (c.deref.ensures.value ∙ sym c.deref-2.ensures.value))
-    (c.is_reading.ensures c.if-not-is_reading.false) refl (record { schema = refl; limits = refl; most = refl }) refl refl
+    (c.is_reading.ensures c.if-not-is_reading.false) refl (record { rules = refl; limits = refl; most = refl }) refl
     (subst (λ (e : Ended). EndsUnended old.limits old.log old.listing front c.in-Some.statement.now e c.end_unended.new.log listing)
     c.in-Ok-Listed.field-0-is c.in-Ok-Listed.ensures.ends)
     (λ fewer. subst (λ (e : Ended). CountsEnd old.most (length old.listing.list.items) e (length listing.list.items))
@@ -36,7 +36,7 @@ returns-in-Ok-PassedOver c =
     (drop c.place_in.result c.args.bytes.now) c.in-Ok-PassedOver.count
     (c.deref-2.ensures.value ∙ (c.in-Ok.ensures ∙ append-nil old.log.buffer))
     (c.in-Some.ensures.statement_is ∙ ap (λ (l : List ℕ). l ++ ahead) (c.deref.ensures.value ∙ sym c.deref-2.ensures.value))
-    reading reading (record { schema = refl; limits = refl; most = refl }) refl refl refl
+    reading reading (record { rules = refl; limits = refl; most = refl }) refl
     (subst (λ (e : Ended). EndsUnended old.limits old.log old.listing front c.in-Some.statement.now e c.end_unended.new.log listing)
     c.in-Ok-PassedOver.field-0-is c.in-Ok-PassedOver.ensures.ends)
     (λ fewer. subst (λ (e : Ended). CountsEnd old.most (length old.listing.list.items) e (length listing.list.items))

@@ -26,7 +26,7 @@ follow-requires c =
       known,
       ahead,
       statement-judged known _ c.judge-judgement.new.self _ c.judge-judgement.result ahead has c.judge-judgement.ensures.gives
-          c.judge-judgement.ensures.known,
+          c.judge-judgement.ensures.stays,
     )
 
 pub returns-in-Ok-follow-clause-goes : goal.returns-in-Ok-follow-clause-goes
@@ -34,5 +34,5 @@ returns-in-Ok-follow-clause-goes c =
     judged-goes c.args.self.now c.take_token.new.log c.args.window.now c.requires.some c.requires.reading c.judge-judgement.new.self
     c.in-Ok.taken.0 c.in-Ok.taken.1 c.in-Some.event c.judge-judgement.result c.in-Ok-follow.again.items
     (record { count = c.in-Ok.taken.0; again = c.in-Ok-follow.again }) c.follow.new.self c.in-Some.is
-    c.in-Ok.ensures.gives c.in-Ok.ensures.keeps c.in-Ok.ensures.within c.judge-judgement.ensures.gives c.judge-judgement.ensures.known
+    c.in-Ok.ensures.gives c.in-Ok.ensures.keeps c.in-Ok.ensures.within c.judge-judgement.ensures.gives c.judge-judgement.ensures.stays
     c.in-Ok-follow.ensures refl refl

@@ -1,7 +1,8 @@
 use Rattle.std.proofs.Common.{◌≡◌, ℕ, Option, Some, IfNone, IfSome, subst}
 use Rattle.p21_stream_log.specs.Passage.{GoesOnAt, StaysAt}
 use Rattle.p21_stream_log.specs.declared.passage.Passage.{Passage}
-use Rattle.p21_stream_survey.proofs.Onward.{seeks-far_where, seeks-landmark_where, seeks-mark_where, seeks-on_where, sought-none, sought-other}
+use Rattle.p21_stream_survey.proofs.Onward.{seeks-far_where, seeks-landmark_where, seeks-mark_where, seeks-on_where, sought-none}
+use Rattle.p21_stream_survey.proofs.Onward.{sought-other}
 use Rattle.p21_stream_survey.specs.Seeking.{SeeksFurther}
 use Rattle.p21_stream_survey.proofs.survey.Survey.seek.Goals as goal
 

@@ -1,9 +1,9 @@
-use Rattle.std.proofs.Common.{◌≡◌, ◌<◌, ◌≤◌, List, Contains, arith, length, true, subst}
+use Rattle.std.proofs.Common.{◌≡◌, ◌<◌, ◌≤◌, List, arith, length, true, subst}
 use Rattle.std.proofs.lemmas.List.{take_all}
 use Rattle.std.specs.List.{AllByRecursion as Each}
 use Rattle.p21_stream_store.specs.StoredInstance.{instance_names}
-use Rattle.p21_stream_syntax.proofs.Adding.{one-come, target-there}
-use Rattle.p21_stream_syntax.specs.Waiting.{targets_of}
+use Rattle.p21_stream_syntax.proofs.Adding.{HasCome, one-come, target-there}
+use Rattle.p21_stream_syntax.specs.Waiting.{claims_in}
 use Rattle.p21_stream_syntax.specs.declared.references.Reference.{Reference}
 use Rattle.p21_stream_syntax.proofs.references.Waiting.first_missing.Goals as goal
 
@@ -35,5 +35,5 @@ returns-clause-none c = λ none.
     let items = c.args.self.now.references.items in
     let past : length items ≤ c.loop-index.index = omega
     (arith, c.loop-index-test.false, c.len-index-end.ensures, c.args.self.now.references.ok.0) in
-    subst (λ (l : List Reference). Each (Contains (instance_names c.args.names.now)) (targets_of l))
+    subst (λ (l : List Reference). Each (HasCome (instance_names c.args.names.now)) (claims_in l))
     (take_all c.loop-index.index items past) c.loop-index.invariant

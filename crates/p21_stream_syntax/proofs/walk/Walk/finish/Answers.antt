@@ -9,7 +9,7 @@ returns-in-Err-clause-gives c = finish-refused c.args.self.statements (kept_of c
 
 pub returns-in-Some-clause-gives : goal.returns-in-Some-clause-gives
 returns-in-Some-clause-gives c = finish-missing c.args.self.statements (kept_of c.args.self.given) c.refused-in-Some.result
-    c.in-Ok.ensures.gives c.in-Some.ensures.some
+    c.in-Some.holder c.in-Ok.ensures.gives c.in-Some.ensures.some
 
 pub returns-clause-gives : goal.returns-clause-gives
 returns-clause-gives c =
