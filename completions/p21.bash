@@ -10,7 +10,7 @@ _p21() {
     fi
     case ${COMP_WORDS[1]} in
         param) words='--help' ;;
-        syntax) words='--header --count --where --progress --help' ;;
+        syntax) words='--header --count --all --most --where --format --progress --help' ;;
         schema) words='--help' ;;
         check) words='--all --most --where --names --format --progress --help' ;;
         canon) words='--names --progress --help' ;;

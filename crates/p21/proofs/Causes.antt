@@ -55,14 +55,14 @@ command_is forms app words m same has =
 some_forms : Forms
 some_forms =
     let words = Names (record { ref_ptr = (0, 0); now = record { ref_ptr = (0, 0); now = codes "text" } ∷ record { ref_ptr = (0, 0); now = codes "jsonl" } ∷ [] }) in
-    record { of_check = words; of_diff = words }
+    record { of_syntax = words; of_check = words; of_diff = words }
 
 -- memory ran out before the words were looked at
 pub failed_early : (words : List Text) (status : ℕ) → status ≡ failed → IsOfWords words status
 unfolding some_forms
 failed_early words status is = record {
   forms = some_forms;
-  are_forms = (refl, refl);
+  are_forms = (refl, refl, refl);
   known = inr (inr (inr is));
   when_done = λ e. cc (is, e);
   when_refused = λ e. cc (is, e);

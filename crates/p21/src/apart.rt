@@ -36,10 +36,10 @@ impl Wishes {
     }
 
     /// What `syntax` is asked for.
-    pub fn of_syntax(asked: Asked) -> Wishes {
+    pub fn of_syntax(found: &ArgMatches<'_>, asked: Asked) -> Wishes {
         Wishes {
             asked,
-            most: None,
+            most: most_given(found),
             names: false,
         }
     }

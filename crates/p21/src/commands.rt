@@ -11,7 +11,8 @@ use crate::differences::run_diff;
 use crate::input::{Inputs, Kept, Source};
 use crate::lines::Lines;
 use crate::notes::{Given, Wanted, note_file, note_files, note_given, note_listing};
-use crate::places::{Asked, ToldOf, asked_places, tell_place_alone, tell_unloaded};
+use crate::places::{Asked, ToldOf, asked_places, tell_unloaded};
+use crate::places_alone::tell_alone;
 use crate::progress::ProgressReader;
 use crate::recorded::Recorded;
 use crate::refusals::SECTIONS;
@@ -19,9 +20,9 @@ use crate::several::{check_several, syntax_several};
 use clap::ArgMatches;
 use p21_command_line::LIST;
 use p21_commands::{
-    Checks, CommandFault, DONE, Details, canon_command, check_all_command, check_command,
-    check_numbered_command, numbered_command, param_command, report, same_but_for_names_command,
-    same_command, schema_command, show_command, syntax_located_command,
+    Checks, CommandFault, DONE, Details, SyntaxChecks, canon_command, check_all_command,
+    check_command, check_numbered_command, numbered_command, param_command, report,
+    same_but_for_names_command, same_command, schema_command, show_command,
 };
 use p21_stream_io::Watched;
 use p21_values::Name;
@@ -121,7 +122,7 @@ fn run_schema<'a>(rt: &HostRuntime, found: &ArgMatches<'a>) -> Result<u8, Stoppe
     Ok(status)
 }
 
-/// `syntax FILE.. [--header] [--count] [--where] [--progress]`.
+/// `syntax FILE.. [--header] [--count] [--all] [--most N] [--where] [--format FORM] [--progress]`.
 fn run_syntax<'a>(rt: &HostRuntime, found: &ArgMatches<'a>) -> Result<u8, Stopped<'a>>
     ensures ran { IfOk result IsOfCommand }
     ensures unopened { IfErr result IsUnopened }
@@ -143,21 +144,32 @@ fn syntax_one<'a>(
     ensures unopened { IfErr result IsUnopened }
 {
     let mut inputs = Inputs::new();
+    let wishes = Wishes::of_syntax(found, asked_places(found));
     let source = with_progress(rt, found, path, inputs.open(rt, path)?);
-    let is_asked = found.get_flag("where");
-    let mut file = Watched::new(Lines::new(rt.alloc(), source, is_asked));
+    let has_lines = wishes.asked != Asked::None;
+    let file = Watched::new(Lines::new(rt.alloc(), source, has_lines));
     let mut output = Watched::new(rt.stdout());
     let mut faults = Watched::new(rt.stderr());
+    let name = ToldOf {
+        path,
+        is_named: false,
+    };
+    let mut checks = SyntaxChecks::new();
     let details = details_given(found);
-    let told = syntax_located_command(rt.alloc(), &mut file, details, &mut output, &mut faults);
-    let lines = file.into_inner();
-    if is_asked {
-        tell_place_alone(rt, path, &told, lines.starts());
-    }
+    let (status, lines) = tell_alone(
+        rt,
+        &mut checks,
+        wishes,
+        details,
+        name,
+        file,
+        &mut output,
+        &mut faults,
+    );
     let read = lines.into_inner().into_inner();
     let file = Given::new(path, Wanted::Exchange, &read);
-    note_given(rt, told.status, "syntax", &[file], "");
-    Ok(told.status)
+    note_given(rt, status, "syntax", &[file], "");
+    Ok(status)
 }
 
 /// What `syntax` is asked to tell of a file behind its line.

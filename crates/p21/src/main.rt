@@ -21,6 +21,7 @@ mod lines;
 mod named;
 mod notes;
 mod places;
+mod places_alone;
 mod progress;
 mod recorded;
 mod refusals;

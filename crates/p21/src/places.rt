@@ -8,7 +8,7 @@ use crate::shown::Shown;
 use clap::ArgMatches;
 use p21_commands::{
     Checks, CommandFault, Form, LineStarts, Located, LocatedSurvey, REFUSED, SecondReading,
-    Telling, Told, ToldAlone, Unloaded, is_of_reference, report, schema_object,
+    Telling, Told, Unloaded, is_of_reference, report, schema_object,
 };
 use p21_stream_io::Watched;
 use p21_values::NoMemory;
@@ -98,24 +98,6 @@ fn tell_place(rt: &HostRuntime, checks: &Checks, path: &str, told: &Told, lines:
         Some(subject) => eprintln!(rt; "{path}:{line}:{column}: {subject}"),
         None => eprintln!(rt; "{path}:{line}:{column}"),
     };
-}
-
-/// Says behind the line of a file that isn't well formed by itself where this stands, if lines are kept. Where it can't be said, it isn't.
-pub fn tell_place_alone(rt: &HostRuntime, path: &str, told: &ToldAlone, lines: &LineStarts) {
-    if told.status != REFUSED {
-        return;
-    }
-    let Some(ill_formed) = &told.ill_formed else {
-        return;
-    };
-    let Some(place) = ill_formed.place else {
-        return;
-    };
-    let Some(position) = lines.position(place.byte) else {
-        return;
-    };
-    let path = Shown(path);
-    let _ = eprintln!(rt; "{path}:{}:{}", position.line, position.column);
 }
 
 /// A file that is told of: its path, and whether it is one of several.

@@ -10,7 +10,8 @@ use crate::named::Named;
 use crate::notes::{
     Given, Wanted, note_given, note_listing, note_one_alone, note_one_of_several, note_unopened,
 };
-use crate::places::{Asked, ToldOf, tell_place_alone, tell_places, tell_unloaded};
+use crate::places::{Asked, ToldOf, asked_places, tell_places, tell_unloaded};
+use crate::places_alone::tell_alone;
 use crate::recorded::Recorded;
 use crate::shown::Shown;
 use clap::ArgMatches;
@@ -110,15 +111,10 @@ fn begin<S: Read, F: Write>(
 pub fn syntax_several(rt: &HostRuntime, found: &ArgMatches<'_>, words: &[&str]) -> u8
     ensures { IsOfCommand result }
 {
-    let asked = if found.get_flag("where") {
-        Asked::Behind
-    } else {
-        Asked::None
-    };
     let mut run = Run {
         rt,
         found,
-        wishes: Wishes::of_syntax(asked),
+        wishes: Wishes::of_syntax(found, asked_places(found)),
         inputs: Inputs::new(),
         task: Task::Syntax(SyntaxChecks::new()),
     };
@@ -188,12 +184,10 @@ impl Task<'_> {
             },
             Task::Syntax(checks) => {
                 let details = details_given(found);
-                let told = checks.check(rt.alloc(), &mut file, details, output, faults);
-                let lines = file.into_inner();
-                if wishes.asked != Asked::None {
-                    tell_place_alone(rt, path, &told, lines.starts());
+                if wishes.has_places() {
+                    return tell_alone(rt, checks, wishes, details, name, file, output, plain);
                 }
-                return (told.status, lines);
+                return tell_alone(rt, checks, wishes, details, name, file, output, faults);
             }
         };
         (status, file.into_inner())

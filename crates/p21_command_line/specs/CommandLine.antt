@@ -105,10 +105,11 @@ param_app = with_rule (new_app (codes "param")) (given_rule (codes "FILE"))
 abbrev pub schema_app : App
 schema_app = with_rule (new_app (codes "schema")) (given_rule (codes "S"))
 
--- `syntax FILE.. [--header] [--count] [--where] [--progress]`
-abbrev pub syntax_app : App
-syntax_app = with_rule (with_rule (with_rule (with_rule (with_rule (new_app (codes "syntax")) files_rule) header_rule) count_rule)
-    where_rule) progress_rule
+-- `syntax FILE.. [--header] [--count] [--all] [--most N] [--where] [--format FORM] [--progress]`
+abbrev pub syntax_app : ValueParser → App
+syntax_app forms =
+    with_rule (with_rule (with_rule (with_rule (with_rule (with_rule (with_rule (with_rule (new_app (codes "syntax"))
+    files_rule) header_rule) count_rule) all_rule) most_rule) where_rule) (format_rule forms)) progress_rule
 
 -- a command on a schema and a file
 abbrev pub file_app : Text → App
@@ -152,16 +153,17 @@ app_without_commands =
 
 -- what stands behind `--format` of the commands that take it
 pub record Forms : Type 0 where
+  pub of_syntax : ValueParser
   pub of_check : ValueParser
   pub of_diff : ValueParser
 
 abbrev pub HaveForms : Forms → Type 0
-HaveForms forms = AreForms forms.of_check × AreForms forms.of_diff
+HaveForms forms = AreForms forms.of_syntax × AreForms forms.of_check × AreForms forms.of_diff
 
 -- the program, with its commands
 abbrev pub program_app : Forms → App
 program_app forms =
     with_subcommand (with_subcommand (with_subcommand (with_subcommand (with_subcommand
     (with_subcommand (with_subcommand (with_subcommand (with_subcommand app_without_commands
-    param_app.top) syntax_app.top) schema_app.top) (check_app forms.of_check).top) canon_app.top) show_app.top) same_app.top)
-    (diff_app forms.of_diff).top) faults_app.top
+    param_app.top) (syntax_app forms.of_syntax).top) schema_app.top) (check_app forms.of_check).top) canon_app.top) show_app.top)
+    same_app.top) (diff_app forms.of_diff).top) faults_app.top

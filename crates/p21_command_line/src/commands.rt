@@ -75,9 +75,9 @@ fn schema<'a>(alloc: Global) -> Result<Command<'a>, AllocError>
         .arg(schema_path(alloc))
 }
 
-/// `syntax FILE.. [--header] [--count] [--where] [--progress]`.
+/// `syntax FILE.. [--header] [--count] [--all] [--most N] [--where] [--format FORM] [--progress]`.
 fn syntax<'a>(alloc: Global) -> Result<Command<'a>, AllocError>
-    ensures app { IfOk result (λ command. app_of command ≡ syntax_app) }
+    ensures app { IfOk result (λ command. (forms : ValueParser) × AreForms forms × (app_of command ≡ syntax_app forms)) }
     ensures local { IfOk result (λ command. (fields_of command).has_globals ≡ false) }
 {
     Command::new(alloc, "syntax")
@@ -86,7 +86,13 @@ fn syntax<'a>(alloc: Global) -> Result<Command<'a>, AllocError>
         .arg(file_paths(alloc))?
         .arg(header(alloc))?
         .arg(count(alloc))?
+        .arg(all(alloc))?
+        .arg(most(alloc))?
         .arg(place(alloc))?
+        .arg(format(
+            alloc,
+            "With jsonl gives refusals with their places as JSON, an object a line",
+        ))?
         .arg(progress(alloc))
 }
 

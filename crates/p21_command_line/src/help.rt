@@ -69,8 +69,16 @@ implementation level, file name, time stamp, author, organization, preprocessor 
 (the program that wrote the file), originating system, authorization, schema. With --count
 a line follows for each keyword, with how many records have it, in the order of bytes; of an
 instance with several parts each part is counted.
+With --all all refusals are listed in place of the first one, and how many: it goes on behind
+an instance whose name was given before, and behind a broken statement of a data section.
+With --most N as many as N, and it says that no more were looked for.
 With --where a second line has the place of the refusal, where it has one: file, line and
-column, both from 1 on, the column in bytes. That of a reference has none.
+column, both from 1 on, the column in bytes; with --all and --most each line has it. That of
+a reference has none:
+    part.step:11:31: 20 Unexpected at statement 10
+    refused 56 Dangling in #9
+With --format jsonl each refusal is a JSON object on a line, with its place, and of 20 and 30
+with what could stand there.
 With several files, or @LIST for the files that a text names, a path a line, each line has
 the name of its file in front. A file that is refused or can't be read doesn't end the
 run; the status is the highest.

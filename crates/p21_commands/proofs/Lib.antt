@@ -11,6 +11,7 @@ pub mod FileFailing
 pub mod Showing
 pub mod Writing
 pub mod Surveys
+pub mod SurveysAlone
 pub mod TellingLemmas
 pub mod Checking
 pub mod Syntaxes

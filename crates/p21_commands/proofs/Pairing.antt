@@ -14,7 +14,7 @@ use Rattle.p21_commands.specs.Load.{DeclaresRead, RefusesRead}
 use Rattle.p21_commands.specs.Refusals.{IsFaultOf}
 use Rattle.p21_commands.specs.Same.{IsRefused, Read, read_of, word_of}
 use Rattle.p21_commands.specs.declared.fault.CommandFault.{CommandFault}
-use Rattle.p21_commands.specs.Unlisted.{AreMeant}
+use Rattle.p21_commands.specs.Unlisted.{MayAllBeMeant}
 use Rattle.p21_commands.specs.declared.fault.CommandFault.TheVariants as command
 use Rattle.p21_difference_rows.specs.declared.row.RowForm.{RowForm}
 use Rattle.p21_paired_differences.specs.declared.by_pairs.PairRows.{PairRows}
@@ -32,7 +32,7 @@ module _ (schema first_old first_new second_old second_new : Option (List ℕ)) 
 
   -- the list
   pub listed-by_pairs : (form : RowForm) (left : LeftOut) (pairs : PairRows) (limits : Limits) (same empty : Bool) (text : List ℕ)
-      → AreMeant s left → limits ≡ usual → ListsOfRead form left pairs s limits first_old first_new second_old second_new same empty text
+      → MayAllBeMeant s left → limits ≡ usual → ListsOfRead form left pairs s limits first_old first_new second_old second_new same empty text
       → IsListByPairs form left pairs read empty text
   listed-by_pairs form left pairs limits same empty text meant is_usual lists = record {
     declared = s;

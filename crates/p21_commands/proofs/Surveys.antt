@@ -1,14 +1,15 @@
 -- What a survey of a file has to say.
 use Rattle.std.specs.Prelude.{OnErr, OnOk}
 use Rattle.std.specs.Io.KnownBytes.{Appends}
-use Rattle.std.proofs.Common.{◌≡◌, ◌≢◌, ◌⊎◌, ◌||◌, ◌∙◌, ℕ, true, false, List, [], ◌∷◌, Option, Result, String, Global, Ok, Err, inl, inr, ap, refl, subst, sym, string_bytes}
+use Rattle.std.proofs.Common.{◌≡◌, ◌≢◌, ◌⊎◌, ◌||◌, ◌∙◌, ℕ, Bool, true, false, List, [], ◌∷◌, Option, Result, String, Global, Ok, Err, inl, inr, ap, refl, subst, sym, string_bytes}
 use Rattle.std.proofs.KnownBytes.{Keeps-refl}
 use Rattle.std.proofs.lemmas.Bool.{or_cases, or_right}
 use Rattle.std.specs.List.{AllByRecursion as Each}
 use Rattle.std.proofs.lemmas.List.Folds.{list_any-append}
 use Rattle.p21_spec_basics.specs.Limits.{Limits, usual}
 use Rattle.p21_commands.specs.Check.{IsChecked}
-use Rattle.p21_commands.specs.CheckAll.{Answers, EndsListing, FailsToRead, Gets, IsLeftBy, IsListed, IsListedUnder, IsReadBy, IsSurveyed, Lists, has_read_fault, is_read, listed_text}
+use Rattle.p21_commands.specs.CheckAll.{EndsListing, FailedIf, FailsToRead, Gets, IsLeftBy, IsListed, IsListedUnder, IsSurveyed, IsTextOf}
+use Rattle.p21_commands.specs.CheckAll.{WritesLines, has_read_fault, is_read, listed_text}
 use Rattle.p21_commands.specs.Command.{Ends}
 use Rattle.p21_commands.specs.Failures.{Failures, NoneFailed}
 use Rattle.p21_commands.specs.Fault.{Reports, fault_line}
@@ -17,8 +18,6 @@ use Rattle.p21_commands.specs.Load.{DeclaresRead, IsSchemaRefused, RefusesRead}
 use Rattle.p21_commands.specs.Refusing.{RefusesWith}
 use Rattle.p21_commands.specs.Status.{failed}
 use Rattle.p21_commands.specs.Streams.{OfRead, Stream, Streams, stream_of}
-use Rattle.p21_commands.specs.declared.check_all.Answer.{Answer}
-use Rattle.p21_commands.specs.declared.check_all.Answer.TheVariants.{Accepted, Refused, Unread}
 use Rattle.p21_commands.specs.declared.fault.CommandFault.{CommandFault}
 use Rattle.p21_commands.specs.declared.fault.CommandFault.TheVariants as command
 use Rattle.p21_commands.proofs.Reporting.{ends-unanswered, refuses-weaker}
@@ -65,7 +64,7 @@ read-is : (fault : Fault) → is_read fault ≡ true → fault ≡ file.Read
 read-is file.Read is = refl
 read-is fault is = cc
 
-none-read : (list : List Refusal) → Each (λ (refusal : Refusal). refusal.fault ≢ file.Read) list → has_read_fault list ≡ true → ⊥
+pub none-read : (list : List Refusal) → Each (λ (refusal : Refusal). refusal.fault ≢ file.Read) list → has_read_fault list ≡ true → ⊥
 none-read [] none some = cc
 none-read (refusal ∷ list) (other, none) some = elim (or_cases (is_read refusal.fault) (has_read_fault list) some) [
   | inl first ↦ other (read-is refusal.fault first)
@@ -80,7 +79,7 @@ ends-by-read s limits old new refusals (first, lists) some =
     elim lists.read_is_last [ inl ends ↦ ends | inr none ↦ absurd (none-read refusals.list.items none some) ]
 
 -- where it ends with one, it has it
-none-ends : (refusals : Refusals) → has_read_fault refusals.list.items ≡ false → EndsByRead (surveyed.Refused refusals) → ⊥
+pub none-ends : (refusals : Refusals) → has_read_fault refusals.list.items ≡ false → EndsByRead (surveyed.Refused refusals) → ⊥
 none-ends refusals none (before, refusal, list_is, extent_is, fault_is) =
     let last : (is_read refusal.fault || false) ≡ true = ap (λ (fault : Fault). is_read fault || false) fault_is in
     let some : has_read_fault refusals.list.items ≡ true = ap has_read_fault list_is
@@ -95,28 +94,27 @@ module _ (s : Schema) (limits : Limits) (old new : Option (List ℕ)) (found : S
   ends : has_read_fault refusals.list.items ≡ true → EndsByRead (surveyed.Refused refusals)
   ends some = ends-by-read s limits old new refusals (subst (SurveysInput s limits old new) is surveys) some
 
-  pub answers-listed : (most : ℕ) (schema : Option (List ℕ)) (answer : Answer) → DeclaresRead schema s → limits ≡ usual
-      → ListsAtMost (asked_for most) found → Lists refusals answer → Answers most schema old new answer
-  answers-listed most schema (Accepted line) declares are counted lists = absurd lists
-  answers-listed most schema (Refused text) declares are counted lists = (
+  pub text-listed : (most : ℕ) (schema : Option (List ℕ)) (text : List ℕ) (unread : Bool) → DeclaresRead schema s → limits ≡ usual
+      → ListsAtMost (asked_for most) found → text ≡ listed_text refusals → unread ≡ has_read_fault refusals.list.items
+      → IsTextOf most schema old new text unread
+  text-listed most schema text true declares are counted text_is unread_is = (
     refusals,
-    surveyed-under most schema old new s limits found refusals (string_bytes text) declares are is surveys counted lists.0,
-    lists.1,
+    surveyed-under most schema old new s limits found refusals text declares are is surveys counted text_is,
+    ends (sym unread_is),
   )
-  answers-listed most schema (Unread text) declares are counted lists = (
+  text-listed most schema text false declares are counted text_is unread_is = (
     refusals,
-    surveyed-under most schema old new s limits found refusals (string_bytes text) declares are is surveys counted lists.0,
-    ends lists.1,
+    surveyed-under most schema old new s limits found refusals text declares are is surveys counted text_is,
+    sym unread_is,
   )
 
   -- which calls of the reader failed
-  pub listed-read : (file : Failures) (answer : Answer) → Lists refusals answer → (file.after ≡ file.before)
+  pub listed-read : (file : Failures) (unread : Bool) → unread ≡ has_read_fault refusals.list.items → (file.after ≡ file.before)
       ⊎ ((file.after ≡ one_call_more file.before) × EndsByRead found) → (EndsByRead found → file.after ≡ one_call_more file.before)
-      → IsReadBy file answer
-  listed-read file (Accepted line) lists calls more = absurd lists
-  listed-read file (Refused text) lists (inl same) more = (same, tt)
-  listed-read file (Refused text) lists (inr failed) more = absurd (none-ends refusals lists.1 (subst EndsByRead is failed.1))
-  listed-read file (Unread text) lists calls more = inl (more (subst EndsByRead (sym is) (ends lists.1)), tt)
+      → FailedIf unread file
+  listed-read file false unread_is (inl same) more = (same, tt)
+  listed-read file false unread_is (inr failed_) more = absurd (none-ends refusals (sym unread_is) (subst EndsByRead is failed_.1))
+  listed-read file true unread_is calls more = inl (more (subst EndsByRead (sym is) (ends (sym unread_is))), tt)
 
 -- ---- how the command ends
 
@@ -145,11 +143,11 @@ module _ (most : ℕ) (streams : Streams) (status : ℕ) where
     unfailed = λ e. absurd (e is);
   }
 
-memory-gets : (faults : Stream) (status : ℕ) → Reports command.NoMemory status faults → Gets (fault_line command.NoMemory) faults
+pub memory-gets : (faults : Stream) (status : ℕ) → Reports command.NoMemory status faults → Gets (fault_line command.NoMemory) faults
 memory-gets faults status (inl r) = inl (r.1, r.2)
 memory-gets faults status (inr r) = inr (r.1, r.2)
 
-memory-fails : (faults : Stream) (status : ℕ) → Reports command.NoMemory status faults → status ≡ failed
+pub memory-fails : (faults : Stream) (status : ℕ) → Reports command.NoMemory status faults → status ≡ failed
 memory-fails faults status (inl r) = r.0
 memory-fails faults status (inr r) = r.0
 
@@ -159,12 +157,25 @@ module _ (most : ℕ) (schema file faults : Stream) {W : Type 0} (bytes : W → 
   abbrev pub unwritten_streams : Streams
   unwritten_streams = record { schema = schema; file = file; output = stream_of bytes writer writer; faults = faults }
 
-  pub refused-listing : (text : String Global) (status : ℕ) → IsListed most schema.before file.before file.behind (string_bytes text)
+  refused-listing : (text : String Global) (status : ℕ) → IsListed most schema.before file.before file.behind (string_bytes text)
       → NoneFailed (file.failures ∷ []) → Reports (command.Refused text) status faults → EndsListing most unwritten_streams status
   refused-listing text status is none r =
       listing-ends most unwritten_streams status
       (ends-unanswered (OfRead IsChecked unwritten_streams) (OfRead (IsListedUnder most) unwritten_streams) (schema.failures ∷ []) bytes
       writer faults (command.Refused text) status (inr is) (unfailed, tt) r) none
+
+  pub listing-written : (text : String Global) (unread : Bool) (status : ℕ)
+      → IsTextOf most schema.before file.before file.behind (string_bytes text) unread → FailedIf unread file.failures
+      → WritesLines (string_bytes text) unread faults status → EndsListing most unwritten_streams status
+  listing-written text false status is none writes = refused-listing text status is none writes
+  listing-written text true status is one writes = listing-unread most unwritten_streams status writes.0 (record {
+    text = string_bytes text;
+    is_text = inl is;
+    gets = writes.1;
+    unwritten = Keeps-refl (bytes writer.inner);
+    failed = one;
+    others = (unfailed.0, (refl, tt));
+  })
 
   pub memory-listing : (status : ℕ) → IsLeftBy file.failures → Reports command.NoMemory status faults
       → EndsListing most unwritten_streams status

@@ -1,5 +1,6 @@
 -- What `p21 check --all` answers: a text of what a survey finds of the file.
-use Rattle.std.specs.Prelude.{Option, ◌≡◌, ◌≢◌, ◌⊎◌, ℕ, List, Bool, true, false, not, [], ◌∷◌, ◌++◌, if◌then◌else◌, codes, count_by, decimal, flat_map, string_bytes}
+use Rattle.std.specs.Prelude.{Option, ◌≡◌, ◌≢◌, ◌⊎◌, ℕ, List, Bool, true, false}
+use Rattle.std.specs.Prelude.{not, [], ◌∷◌, ◌++◌, if◌then◌else◌, codes, count_by, decimal, flat_map, string_bytes}
 use Rattle.std.specs.Io.KnownBytes.{Appends, Keeps}
 use Rattle.std.specs.List.{list_any}
 use Rattle.p21_spec_basics.specs.Limits.{usual}
@@ -13,7 +14,8 @@ use Rattle.p21_commands.specs.Status as statuses
 use Rattle.p21_commands.specs.Streams.{OfRead, Stream, Streams}
 use Rattle.p21_commands.specs.Transfer.{Writes}
 use Rattle.p21_commands.specs.declared.check_all.Answer.{Answer}
-use Rattle.p21_commands.specs.declared.check_all.Answer.TheVariants.{Accepted, Refused, Unread}
+use Rattle.p21_commands.specs.declared.check_all.Answer.TheVariants.{Accepted, Refused}
+use Rattle.p21_commands.specs.declared.check_all.RefusedLines.{RefusedLines}
 use Rattle.p21_commands.specs.declared.fault.CommandFault.TheVariants as command
 use Rattle.p21_spec_schema.specs.Schema.{Schema}
 use Rattle.p21_stream.specs.Survey.{EndsByRead, ListsAtMost, SurveysInput, asked_for}
@@ -88,6 +90,14 @@ abbrev pub Gets : List ℕ → Stream → Type 0
 Gets text writer = (Appends writer.before writer.behind text × NoneFailed (writer.failures ∷ []))
     ⊎ (AppendsPartOf writer.before writer.behind text × OneFailed (writer.failures ∷ []))
 
+-- The fault output gets a text about refusals, by whether a read failed. If one did, the status is that of a failure; else it is that of a
+-- refusal, or that of a failure where a write failed
+abbrev pub WritesLines : List ℕ → Bool → Stream → ℕ → Type 0
+WritesLines text true faults status = (status ≡ statuses.failed) × Gets text faults
+WritesLines text false faults status =
+    ((status ≡ statuses.refused) × Appends faults.before faults.behind text × NoneFailed (faults.failures ∷ []))
+    ⊎ ((status ≡ statuses.failed) × AppendsPartOf faults.before faults.behind text × OneFailed (faults.failures ∷ []))
+
 -- One read of the file failed, and none of the schema: the fault output gets the text about what was found, or the line of want of
 -- memory. The output is as it was
 pub record FailsToRead (most : ℕ) (streams : Streams) : Type 0 where
@@ -116,24 +126,30 @@ pub record EndsListing (most : ℕ) (streams : Streams) (answer : ℕ) : Type 0 
 
 -- ---- the steps of the command
 
+-- the text, and whether a read failed
+abbrev pub IsTextOf : ℕ → Option (List ℕ) → Option (List ℕ) → Option (List ℕ) → List ℕ → Bool → Type 0
+IsTextOf most schema file_old file_new text true = IsUnread most schema file_old file_new text
+IsTextOf most schema file_old file_new text false = IsListed most schema file_old file_new text
+
 -- what a survey has to say
 abbrev pub Answers : ℕ → Option (List ℕ) → Option (List ℕ) → Option (List ℕ) → Answer → Type 0
 Answers most schema file_old file_new (Accepted line) = IsChecked schema file_old file_new (string_bytes line)
-Answers most schema file_old file_new (Refused text) = IsListed most schema file_old file_new (string_bytes text)
-Answers most schema file_old file_new (Unread text) = IsUnread most schema file_old file_new (string_bytes text)
+Answers most schema file_old file_new (Refused said) = IsTextOf most schema file_old file_new (string_bytes said.lines) said.is_unread
 
--- whether a call of the reader of the file failed, by the answer
+-- one call of the reader failed, or none
+abbrev pub FailedIf : Bool → Failures → Type 0
+FailedIf true reader = OneFailed (reader ∷ [])
+FailedIf false reader = NoneFailed (reader ∷ [])
+
+-- which of the two by the answer
 abbrev pub IsReadBy : Failures → Answer → Type 0
 IsReadBy file (Accepted line) = NoneFailed (file ∷ [])
-IsReadBy file (Refused text) = NoneFailed (file ∷ [])
-IsReadBy file (Unread text) = OneFailed (file ∷ [])
+IsReadBy file (Refused said) = FailedIf said.is_unread file
 
 -- the same where memory runs out, which it may behind a read that failed
 abbrev pub IsLeftBy : Failures → Type 0
 IsLeftBy file = NoneFailed (file ∷ []) ⊎ OneFailed (file ∷ [])
 
--- the answer has the text of the refusals, by whether one of them is a read that failed
-abbrev pub Lists : Refusals → Answer → Type 0
-Lists refusals (Accepted line) = ⊥
-Lists refusals (Refused text) = (string_bytes text ≡ listed_text refusals) × (has_read_fault refusals.list.items ≡ false)
-Lists refusals (Unread text) = (string_bytes text ≡ listed_text refusals) × (has_read_fault refusals.list.items ≡ true)
+-- the lines are the text of the refusals, and say whether one of these is a read that failed
+abbrev pub Lists : Refusals → RefusedLines → Type 0
+Lists refusals said = (string_bytes said.lines ≡ listed_text refusals) × (said.is_unread ≡ has_read_fault refusals.list.items)

@@ -3,7 +3,7 @@ use Rattle.std.specs.Prelude.{ℕ, Bool, List}
 use Rattle.p21_spec_basics.specs.Limits.{usual}
 use Rattle.p21_commands.specs.Load.{DeclaresRead}
 use Rattle.p21_commands.specs.Same.{Read}
-use Rattle.p21_commands.specs.Unlisted.{AreMeant}
+use Rattle.p21_commands.specs.Unlisted.{MayAllBeMeant}
 use Rattle.p21_difference_rows.specs.Listed.{IsList}
 use Rattle.p21_difference_rows.specs.RealNames.{as_they_stand}
 use Rattle.p21_difference_rows.specs.declared.row.RowForm.{RowForm}
@@ -24,6 +24,6 @@ pub record Lists (form : RowForm) (left : LeftOut) (s : Schema) (read : Read) (s
 pub record IsDifferenceList (form : RowForm) (left : LeftOut) (read : Read) (empty : Bool) (text : List ℕ) : Type 0 where
   pub declared : Schema
   pub declares : DeclaresRead read.schema declared
-  pub meant : AreMeant declared left
+  pub meant : MayAllBeMeant declared left
   pub same : Bool
   pub lists : Lists form left declared read same empty text

@@ -4,7 +4,7 @@ use Rattle.p21_spec_basics.specs.Limits.{usual}
 use Rattle.p21_commands.specs.Load.{DeclaresRead}
 use Rattle.p21_commands.specs.Refusals.{refusal_line}
 use Rattle.p21_commands.specs.Same.{IsRefused, Read, word_of}
-use Rattle.p21_commands.specs.Unlisted.{AreMeant}
+use Rattle.p21_commands.specs.Unlisted.{MayAllBeMeant}
 use Rattle.p21_difference_rows.specs.declared.row.RowForm.{RowForm}
 use Rattle.p21_paired_differences.specs.declared.by_pairs.PairRows.{PairRows}
 use Rattle.p21_paired_differences.specs.ByPairs.{IsTooLongByPairs, ListsOfRead}
@@ -19,7 +19,7 @@ use Rattle.p21_stream_statements.specs.declared.refusal.Refusal.{Refusal}
 pub record IsListByPairs (form : RowForm) (left : LeftOut) (pairs : PairRows) (read : Read) (empty : Bool) (text : List ℕ) : Type 0 where
   pub declared : Schema
   pub declares : DeclaresRead read.schema declared
-  pub meant : AreMeant declared left
+  pub meant : MayAllBeMeant declared left
   pub same : Bool
   pub lists : ListsOfRead form left pairs declared usual read.first_old read.first_new read.second_old read.second_new same empty text
 

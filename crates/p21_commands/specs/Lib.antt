@@ -25,4 +25,5 @@ pub mod SameButForNames
 pub mod DiffByPairs
 pub mod Show
 pub mod Syntax
+pub mod SyntaxAll
 pub mod OwnTexts

@@ -9,8 +9,8 @@ use Rattle.p21_spec_differences.specs.LeftOut.{AttributeName, IsKnown, LeftOut, 
 use Rattle.p21_spec_schema.specs.Schema.{Schema}
 
 -- each attribute that is to be left out is one of the schema, or may be one of a header record
-abbrev pub AreMeant : Schema → LeftOut → Type 0
-AreMeant s left = (name : AttributeName) → Contains left.attributes name → MayBeMeant s name
+abbrev pub MayAllBeMeant : Schema → LeftOut → Type 0
+MayAllBeMeant s left = (name : AttributeName) → Contains left.attributes name → MayBeMeant s name
 
 -- an attribute that is to be left out is none of the schema that its reader declares, and no file is read
 pub record IsUnknownAttribute (left : LeftOut) (read : Read) (line : List ℕ) : Type 0 where

@@ -10,7 +10,8 @@
 //! for, since whether there are more isn't known.
 ghost use Rattle.std.specs.Prelude.{◌≡◌, ◌++◌, IfOk, List, OnErr, OnOk, Option, flat_map, string_bytes, ℕ};
 ghost use Rattle.p21_spec_basics.specs.Limits.{usual};
-ghost use Rattle.p21_commands.specs.CheckAll.{Answers, EndsListing, IsLeftBy, IsReadBy, Lists, count_line, has_read_fault, is_read, listed_count, listed_line};
+ghost use Rattle.p21_commands.specs.CheckAll.{Answers, EndsListing, IsLeftBy, IsReadBy, Lists, WritesLines, count_line, has_read_fault};
+ghost use Rattle.p21_commands.specs.CheckAll.{is_read, listed_count, listed_line};
 ghost use Rattle.p21_commands.specs.Checks.{EndsListingOf, IsOfCheck};
 ghost use Rattle.p21_commands.specs.Failures.{failures_of};
 ghost use Rattle.p21_commands.specs.Load.{DeclaresRead};
@@ -36,10 +37,16 @@ use std::io::{Read, Write};
 enum Answer {
     /// The line of a file that is accepted.
     Accepted(String),
-    /// A line for each refusal, and the line that counts them.
-    Refused(String),
-    /// The same, where a read failed.
-    Unread(String),
+    /// What is refused of one that isn't.
+    Refused(RefusedLines),
+}
+
+/// A line for each refusal of a file, and the line that counts them.
+#[derive(Drop)]
+pub(crate) struct RefusedLines {
+    pub lines: String,
+    /// Whether a read failed.
+    pub is_unread: bool,
 }
 
 /// Reads a schema and a file, and writes to `output` what `check_command` does where the file is accepted; or to `faults` a
@@ -83,12 +90,7 @@ pub(crate) fn list_refusals<R: Read, W: Write, F: Write>(
 {
     match find_answer(alloc, schema, file, most) {
         Ok(Answer::Accepted(line)) => answer(line.as_bytes(), output, faults),
-        Ok(Answer::Refused(lines)) => report(&CommandFault::Refused(lines), faults),
-        Ok(Answer::Unread(lines)) => {
-            // The status is the same where the lines can't be written.
-            let _ = write_whole(faults, lines.as_bytes());
-            FAILED
-        }
+        Ok(Answer::Refused(said)) => write_refused(said, faults),
         Err(NoMemory) => report(&CommandFault::NoMemory, faults),
     }
 }
@@ -116,22 +118,35 @@ fn find_answer<R: Read>(
             let line = answer_line_of(alloc, accepted.count(), accepted.len())?;
             Ok(Answer::Accepted(line))
         }
-        Surveyed::Refused(refusals) => Ok(lines_of(alloc, &refusals)?),
+        Surveyed::Refused(refusals) => {
+            let said = lines_of(alloc, &refusals)?;
+            Ok(Answer::Refused(said))
+        }
     }
 }
 
 /// The lines of what is refused.
-fn lines_of(alloc: Global, refusals: &Refusals) -> Result<Answer, AllocError>
+pub(crate) fn lines_of(alloc: Global, refusals: &Refusals) -> Result<RefusedLines, AllocError>
     ensures { IfOk result (Lists refusals.now) }
 {
-    let mut text = refusal_lines(alloc, &refusals.list)?;
-    let (count, unread) = count_of(&refusals.list);
-    text.push_str(&count_text(alloc, count, refusals.extent)?)?;
-    if unread {
-        Ok(Answer::Unread(text))
-    } else {
-        Ok(Answer::Refused(text))
+    let mut lines = refusal_lines(alloc, &refusals.list)?;
+    let (count, is_unread) = count_of(&refusals.list);
+    lines.push_str(&count_text(alloc, count, refusals.extent)?)?;
+    Ok(RefusedLines { lines, is_unread })
+}
+
+/// Writes the lines of what is refused.
+pub(crate) fn write_refused<F: Write>(said: RefusedLines, faults: &mut Watched<F>) -> u8
+    ensures status { IsOfCheck result }
+    ensures writes { WritesLines (string_bytes said.lines) said.is_unread (stream_of F.contents faults.old faults.new) result }
+{
+    let RefusedLines { lines, is_unread } = said;
+    if is_unread {
+        // The status is the same where the lines can't be written.
+        let _ = write_whole(faults, lines.as_bytes());
+        return FAILED;
     }
+    report(&CommandFault::Refused(lines), faults)
 }
 
 /// A line for each refusal.

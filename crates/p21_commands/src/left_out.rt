@@ -1,6 +1,6 @@
 //! Attributes that are to be left out of a list, and that the schema doesn't have.
 ghost use Rattle.std.specs.Prelude.{IfErr, OnOk};
-ghost use Rattle.p21_commands.specs.Unlisted.{AreMeant, IsRefusalOrMemory, RefusesAttribute};
+ghost use Rattle.p21_commands.specs.Unlisted.{IsRefusalOrMemory, MayAllBeMeant, RefusesAttribute};
 ghost use Rattle.p21_difference_rows.specs.Asked.{left_out_of};
 
 use crate::fault::CommandFault;
@@ -15,7 +15,7 @@ pub(crate) fn check_left_out(
     schema: &Schema,
     left_out: LeftOut<'_>,
 ) -> Result<(), CommandFault>
-    ensures ok { OnOk result (AreMeant schema.now (left_out_of left_out.entry)) }
+    ensures ok { OnOk result (MayAllBeMeant schema.now (left_out_of left_out.entry)) }
     ensures err { IfErr result (RefusesAttribute schema.now (left_out_of left_out.entry)) }
 {
     match first_unknown(schema, left_out.attributes) {

@@ -1,21 +1,20 @@
 //! What is written of a file, with where each of its refusals stands.
-ghost use Rattle.std.specs.Prelude.{◌≡◌, ◌⊎◌, ◌++◌, IfOk, List, OnOk, [], string_bytes, ℕ};
+ghost use Rattle.std.specs.Prelude.{◌≡◌, ◌⊎◌, ◌++◌, IfOk, List, OnOk, [], string_bytes, true, ℕ};
 ghost use Rattle.p21_commands.specs.CheckAll.{count_line};
 ghost use Rattle.p21_commands.specs.Checks.{IsOfCheck};
 ghost use Rattle.p21_commands.specs.Refusals.{IsFaultOf};
 ghost use Rattle.p21_commands.specs.Streams.{stream_of};
-ghost use Rattle.p21_commands.specs.Tells.{IsToldBy, TellsAccepted, TellsFound, TellsSurvey, WritesLines, WritesRefused};
+ghost use Rattle.p21_commands.specs.Tells.{IsToldBy, TellsAccepted, TellsFound, TellsSurvey, WritesRefused};
 ghost use Rattle.p21_commands.specs.declared.fault.CommandFault.{CommandFault as MeantFault};
 ghost use Rattle.p21_commands.specs.declared.telling.Form.TheVariants.{Text};
 
 use crate::answer::answer;
 use crate::check::answer_line_of;
-use crate::check_all::{count_of, count_text};
+use crate::check_all::{RefusedLines, count_of, count_text, write_refused};
 use crate::fault::{CommandFault, report};
 use crate::file_fault::fault_of;
-use crate::status::FAILED;
+use crate::listing::Listing;
 use crate::telling::{Form, Telling, push_end, push_front, push_line, survey_lines};
-use crate::transfer::write_whole;
 use p21_schema::Schema;
 use p21_stream::{Counted, Extent, Located, LocatedSurvey, Refusal, Refusals, Surveyed, Watched};
 use std::alloc::{AllocError, Global};
@@ -94,25 +93,27 @@ pub(crate) fn write_survey<W: Write, F: Write>(
             write_accepted(alloc, accepted.count(), accepted.len(), output, faults)
         }
         Surveyed::Refused(refusals) => {
-            tell_refused(alloc, schema, found, refusals, telling, faults)
+            let listing = Listing::OfSchema(schema, found);
+            tell_refused(alloc, listing, refusals, telling, true, faults)
         }
     }
 }
 
-/// Writes a line for each refusal, and one that counts them.
-fn tell_refused<F: Write>(
+/// Writes a line for each refusal, and one that counts them where `is_counted`.
+pub(crate) fn tell_refused<F: Write>(
     alloc: Global,
-    schema: &Schema,
-    found: &LocatedSurvey,
+    listing: Listing<'_>,
     refusals: &Refusals,
     telling: &Telling<'_>,
+    is_counted: bool,
     faults: &mut Watched<F>,
 ) -> u8
-    ensures { WritesRefused telling.now.form refusals.now (stream_of F.contents faults.old faults.new) result }
+    ensures status { IsOfCheck result }
+    ensures writes { WritesRefused telling.now.form is_counted refusals.now (stream_of F.contents faults.old faults.new) result }
 {
     let (count, is_unread) = count_of(&refusals.list);
-    match refused_lines(alloc, schema, found, count, refusals.extent, telling) {
-        Ok(lines) => write_refused(lines, is_unread, faults),
+    match refused_lines(alloc, listing, count, refusals.extent, telling, is_counted) {
+        Ok(lines) => write_refused(RefusedLines { lines, is_unread }, faults),
         Err(AllocError) => report(&CommandFault::NoMemory, faults),
     }
 }
@@ -135,30 +136,22 @@ pub(crate) fn write_accepted<W: Write, F: Write>(
     }
 }
 
-/// Writes the lines of refusals.
-fn write_refused<F: Write>(lines: String, is_unread: bool, faults: &mut Watched<F>) -> u8
-    ensures { WritesLines (string_bytes lines) is_unread (stream_of F.contents faults.old faults.new) result }
-{
-    if is_unread {
-        // The status is the same where the lines can't be written.
-        let _ = write_whole(faults, lines.as_bytes());
-        return FAILED;
-    }
-    report(&CommandFault::Refused(lines), faults)
-}
-
-/// A line for each refusal, and one that counts them.
+/// A line for each refusal, and one that counts them where `is_counted`.
 fn refused_lines(
     alloc: Global,
-    schema: &Schema,
-    found: &LocatedSurvey,
+    listing: Listing<'_>,
     count: u64,
     extent: Extent,
     telling: &Telling<'_>,
+    is_counted: bool,
 ) -> Result<String, AllocError>
-    ensures { telling.now.form ≡ Text → IfOk result (λ lines. (front : List ℕ) × (string_bytes lines ≡ front ++ count_line count extent)) }
+    ensures { telling.now.form ≡ Text → is_counted ≡ true
+        → IfOk result (λ lines. (front : List ℕ) × (string_bytes lines ≡ front ++ count_line count extent)) }
 {
-    let mut lines = survey_lines(alloc, schema, found, telling)?;
+    let mut lines = survey_lines(alloc, listing, telling)?;
+    if !is_counted {
+        return Ok(lines);
+    }
     push_count(alloc, count, extent, telling, &mut lines)?;
     Ok(lines)
 }

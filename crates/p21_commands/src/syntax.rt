@@ -118,7 +118,11 @@ fn read_alone<R: Read>(
 }
 
 /// What is told of a file by what was found of it.
-fn told_text(alloc: Global, found: &WellFormed, details: Details) -> Result<Vec<u8>, NoMemory>
+pub(crate) fn told_text(
+    alloc: Global,
+    found: &WellFormed,
+    details: Details,
+) -> Result<Vec<u8>, NoMemory>
     ensures { IfOk result (λ text. text.items ≡ syntax_text details found.now) }
 {
     let mut text = answer_line_of(alloc, found)?;

@@ -4,6 +4,7 @@
 //! its attribute is a name of the schema.
 
 use crate::lines::{LineStarts, Position};
+use crate::listing::Listing;
 use crate::second_reading::{Met, SecondReading};
 use crate::wanted::push_expected;
 use crate::wants::attribute_at;
@@ -11,7 +12,7 @@ use p21_express::SchemaFault;
 use p21_express_graph::Place as AttributePlace;
 use p21_express_places::SchemaPlace;
 use p21_schema::Schema;
-use p21_stream::{At, Extent, Fault, Located, LocatedSurvey, PassedOver, Place, Surveyed};
+use p21_stream::{At, Extent, Fault, Located, PassedOver, Place};
 use p21_stream_numbered::NumberingRefusal;
 use p21_values::Name;
 use std::alloc::{AllocError, Global};
@@ -57,20 +58,19 @@ struct Told<'r> {
     passed: Option<PassedOver>,
 }
 
-/// A line for each refusal of a survey, and for a read that failed.
+/// A line for each refusal of a list, and for a read that failed.
 pub(crate) fn survey_lines(
     alloc: Global,
-    schema: &Schema,
-    found: &LocatedSurvey,
+    listing: Listing<'_>,
     telling: &Telling<'_>,
 ) -> Result<String, AllocError> {
     let mut lines = String::new(alloc);
     let mut next: usize = 0;
     for number in 0..usize::MAX {
-        let Some(located) = found.located(number) else {
+        let Some(located) = listing.located(number) else {
             return Ok(lines);
         };
-        let passed = passed_over(found, number, next);
+        let passed = passed_over(listing, number, next);
         if passed.is_some() {
             next = next.saturating_add(1);
         }
@@ -79,18 +79,15 @@ pub(crate) fn survey_lines(
             met: telling.again.met(number),
             passed,
         };
-        push_told(alloc, schema, &told, telling, &mut lines)?;
+        push_told(alloc, listing.schema(), &told, telling, &mut lines)?;
     }
     Ok(lines)
 }
 
 /// The next of the statements that were passed over, if the refusal of this number is of it.
-fn passed_over(found: &LocatedSurvey, number: usize, next: usize) -> Option<PassedOver> {
-    let Surveyed::Refused(refusals) = &found.found else {
-        return None;
-    };
-    let statement = found.passed_over(next)?;
-    if statement.begins == *refusals.begins.get(number)? {
+fn passed_over(listing: Listing<'_>, number: usize, next: usize) -> Option<PassedOver> {
+    let statement = listing.passed_over(next)?;
+    if statement.begins == listing.begins(number)? {
         Some(statement)
     } else {
         None
@@ -110,13 +107,13 @@ pub(crate) fn push_line(
         met: telling.again.met(0),
         passed: None,
     };
-    push_told(alloc, schema, &told, telling, lines)
+    push_told(alloc, Some(schema), &told, telling, lines)
 }
 
 /// Appends the line of a refusal, or of a read that failed.
 fn push_told(
     alloc: Global,
-    schema: &Schema,
+    schema: Option<&Schema>,
     told: &Told<'_>,
     telling: &Telling<'_>,
     lines: &mut String,
@@ -144,7 +141,7 @@ pub(crate) fn push_front(telling: &Telling<'_>, lines: &mut String) -> Result<()
 /// Appends the line of a refusal for people.
 fn push_text(
     alloc: Global,
-    schema: &Schema,
+    schema: Option<&Schema>,
     told: &Told<'_>,
     telling: &Telling<'_>,
     lines: &mut String,
@@ -172,7 +169,7 @@ fn push_text(
 /// Appends the object of a refusal, and a line feed.
 fn push_object(
     alloc: Global,
-    schema: &Schema,
+    schema: Option<&Schema>,
     told: &Told<'_>,
     telling: &Telling<'_>,
     lines: &mut String,
@@ -367,12 +364,13 @@ fn place_of(located: &Located, met: Option<Met<'_>>) -> Option<Place> {
     }
 }
 
-/// Of what a refusal is, by its own attribute, or by what was met of it.
+/// Of what a refusal is, by its own attribute, or by what was met of it. Of nothing where there is no schema.
 fn subject_of<'s>(
-    schema: &'s Schema,
+    schema: Option<&'s Schema>,
     located: &'s Located,
     met: Option<Met<'s>>,
 ) -> Option<Subject<'s>> {
+    let schema = schema?;
     match located.attribute {
         Some(place) => subject_at(schema, place, located.indices.numbers()),
         None => subject_met(schema, met?),
@@ -429,7 +427,7 @@ pub(crate) fn subject_text(
     located: &Located,
     met: Option<Met<'_>>,
 ) -> Option<String> {
-    let subject = subject_of(schema, located, met)?;
+    let subject = subject_of(Some(schema), located, met)?;
     let mut text = String::new(alloc);
     push_subject(subject, &mut text).ok()?;
     Some(text)

@@ -1,7 +1,7 @@
 //! Readers that fail, schemas that are refused, and what is read at all.
 use crate::devices::{Behind, SmallReader};
 use crate::run::Left::{self, Failure, Refusal};
-use crate::run::{AMPLE_ROOMS, READ_FAULT, canon, check, check_all, same, show};
+use crate::run::{AMPLE_ROOMS, READ_FAULT, canon, check, check_all, same, show, syntax_all};
 use crate::schemas::{DEMO, EMPTY};
 use std::alloc::Global;
 
@@ -151,6 +151,17 @@ fn lists_before_it_fails(alloc: Global) -> bool {
     run.is(Failure("", lines))
 }
 
+/// The same with a statement that is broken.
+const BROKEN: &str =
+    "ISO-10303-21;HEADER;FILE_DESCRIPTION((''),'2;1');FILE_NAME('','',(''),(''),'','','');FILE_SCHEMA(('DEMO'));ENDSEC;DATA;#1=B(,);#2=";
+
+/// The same of a file by itself.
+fn lists_alone_before_it_fails(alloc: Global) -> bool {
+    let run = syntax_all(alloc, &mut failing(BROKEN, 100), u64::MAX, AMPLE_ROOMS);
+    let lines = "refused 20 Unexpected at statement 8\nread fault\nrefusals 1, read 127 bytes\n";
+    run.is(Failure("", lines))
+}
+
 /// The reads that gave bytes of a file that fails, and those that failed: none where something else is left.
 fn reads_under(alloc: Global, schema: &str, left: Left) -> Option<(u64, u64)> {
     let run = check(alloc, &mut schema.as_bytes(), failing_file(0), AMPLE_ROOMS);
@@ -170,6 +181,9 @@ fn first_broken(alloc: Global) -> &'static str {
     }
     if !lists_before_it_fails(alloc) {
         return "a refusal is listed behind which the reader fails";
+    }
+    if !lists_alone_before_it_fails(alloc) {
+        return "a refusal of a file by itself is listed behind which the reader fails";
     }
     let line = "schema refused S2 Syntax\n";
     if reads_under(alloc, "SCHEMA s; END_SCHEMA", Refusal(line)) != Some((0, 0)) {

@@ -4,7 +4,8 @@ use crate::schemas::File;
 use p21_commands::{
     Details, LeftOut, PairRows, RowForm, canon_command, check_all_command, check_command,
     check_numbered_command, diff_by_pairs_command, diff_command, numbered_command, param_command,
-    same_but_for_names_command, same_command, schema_command, show_command, syntax_command,
+    same_but_for_names_command, same_command, schema_command, show_command, syntax_all_command,
+    syntax_command,
 };
 use p21_stream::Watched;
 use p21_values::Name;
@@ -125,6 +126,14 @@ pub(crate) fn syntax<R: Read>(alloc: Global, file: &mut R, details: Details, roo
     let mut output = Watched::new(rooms.output(alloc));
     let mut faults = Watched::new(rooms.faults(alloc));
     let status = syntax_command(alloc, &mut file, details, &mut output, &mut faults);
+    Run::new(status, output.into_inner(), faults.into_inner())
+}
+
+pub(crate) fn syntax_all<R: Read>(alloc: Global, file: &mut R, most: u64, rooms: Rooms) -> Run {
+    let mut file = Watched::new(file);
+    let mut output = Watched::new(rooms.output(alloc));
+    let mut faults = Watched::new(rooms.faults(alloc));
+    let status = syntax_all_command(alloc, &mut file, ALL, most, &mut output, &mut faults);
     Run::new(status, output.into_inner(), faults.into_inner())
 }
 
@@ -351,6 +360,8 @@ pub(crate) enum Command {
     Param,
     /// With what is told behind the line.
     Syntax(Details),
+    /// With the most refusals that are listed. All is told behind the line.
+    SyntaxAll(u64),
     Schema,
     Check,
     /// With the most refusals that are listed.
@@ -409,6 +420,7 @@ pub(crate) fn leaves_of(
     match command {
         Command::Param => param(alloc, &mut bytes, rooms).is(left),
         Command::Syntax(details) => syntax(alloc, &mut bytes, details, rooms).is(left),
+        Command::SyntaxAll(most) => syntax_all(alloc, &mut bytes, most, rooms).is(left),
         Command::Schema => schema(alloc, &mut bytes, rooms).is(left),
         Command::Check => check(alloc, &mut reader, bytes, rooms).is(left),
         Command::CheckAll(most) => { check_all(alloc, &mut reader, bytes, most, rooms).is(left) }

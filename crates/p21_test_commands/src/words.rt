@@ -147,6 +147,24 @@ const COMMANDS: Taken = &[
         "where",
         "true",
     ),
+    (
+        &["p21", "syntax", "f", "--format", "jsonl"],
+        "syntax",
+        "format",
+        "jsonl",
+    ),
+    (
+        &["p21", "syntax", "f", "--all", "g"],
+        "syntax",
+        "all",
+        "true",
+    ),
+    (
+        &["p21", "syntax", "--most", "3", "f"],
+        "syntax",
+        "most",
+        "3",
+    ),
     (&["p21", "syntax", "f"], "syntax", "header", "false"),
     (&["p21", "syntax", "f"], "syntax", "count", "false"),
     (
@@ -357,7 +375,15 @@ const MISTAKES: NotTaken = &[
         ErrorKind::InvalidValue,
     ),
     (
-        &["p21", "syntax", "f", "--format", "jsonl"],
+        &["p21", "syntax", "f", "--format", "json"],
+        ErrorKind::InvalidValue,
+    ),
+    (
+        &["p21", "syntax", "f", "--most", "0"],
+        ErrorKind::ValueValidation,
+    ),
+    (
+        &["p21", "canon", "s", "f", "--format", "jsonl"],
         ErrorKind::UnknownArgument,
     ),
 ];
