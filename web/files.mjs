@@ -84,12 +84,13 @@ export function isPassedOver(line) {
 }
 
 /**
- * What the program says of a file: its refusals, each as an object in a line, what else it says, and with `--all` the line with the
- * count, which is null where there is no list; and how many bytes stand in front of the statement whose refusal ended the list, null
- * where none did.
+ * What the program says of a file, of one without a schema by itself: its refusals, each as an object in a line, what else it says, and
+ * with `--all` the line with the count, which is null where there is no list; and how many bytes stand in front of the statement whose
+ * refusal ended the list, null where none did.
  */
 export function toldOf(program, options, files, heard) {
-  const words = ["check", ...options, "--where", "--format", "jsonl", "--", "schema", "file"];
+  const [command, ...named] = files.schema ? ["check", "schema", "file"] : ["syntax", "file"];
+  const words = [command, ...options, "--where", "--format", "jsonl", "--", ...named];
   const { error, status } = program.run(words, files, heard);
   const lines = error.split("\n");
   let [count, read] = [null, null];
@@ -191,18 +192,22 @@ function numberOfName(bytes, statement) {
   return Number(nameOf(bytes, statement));
 }
 
-/** The reference of an instance that names none of a file, as `p21 syntax` finds it, by its start and end; null where there is none. */
-export function danglingIn(bytes, instance) {
+/**
+ * The references of these instances that name none of a file, as `p21 syntax` finds them: by the name of the instance where each begins, in
+ * their order. Of instances with one name it is the first.
+ */
+export function danglingIn(bytes, instances) {
   const names = new Set();
-  let found = null;
+  const found = new Map();
   for (const statement of statements(bytes)) {
     const name = nameOf(bytes, statement);
-    if (name !== null) names.add(name);
-    if (name === instance) found = statement;
+    if (name === null) continue;
+    if (instances.has(name) && !names.has(name)) found.set(name, statement);
+    names.add(name);
   }
-  const words = found ? lexemes(textOf(bytes.subarray(found.start, found.end))).slice(2) : [];
-  const word = words.find(({ text }) => text.startsWith("#") && !names.has(plainName(text.slice(1))));
-  return word ? { start: found.start + word.start, end: found.start + word.end } : null;
+  const isDangling = ({ text }) => text.startsWith("#") && !names.has(plainName(text.slice(1)));
+  const startsIn = ({ start, end }) => lexemes(textOf(bytes.subarray(start, end))).slice(2).filter(isDangling).map((word) => start + word.start);
+  return new Map([...found].map(([name, statement]) => [name, startsIn(statement)]));
 }
 
 /** The digits of a name without zeros in front. */

@@ -39,7 +39,7 @@ from p21._places import RefusalPlace
 from p21._schema import Schema
 from p21._session import Accepted, Report, Session, accept
 from p21._source import Buffer, Source
-from p21._survey import Survey, survey
+from p21._survey import Survey, survey, syntax_survey
 from p21._syntax import Syntax, syntax
 from p21._where import Place, where
 
@@ -83,6 +83,7 @@ __all__ = [
     "same_but_for_names",
     "survey",
     "syntax",
+    "syntax_survey",
     "version",
     "where",
 ]

@@ -78,6 +78,27 @@ def no_answer(said: str, status: int) -> Exception:
     return OSError(f"p21: the program gave no answer: {'; '.join(filter(None, (said.strip(), ended)))}")
 
 
+def _path_of(source: Source, folder: str) -> str:
+    """A file as a path. What is no path is written to a file in this folder."""
+    if is_path(source):
+        # A path that can't be read is an OSError, as in every other call.
+        with open(cast(Path, source), "rb"):
+            pass
+        return os.fspath(cast(Path, source))
+    path = os.path.join(folder, "file.step")
+    with open(path, "wb") as file:
+        for piece in pieces(source):
+            file.write(memoryview(piece))  # type: ignore[arg-type]
+    return path
+
+
+@contextlib.contextmanager
+def as_path(source: Source) -> Iterator[str]:
+    """A file as a path. What is no path is written to a file for the time of a ``with``."""
+    with tempfile.TemporaryDirectory(prefix="p21-") as folder:
+        yield _path_of(source, folder)
+
+
 @contextlib.contextmanager
 def as_paths(schema: SchemaOrPath, source: Source) -> Iterator[Tuple[str, str]]:
     """The text of a schema and a file as paths. What is no path is written to a file for the time of a ``with``."""
@@ -85,14 +106,4 @@ def as_paths(schema: SchemaOrPath, source: Source) -> Iterator[Tuple[str, str]]:
         schema_path = os.path.join(folder, "schema.exp")
         with open(schema_path, "wb") as file:
             file.write(schema_of(schema).text)
-        if is_path(source):
-            # A path that can't be read is an OSError, as in every other call.
-            with open(cast(Path, source), "rb"):
-                pass
-            yield schema_path, os.fspath(cast(Path, source))
-            return
-        path = os.path.join(folder, "file.step")
-        with open(path, "wb") as file:
-            for piece in pieces(source):
-                file.write(memoryview(piece))  # type: ignore[arg-type]
-        yield schema_path, path
+        yield schema_path, _path_of(source, folder)

@@ -572,7 +572,7 @@ def test_help(program):
     assert tried >= 30
     documented = [name for name in p21.__all__ if ">>>" in (getattr(p21, name).__doc__ or "")]
     answers = {"Report", "Hash", "Differences", "Place", "Survey", "Syntax", "Aggregate", "Attribute", "Bits", "DERIVED", "Entity", "EntityAttribute", "Typed", "Use"}
-    assert set(p21.__all__) - set(documented) <= {"Buffer", "Source", "survey", "accept", "frame", *answers}
+    assert set(p21.__all__) - set(documented) <= {"Buffer", "Source", "survey", "syntax_survey", "accept", "frame", *answers}
 
 
 # --- What the tools answer ---
@@ -671,6 +671,27 @@ def test_a_survey_that_goes_on(program):
     found = p21.survey(schema, text.replace(b"DATA;", b"DATA"))
     assert [it.number for it in found.refusals] == [p21.RefusalNumber.UNEXPECTED] and not found.is_whole
     assert found.read == text.index(b"DATA;")
+
+
+def test_a_survey_of_a_file_by_itself(program):
+    text = many_points(5).replace(b"#2=POINT(2.5,", b"#2=point(2.5,").replace(b"#3=POINT(3.5,", b"#3=POINT(;").replace(b"#5=", b"#4=")
+    assert p21.syntax_survey(PRODUCT) == p21.Survey([], True)
+    assert p21.syntax_survey(many_points(5)) == p21.Survey([], True)
+    found = p21.syntax_survey(text)
+    assert [str(it) for it in found.refusals] == ["refused 1 BadByte at statement 9", "refused 20 Unexpected at statement 10", "refused 40 DuplicateName in #4"]
+    assert found.is_whole and found.read is None
+    assert found.refusals[0].place == (text.index(b"point"), 3, 4, None, None, ())
+    assert found.refusals[1].place == (text.index(b"(;") + 1, 4, 10, None, None, ())
+    assert found.refusals[2].place.byte == text.rindex(b"#4=")
+    found = p21.syntax_survey(text, most=2)
+    assert len(found) == 2 and not found.is_whole and found.read is None
+    found = p21.syntax_survey(text.replace(b"DATA;", b"DATA"))
+    assert [it.number for it in found.refusals] == [p21.RefusalNumber.UNEXPECTED] and not found.is_whole
+    # A reference has no place.
+    dangling = p21.syntax_survey(EXAMPLES / "refused" / "Dangling.step").refusals
+    assert [it.number for it in dangling] == [p21.RefusalNumber.DANGLING] and dangling[0].place is None
+    with pytest.raises(FileNotFoundError):
+        p21.syntax_survey(EXAMPLES / "none.step")
 
 
 def test_the_program_by_its_module(program):
