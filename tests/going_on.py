@@ -1,10 +1,11 @@
 #!/usr/bin/env python3
-"""What `p21 check --all` lists of files with broken statements, behind which the reading goes on.
+"""What `p21 check --all` and `p21 syntax --all` list of files with broken statements, behind which the reading goes on.
 
 First come files by hand, each with the list that it has and the place of each refusal; each read of theirs fails in turn too. Then files as
 careless exporters write them, each with one habit at several places: each place is listed, and nothing else. Last come files that are made
 by chance, with two or more broken statements, which are read whole and in pieces, against the plain reading in tests/plain. The first
 refusal of each list is the one that `p21 check` answers, with the same place; so it is of the file of each refusal in docs/FAULTS.md.
+What each of these files says by itself, without a schema, is listed as the plain reading lists it, and first what `p21 syntax` answers.
 
 In a text `~20~` says that a refusal of this number stands at the byte behind the mark, and `~|~` that the statement begins there whose
 refusal ends the list; the marks are taken out again. The environment variable P21 names the program.
@@ -115,6 +116,18 @@ class Files:
             found = self.rigged.failing(["check", "--all", SCHEMA, FILE], READ_MOST=size)[0]
             self.tally.check(f"{name}, by {size} bytes", found, answer)
         self.tally.check(f"{name}, the first", self.rigged.answer(["check", SCHEMA, FILE]), refused(lines[0]))
+        self.alone(name, text, sizes)
+
+    def alone(self, name, text, sizes=(), most=None):
+        """The list of the file that was written last by itself, whole and in pieces. Its first line is the answer of `syntax`."""
+        output, error, status = commands.syntax_all(text, most)
+        wanted = Answer(status, output.encode(), error.encode())
+        words = ["syntax", "--all", *(["--most", str(most)] if most else []), FILE]
+        self.tally.check(f"{name}, by itself", self.rigged.answer(words), wanted)
+        for size in sizes:
+            self.tally.check(f"{name}, by itself by {size} bytes", self.rigged.failing(words, READ_MOST=size)[0], wanted)
+        first = wanted._replace(error=b"".join(wanted.error.splitlines(True)[:1]))
+        self.tally.check(f"{name}, the first by itself", self.rigged.answer(["syntax", FILE]), first)
 
     def most(self, name, lines):
         """The first refusals of each number of the file that was written last."""
@@ -132,6 +145,13 @@ class Files:
         self.tally.check(f"{name}, places", places_told(objects), sorted(places))
         self.passed_over(name, text, objects)
         self.first_place(name, objects[:1])
+
+    def places_alone(self, name, places, end):
+        """By itself, where bytes, tokens and grammar alone are judged, the refusals of the file that was written last have these places."""
+        found = self.rigged.answer(["syntax", "--all", "--format", "jsonl", FILE])
+        objects = [json.loads(line) for line in found.error.splitlines()]
+        self.tally.check(f"{name}, places by itself", places_told(objects), sorted(places))
+        self.tally.check(f"{name}, the end by itself", objects[-1].get("read"), end)
 
     def first_place(self, name, objects):
         """The first refusal stands where `check` says, at the same value. The entity of a part isn't found where a statement in a string in
@@ -171,6 +191,10 @@ def try_failing_reads(files):
             found = files.rigged.failing(words, READ_MOST=FEW, READ_FAILS=before + read + 1)[0]
             found = found._replace(error=found.error.partition(b"note: ")[0])
             files.tally.check(f"{name}, a read fails behind {read}", found, Answer(status, output.encode(), error.encode()))
+            output, error, status = commands.syntax_all(text[: read * FEW], None, True)
+            found = files.rigged.failing(["syntax", "--all", FILE], READ_MOST=FEW, READ_FAILS=read + 1)[0]
+            found = found._replace(error=found.error.partition(b"note: ")[0])
+            files.tally.check(f"{name}, a read fails by itself behind {read}", found, Answer(status, output.encode(), error.encode()))
     files.tally.part("rows by hand, whose reads fail")
 
 
@@ -186,6 +210,7 @@ def try_habits(files):
         files.tally.check(f"{name}, the end", objects[-1].get("read"), end)
         files.passed_over(name, text, objects)
         files.first_place(name, objects[:1])
+        files.places_alone(name, places, end)
         plain = commands.check_all(files.rigged.folder.joinpath(SCHEMA).read_bytes(), text)
         files.check(name, text, plain[1].splitlines(), sizes=(1, 100))
         count, places_of_all = count + 1, places_of_all + len(places)
@@ -272,8 +297,10 @@ def try_made(files, given):
         words = ["check", "--all", *options, SCHEMA, FILE]
         name = f"made file {number} of seed {given.seed}"
         files.tally.check(name, files.rigged.answer(words), wanted)
-        for size in chance.sample(SIZES, 2):
+        sizes = chance.sample(SIZES, 2)
+        for size in sizes:
             files.tally.check(f"{name}, by {size} bytes", files.rigged.failing(words, READ_MOST=size)[0], wanted)
+        files.alone(name, text, sizes, *map(int, options[1:]))
         objects = files.objects(*options)
         if not options:
             files.passed_over(name, text, objects)

@@ -160,6 +160,24 @@ EXPECTED = [
     ("MARK", "#1=POINT($,1.,1.)#p", None),
 ]
 
+# Instances of a file by itself, and what is listed of it. The refusals of statements stand at the marks, one behind the other; references
+# have no place.
+LISTS_ALONE = [
+    ("a name that stands twice", "#1=A();\n«#1»=A();", ["40 DuplicateName in #1"]),
+    ("a name that stands thrice", "#1=A();\n /**/ «#1»=A(); «#01»/**/=B();", ["40 DuplicateName in #1", "40 DuplicateName in #1"]),
+    ("references", "#1=A(#7,#8);\n#7=B((#9));", ["56 Dangling in #1", "56 Dangling in #7"]),
+    (
+        "a name and references",
+        "#1=A(#8);\n«#1»=A(#9);\n#2=B(#9,#8);",
+        ["40 DuplicateName in #1", "56 Dangling in #1", "56 Dangling in #2", "56 Dangling in #2"],
+    ),
+    (
+        "broken statements, with which no reference is told",
+        "#1=A(#8);\n#2=A(«,»1);\n#3=«b»();\n«#1»=A('');\n#4=A(1«;»\n#5=B(1);",
+        ["20 Unexpected at statement 9", "1 BadByte at statement 10", "40 DuplicateName in #1", "20 Unexpected at statement 12"],
+    ),
+]
+
 # Texts of docs/FAULTS.md that are refused alike without a schema; the last one has no place then.
 ALONE = {1, 2, 3, 4, 5, 6, 7, 8, 9, 10, 11, 20, 21, 24, 25, 26, 30, 32, 33, 40, 56}
 
@@ -214,15 +232,18 @@ def many(times):
         yield None, f"#{by}=POINT($,1.,1.);  #{by + 1}=POINT($,1.,1.);"
 
 
-def listed(folder, text, *words):
-    """The lines on the fault output of a file that is checked so."""
+def said(folder, text, *words):
+    """The lines on the fault output of a command over a file."""
     path = folder / "listed.step"
     path.write_bytes(text.encode())
-    ended = subprocess.run(
-        [PROGRAM, "check", *words, DEMO, str(path)], capture_output=True, check=False, cwd=ROOT
-    )
+    ended = subprocess.run([PROGRAM, *words, str(path)], capture_output=True, check=False, cwd=ROOT)
     assert ended.returncode == 1, (words, ended.stderr[:500])
     return ended.stderr.decode().replace(str(path), "FILE").splitlines()
+
+
+def listed(folder, text, *words):
+    """Those of a file that is checked so."""
+    return said(folder, text, "check", *words, DEMO)
 
 
 def text_of(groups):
@@ -303,6 +324,55 @@ def of_files_alone(folder):
                 yield f"{title}: {alone} by itself, and not {wanted}"
 
 
+def with_places(lines, places, name=""):
+    """The lines of a list with places, with the name of the file in front of those that have none."""
+    left = iter(places)
+    for line in lines:
+        yield f"{name}refused {line}" if line.startswith("56 ") else f"FILE:{next(left)}: {line}"
+
+
+def objects_told(lines, text):
+    """What the objects of a list say: each as its line, and its place by its byte, which its line and column have to be."""
+    data = text.encode()
+    for row in map(json.loads, lines):
+        where = f"in #{row['instance']}" if "instance" in row else f"at statement {row['statement']}"
+        place = None
+        if "byte" in row:
+            front = data[: row["byte"]]
+            place = f"{front.count(10) + 1}:{len(front) - front.rfind(10)}"
+        known = {"file", "number", "name", "instance", "statement", "byte", "line", "column", "passed", "expected"}
+        own = f"{row['line']}:{row['column']}" if place else None
+        yield f"{row['number']} {row['name']} {where}", place, own == place and row["file"] == "FILE" and known.issuperset(row)
+
+
+def of_lists_alone(folder):
+    """What is wrong with the lists of files by themselves with places: of one file, of two, as JSON, and their first refusals."""
+    for name, group, lines in LISTS_ALONE:
+        text, places = text_of([group])
+        wanted = [*with_places(lines, places), f"refusals {len(lines)}"]
+        found = said(folder, text, "syntax", "--all", "--where")
+        if found != wanted:
+            yield f"{name}: {found}, and not {wanted}"
+        found = said(folder, text, "syntax", "--most", "1", "--where")
+        if found != [wanted[0], "refusals 1, no more were looked for"]:
+            yield f"{name}: {found}, and not {wanted[:1]}"
+        wanted = [*with_places(lines, places, "FILE: "), f"FILE: refusals {len(lines)}"]
+        found = said(folder, text, "syntax", "--all", "--where", "examples/product.step")
+        if found != wanted:
+            yield f"{name} beside another file: {found}, and not {wanted}"
+        left = iter(places)
+        of_each = [(line, None if line.startswith("56 ") else next(left), True) for line in lines]
+        for more in (), ("--where",):
+            *rows_found, last = said(folder, text, "syntax", "--all", "--format", "jsonl", *more)
+            if list(objects_told(rows_found, text)) != of_each:
+                yield f"{name}: {rows_found}, and not {of_each}"
+            if json.loads(last) != {"refusals": len(lines), "extent": "whole"}:
+                yield f"{name}: {last}"
+            first = said(folder, text, "syntax", "--format", "jsonl", *more)
+            if list(objects_told(first, text)) != of_each[:1]:
+                yield f"{name}: {first}, and not {of_each[0]} alone"
+
+
 def of_standard_input():
     """What is wrong with the answers about standard input, which comes in pieces, and isn't read a second time."""
     for instance, second in [
@@ -326,10 +396,11 @@ def of_tokens(folder):
     for front, behind, wanted in EXPECTED:
         text = file_of("MARK", [("PRODUCT_MODEL", "DEMO")])
         assert text.count(front) == 1, front
-        for words in (), ("--all",):
-            [first, *_] = listed(folder, text.replace(front, behind), *words, "--format", "jsonl")
+        for words in ("check",), ("check", "--all"), ("syntax",), ("syntax", "--all"):
+            schema = [DEMO] if words[0] == "check" else []
+            [first, *_] = said(folder, text.replace(front, behind), *words, "--format", "jsonl", *schema)
             if json.loads(first).get("expected") != wanted:
-                yield f"{behind} in place of {front}: {first}, and not {wanted}"
+                yield f"{words}, {behind} in place of {front}: {first}, and not {wanted}"
 
 
 def main():
@@ -356,11 +427,11 @@ def main():
             if attribute != wanted:
                 print(f"{instance}: {attribute}, and not {wanted}", file=sys.stderr)
                 failed += 1
-        for wrong in [*of_list(folder), *of_single_runs(folder), *of_files_alone(folder), *of_standard_input(), *of_tokens(folder)]:
+        for wrong in [*of_list(folder), *of_single_runs(folder), *of_files_alone(folder), *of_lists_alone(folder), *of_standard_input(), *of_tokens(folder)]:
             print(wrong, file=sys.stderr)
             failed += 1
             count += 1
-        count += 5
+        count += 6
     print(f"{count - failed} passed, {failed} failed")
     return 1 if failed else 0
 

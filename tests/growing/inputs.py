@@ -795,6 +795,26 @@ def one_broken_statement_of_many_lines(n, folder):
     return listed(folder, ["#0=point(\n", *("#%d,\n" % k for k in range(n)), "1.);\n"])
 
 
+def listed_alone(folder, pieces):
+    return ["syntax", "--all", data(folder, pieces)]
+
+
+def broken_statements_alone(n, folder):
+    return listed_alone(folder, ("#%d=point($,1.,1.);\n" % k for k in range(n)))
+
+
+def remarks_without_ends_alone(n, folder):
+    return listed_alone(folder, ("#%d=POINT($,1.,1.); /* a\n" % k for k in range(n)))
+
+
+def names_given_twice_alone(n, folder):
+    return listed_alone(folder, (POINT % (1 + k // 2) for k in range(n)))
+
+
+def references_alone(n, folder):
+    return listed_alone(folder, ("#%d=CLOUD((#%d),(),(TALLY(1)));\n" % (k, n + k) for k in range(1, n + 1)))
+
+
 def few_listed_of_many(n, folder):
     return ["check", "--most", "5", str(DEMO), data(folder, [*(POINT % k for k in range(n)), *("#%d=POINT($);\n" % k for k in range(n, n + 10))])]
 

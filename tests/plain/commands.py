@@ -6,7 +6,7 @@ from .limits import USUAL
 from .numbering import Alike, numbered
 from .refusal import Refused, RefusedFile, RefusedSchema
 from .schema import read_schema
-from .survey import survey_file
+from .survey import survey_alone, survey_file
 from .syntax import header_lines, keyword_lines, read_alone
 from .tokens import canonical_param
 
@@ -48,10 +48,21 @@ def syntax(file, limits=USUAL, header=False, count=False):
         alone = read_alone(file, limits)
     except RefusedFile as refusal:
         return refused(refusal)
+    return well_formed(alone, header, count)
+
+
+def well_formed(alone, header=False, count=False):
+    """What is told of a file that is well formed by itself."""
     lines = [f"well formed, instances {len(alone.names)}, schema {alone.schema}"]
     lines += header_lines(alone.header) if header else []
     lines += keyword_lines(alone.keywords) if count else []
     return answered(*lines)
+
+
+def syntax_all(file, most=None, fails=False):
+    """The same; or a line for each refusal, and their count. Where a read fails, it does so behind these bytes, and isn't counted."""
+    refusals, behind, alone = survey_alone(file, most, fails)
+    return listed(refusals, behind) if refusals else well_formed(alone)
 
 
 def syntax_told(file):
@@ -90,8 +101,11 @@ def check_names(found, file):
 def check_all(found, file, most=None, fails=False):
     """The same; or a line for each refusal, and their count. Where a read fails, it does so behind these bytes, and isn't counted."""
     refusals, behind, meaning = survey_file(found, file, most, fails)
-    if not refusals:
-        return accepted(found, meaning)
+    return listed(refusals, behind) if refusals else accepted(found, meaning)
+
+
+def listed(refusals, behind):
+    """A line for each refusal, and their count."""
     count = sum(isinstance(refusal, RefusedFile) for refusal in refusals)
     output, error, status = refused("\n".join([*map(str, refusals), f"refusals {count}{behind}"]))
     return output, error, status if count == len(refusals) else 3

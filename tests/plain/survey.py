@@ -11,6 +11,7 @@ from .grammar import Instance, Parser
 from .limits import USUAL
 from .records import is_served
 from .refusal import ReadFault, Refused, RefusedFile
+from .syntax import Alone
 from .tokens import SEPARATORS, Front, Token, separators, token
 
 # The refusals of bytes, tokens and the grammar behind which the reading goes on.
@@ -238,9 +239,49 @@ class Survey(Reading):
         return None
 
 
+class SurveyAlone(Survey):
+    """The same of a file by itself: an instance is refused for its name alone, and a reference where no instance has its name."""
+
+    def __init__(self, most, fails=False, limits=USUAL):
+        super().__init__(None, most, fails, limits)
+        self.alone = Alone()
+
+    def within(self, text):
+        """Canonical lines may be of any length."""
+
+    def header_record(self, part):
+        """FILE_SCHEMA begins with the name of the schema."""
+        self.alone.header_record(part)
+
+    def named_section(self, section):
+        """A data section with a name is open, which names the schema."""
+        self.alone.section(section)
+        self.is_in_data = self.is_named = True
+
+    def instance(self, statement):
+        """An instance, whatever its record says."""
+        self.alone.instance(statement)
+
+    def references(self):
+        """Lists the references to names that no instance has, where no bytes were passed over."""
+        for holder, target in self.alone.references:
+            if target not in self.alone.names and not self.stretches:
+                self.refusals.append(RefusedFile(Refused(56), f"in #{holder}"))
+            if len(self.refusals) == self.most:
+                return NO_MORE
+        return ""
+
+
 def survey_file(schema, data, most, fails=False):
     """The refusals of a file under a schema, what is said behind their count, and its meaning without what is refused. Where a read fails,
     it does so behind these bytes."""
     survey = Survey(schema, most, fails)
     behind = survey.read(data)
     return survey.refusals, behind, survey.meaning
+
+
+def survey_alone(data, most, fails=False):
+    """The refusals of a file by itself, what is said behind their count, and what it says of itself without what is refused."""
+    survey = SurveyAlone(most, fails)
+    behind = survey.read(data)
+    return survey.refusals, behind, survey.alone
