@@ -281,33 +281,17 @@ ALONE = (
 )
 
 
-# Files by themselves in which more than one thing is refused, with the line and the column of each refusal: by hand. A reference has its
-# place too, whether its target comes in front or behind, is written with zeros, or stands in a string.
-MANY_ALONE = (
-    ("#1=A('#9');\n#2=B(#3,#7,(#01,#8));\n#3=C(#7);", [("56 Dangling in #2", 3, 9), ("56 Dangling in #2", 3, 17), ("56 Dangling in #3", 4, 6)]),
-    ("#1=A();\n#1=B(#9);\n#2=C(#1,#5);", [("40 DuplicateName in #1", 3, 1), ("56 Dangling in #2", 4, 9)]),
-    ("#1=A(nan);\n#2=B(#9);\n#3=C(1,5);\n#4=D(1.E);\n#5=E();", [("1 BadByte at statement 8", 2, 6), ("7 BadNumber at statement 11", 5, 9)]),
-    ("#1=A((1.);\n#2=b();\n#3=C();", [("20 Unexpected at statement 8", 2, 10), ("1 BadByte at statement 9", 3, 4)]),
-)
-FRONT_ALONE = "ISO-10303-21;HEADER;FILE_DESCRIPTION((''),'2;1');FILE_NAME('','',(''),(''),'','','');FILE_SCHEMA(('S'));ENDSEC;DATA;\n"
-
-
 def alone(tests, node):
     """What files say by themselves: the line is that of `p21 syntax`, and where one is refused is where p21-where says it of a file that
-    is refused for the same reason under a schema. Of one in which more is refused each refusal has its place."""
+    is refused for the same reason under a schema."""
     paths = [tests.make(f"alone{number}.step", text) for number, (text, *_) in enumerate(ALONE)]
-    many = [tests.make(f"many{number}.step", f"{FRONT_ALONE}{text}\nENDSEC;END-ISO-10303-21;\n") for number, (text, _) in enumerate(MANY_ALONE)]
     examples = sorted(str(path) for path in pathlib.Path("examples").rglob("*.step"))
-    given = [*paths, *many, *examples]
+    given = [*paths, *examples]
     command = [*node, "tests/web/alone.mjs", str(making.MODULE)]
     done = subprocess.run(command, input=json.dumps(given), capture_output=True, text=True, check=True)
     found = json.loads(done.stdout)
     for (_, header, keywords), said in zip(ALONE, found):
         tests.judge("the header, and what a file holds", (header, keywords), (said.get("header"), said.get("keywords")))
-    for path, (_, wanted), said in zip(many, MANY_ALONE, found[len(ALONE) :]):
-        lines = [[f"refused {about}", f"{path}:{line}:{column}"] for about, line, column in wanted]
-        tests.judge(f"where all is refused of {path}", lines, [report[:2] for report in said["reports"]])
-        tests.judge(f"where {path} is refused first", lines[0], said["lines"][:2])
     same = 0
     for path, said in zip(given, found, strict=True):
         line = subprocess.run([tests.program, "syntax", path], capture_output=True, text=True, check=False)

@@ -84,13 +84,12 @@ export function isPassedOver(line) {
 }
 
 /**
- * What the program says of a file, of one without a schema by itself: its refusals, each as an object in a line, what else it says, and
- * with `--all` the line with the count, which is null where there is no list; and how many bytes stand in front of the statement whose
- * refusal ended the list, null where none did.
+ * What the program says of a file: its refusals, each as an object in a line, what else it says, and with `--all` the line with the
+ * count, which is null where there is no list; and how many bytes stand in front of the statement whose refusal ended the list, null
+ * where none did.
  */
 export function toldOf(program, options, files, heard) {
-  const [command, ...named] = files.schema ? ["check", "schema", "file"] : ["syntax", "file"];
-  const words = [command, ...options, "--where", "--format", "jsonl", "--", ...named];
+  const words = ["check", ...options, "--where", "--format", "jsonl", "--", "schema", "file"];
   const { error, status } = program.run(words, files, heard);
   const lines = error.split("\n");
   let [count, read] = [null, null];
@@ -192,22 +191,18 @@ function numberOfName(bytes, statement) {
   return Number(nameOf(bytes, statement));
 }
 
-/**
- * The references of these instances that name none of a file, as `p21 syntax` finds them: by the name of the instance where each begins, in
- * their order. Of instances with one name it is the first.
- */
-export function danglingIn(bytes, instances) {
+/** The reference of an instance that names none of a file, as `p21 syntax` finds it, by its start and end; null where there is none. */
+export function danglingIn(bytes, instance) {
   const names = new Set();
-  const found = new Map();
+  let found = null;
   for (const statement of statements(bytes)) {
     const name = nameOf(bytes, statement);
-    if (name === null) continue;
-    if (instances.has(name) && !names.has(name)) found.set(name, statement);
-    names.add(name);
+    if (name !== null) names.add(name);
+    if (name === instance) found = statement;
   }
-  const isDangling = ({ text }) => text.startsWith("#") && !names.has(plainName(text.slice(1)));
-  const startsIn = ({ start, end }) => lexemes(textOf(bytes.subarray(start, end))).slice(2).filter(isDangling).map((word) => start + word.start);
-  return new Map([...found].map(([name, statement]) => [name, startsIn(statement)]));
+  const words = found ? lexemes(textOf(bytes.subarray(found.start, found.end))).slice(2) : [];
+  const word = words.find(({ text }) => text.startsWith("#") && !names.has(plainName(text.slice(1))));
+  return word ? { start: found.start + word.start, end: found.start + word.end } : null;
 }
 
 /** The digits of a name without zeros in front. */

@@ -5,16 +5,17 @@
 // under the same names, and `tests/page_module.py` and `tests/page.py` compare what both print, over the texts that the
 // tools themselves are tested by. What a refusal means comes from the program (`faults`).
 //
-// A file that is refused is read a second time, by `check --all --where --format jsonl`, and without a schema by `syntax` so, which lists
-// its refusals with their places; only who has a refused file waits for that. What is said of them in 0.3 seconds comes with the
-// answer, and the rest while it is read; of refusals behind the first 2,000 the page has the lines alone. Where a reference of a file
-// without a schema stands, the program doesn't tell: it is looked for here.
+// A file that is refused is read a second time, by `check --all --where --format jsonl`, which lists its refusals with their places;
+// only who has a refused file waits for that. What is said of them in 0.3 seconds comes with the answer, and the rest while it is
+// read; of refusals behind the first 2,000 the page has the lines alone. A file without a schema is read so by a schema of its name
+// without entities, by which each instance is refused besides.
 
 import { GivenFile, RefusedFile, danglingIn, isPassedOver, refusalOf, toldOf } from "./files.mjs";
 import { SCHEMA_TEXT, STEP_FILE } from "./kinds.mjs";
 import { Text } from "./program.mjs";
-import { Lines, clean, shortened, shown, textOf } from "./reading.mjs";
+import { Lines, bytesOf, clean, shortened, shown, textOf } from "./reading.mjs";
 import { RefusedSchema, numberOf } from "./schemas.mjs";
+import { nameIn } from "./shelf.mjs";
 
 // What a text is that begins so, and what to do with it.
 const LOOKS = [
@@ -129,31 +130,31 @@ export function whereInFile(program, schema, named, bytes) {
   return report;
 }
 
-/** What there is to say of the first refusal of a file by itself. */
-export function whereAlone(program, bytes) {
-  const { refusals } = toldOf(program, [], { file: new Text(bytes) });
-  const [report] = whereAll(new GivenFile(null, "", bytes), refusals.slice(0, 1));
-  return report;
+/** What there is to say of a file that is refused by this line where it is read by itself. */
+export function whereAlone(program, bytes, line) {
+  const file = new Text(bytes);
+  const schema = new Text(bytesOf(`SCHEMA ${nameIn(file) ?? "none"}; END_SCHEMA;`));
+  const { refusals } = toldOf(program, ["--all"], { schema, file });
+  const given = new GivenFile(null, "", bytes);
+  const told = refusals.map(refusalOf).find(({ answer }) => answer === line) ?? withDangling(line, given);
+  if (!told) return null;
+  const refused = new RefusedFile(given, told);
+  given.lookFor(refused.names());
+  return whereRefused(refused);
 }
 
-/** What the program tells of references of a file by itself that name no instance, with where they stand, which it doesn't tell. */
-function withDangling(given, refusals) {
-  const isDangling = ({ number, byte }) => number === 56 && byte === undefined;
-  const dangling = given.isAlone ? refusals.filter(isDangling) : [];
-  if (dangling.length === 0) return refusals;
-  const places = danglingIn(given.bytes, new Set(dangling.map(({ instance }) => instance)));
-  return refusals.map((told) => {
-    const byte = isDangling(told) ? places.get(told.instance)?.shift() : undefined;
-    return byte === undefined ? told : { ...told, byte, ...given.lines.place(byte) };
-  });
+/** The refusal of a reference to nothing, which `check` doesn't list of an instance that is refused besides. */
+function withDangling(line, given) {
+  const [, instance] = /^refused 56 \w+ in #(\d+)$/.exec(line) ?? [];
+  const found = instance ? danglingIn(given.bytes, instance) : null;
+  return found && { number: 56, instance, statement: null, byte: found.start, ...given.lines.place(found.start), answer: line };
 }
 
 /** What there is to say of each refusal of a file, of which these are the lines that the program tells. */
 export function* whereAll(given, lines) {
   given.passOver(lines.filter(isPassedOver));
   for (let start = 0; start < lines.length; start += PLACED_AT_ONCE) {
-    const told = withDangling(given, lines.slice(start, start + PLACED_AT_ONCE).map(refusalOf));
-    const refusals = told.map((each) => new RefusedFile(given, each));
+    const refusals = lines.slice(start, start + PLACED_AT_ONCE).map((line) => new RefusedFile(given, refusalOf(line)));
     given.lookFor(refusals.flatMap((refused) => refused.names()));
     for (const refused of refusals) yield whereIfTold(refused);
   }

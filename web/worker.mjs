@@ -240,7 +240,7 @@ class Job {
     return { ...this.refused(name, files, error, heard), ...said, file, otherKind };
   }
 
-  /** What the program says of a file by itself, without a schema, its header and what it holds, or all that is refused of it. */
+  /** What the program says of a file by itself, without a schema, its header and what it holds, or where it is refused. */
   ofFileAlone({ name, unpackedBy, text: file }) {
     const heard = (_, done) => this.heard(name, done, file.size);
     const { line, status, instances, schema } = syntaxOf(this.program, file, heard);
@@ -250,9 +250,9 @@ class Job {
       const header = placed(() => headerOf(this.program, file)) ?? [];
       return { isAlone: true, accepted: true, name, line, from, names: schema, header, keywords };
     }
-    const said = { isAlone: true, from, otherKind: otherKindOf(textOf(file.piece(0, LOOKED_AT))) };
-    if (status !== 1) return { ...notAccepted(name, status, [withLines(withoutPlace(line), name)]), ...said };
-    return { ...this.refused(name, { file }, line, heard), ...said, file };
+    const report = (status === 1 && placed(() => whereAlone(this.program, file.bytes, line))) || withoutPlace(line);
+    const otherKind = otherKindOf(textOf(file.piece(0, LOOKED_AT)));
+    return { ...notAccepted(name, status, [withLines(report, name)]), isAlone: true, from, otherKind };
   }
 
   accepted(name, canonical) {
@@ -302,10 +302,9 @@ class Job {
   }
 
   /** The reports of a file's refusals, one after the other. */
-  reports({ isAlone, served, told, file, isAll }) {
-    const { bytes } = file;
-    if (isAll) return whereAll(isAlone ? new GivenFile(null, "", bytes) : new GivenFile(served.text, served.name, bytes), told);
-    return [isAlone ? whereAlone(this.program, bytes) : whereInFile(this.program, served.text, served.name, bytes)].values();
+  reports({ served, told, file, isAll }) {
+    if (!isAll) return [whereInFile(this.program, served.text, served.name, file.bytes)].values();
+    return whereAll(new GivenFile(served.text, served.name, file.bytes), told);
   }
 
   // Differences
